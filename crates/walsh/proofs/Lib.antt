@@ -1,0 +1,6 @@
+pub mod Lists
+pub mod Listing
+pub mod Complete
+pub mod Ends
+pub mod Steps
+pub mod Gray
