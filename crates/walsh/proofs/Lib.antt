@@ -1,5 +1,6 @@
 pub mod Lists
 pub mod Listing
+pub mod Peel
 pub mod Complete
 pub mod Ends
 pub mod Steps
