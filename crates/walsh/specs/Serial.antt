@@ -4,6 +4,7 @@ use mathlib.Core.List.{List, [], _∷_}
 use Prim.Native.Nat.{ℕ, suc, _-_}
 use lib.Dec.{eqb}
 use lib.ListN.{getD}
+use Rattle.walsh.specs.Tests.{both}
 use Rattle.walsh.specs.Order.{order}
 
 -- two lists of numbers are the same
@@ -11,7 +12,7 @@ unfoldable pub same : List ℕ → List ℕ → Bool
 same [] [] = true
 same [] (y ∷ ys) = false
 same (x ∷ xs) [] = false
-same (x ∷ xs) (y ∷ ys) = cond (eqb x y) (same xs ys) false
+same (x ∷ xs) (y ∷ ys) = both (eqb x y) (same xs ys)
 
 -- how many entries of a list stand before g
 unfoldable pub placeOf : List ℕ → List (List ℕ) → ℕ

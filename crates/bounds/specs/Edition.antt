@@ -1,0 +1,61 @@
+-- Document 01, "Editions and their number" and "Refusals by place of checking", place 'edition'. An edition is the list ms of its ceilings
+-- (bounds), n being their number, and its total r.
+use mathlib.Core.Bool.{Bool, true, false, cond}
+use mathlib.Core.List.{List, [], _∷_, _++_}
+use Prim.Native.Nat.{ℕ, _+_, _-_}
+use lib.Dec.{ltb, eqb}
+use lib.ListN.{length, replicate, take}
+use Rattle.walsh.specs.Tests.{either}
+use Rattle.walsh.specs.Sums.{sumTo}
+use Rattle.walsh.specs.Order.{countOf}
+use Rattle.bounds.specs.Refusal.{Check, check, firstRefusal}
+use Rattle.bounds.specs.declared.Refusal.{Refusal}
+use Rattle.bounds.specs.declared.Bounds.{Bounds}
+use Rattle.bounds.specs.declared.Checked.{Checked}
+
+-- "a ceiling is outside 1..60"
+abbrev pub outside : ℕ → Bool
+outside m = either (ltb m 1) (ltb 60 m)
+
+-- "the first such kind, from 1", i parts having been passed; 0 where there is none
+unfoldable pub firstOutside : List ℕ → ℕ → ℕ
+firstOutside [] i = 0
+firstOutside (m ∷ ms) i = cond (outside m) (i + 1) (firstOutside ms (i + 1))
+
+-- the place 'edition', without its last check
+abbrev pub shapeChecks : List ℕ → ℕ → List Check
+shapeChecks ms r =
+    check 1 (either (eqb (length ms) 0) (ltb 24 (length ms))) 0
+    ∷ check 2 (ltb 0 (firstOutside ms 0)) (firstOutside ms 0)
+    ∷ check 3 (ltb 255 r) 0
+    ∷ check 4 (ltb (sumTo ms (length ms)) r) 0
+    ∷ []
+
+-- the place 'edition'
+abbrev pub editionChecks : List ℕ → ℕ → List Check
+editionChecks ms r = shapeChecks ms r ++ (check 5 (ltb 9223372036854775807 (countOf ms r)) 0 ∷ [])
+
+-- "the record keeps n, 24 cells and r"; "Array cells past n are 0."
+unfoldable pub cellsOf : List ℕ → List ℕ
+cellsOf ms = ms ++ replicate (24 - length ms) 0
+
+abbrev pub boundsOf : List ℕ → ℕ → Bounds
+boundsOf ms r = record { parts = length ms; upper = cellsOf ms; total = r }
+
+-- an accepted edition's record and N, and all zeros with the number and detail of a refusal
+abbrev pub checkedBy : Refusal → List ℕ → ℕ → Checked
+checkedBy v ms r =
+    cond (eqb (v .number) 0)
+    (record { number = 0; detail = 0; bounds = boundsOf ms r; count = countOf ms r })
+    (record { number = v .number; detail = v .detail; bounds = boundsOf [] 0; count = 0 })
+
+unfoldable pub checkOf : List ℕ → ℕ → Checked
+checkOf ms r = checkedBy (firstRefusal (editionChecks ms r)) ms r
+
+-- ---- an edition's record that nobody has checked: more than 24 parts have no cells
+
+abbrev pub recordChecks : Bounds → List Check
+recordChecks b = check 1 (ltb 24 (b .parts)) 0 ∷ editionChecks (take (b .parts) (b .upper)) (b .total)
+
+unfoldable pub recordOf : Bounds → Checked
+recordOf b = checkedBy (firstRefusal (recordChecks b)) (take (b .parts) (b .upper)) (b .total)
