@@ -1,8 +1,14 @@
+pub mod Examples
 pub mod Tests
 pub mod Lists
 pub mod Listing
 pub mod Peel
 pub mod Complete
+pub mod Serials
+pub mod Compare
+pub mod Sorted
+pub mod Endings
 pub mod Ends
 pub mod Steps
+pub mod Successors
 pub mod Gray
