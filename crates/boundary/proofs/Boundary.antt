@@ -1,12 +1,11 @@
 -- The lone statement: every row of the table holds. One computed test over the whole table, and a law that turns a passed test into its claim.
-use mathlib.Core.Path.{_≡_, refl, sym, _∙_}
-use mathlib.Core.Bool.{Bool, true, false, false≢true}
+use mathlib.Core.Path.{_≡_, refl}
+use mathlib.Core.Bool.{true, false, false≢true}
 use mathlib.Core.List.{List, [], _∷_}
 use Prim.Native.Nat.{ℕ, suc, _<_}
-use lib.Dec.{eqb}
 use lib.ListN.{length}
 use borrow.Author.Tests.{eqb-true}
-use Rattle.walsh.specs.Tests.{both, every}
+use Rattle.walsh.specs.Tests.{every}
 use Rattle.walsh.specs.Order.{listing, order}
 use Rattle.walsh.specs.Serial.{same, placeOf, serialOf, compositionOf}
 use Rattle.walsh.proofs.Tests.{both-left, both-right, every-at}

@@ -6,7 +6,7 @@ use mathlib.Core.List.{List, [], _∷_}
 use Prim.Native.Nat.{ℕ, suc}
 use lib.Dec.{eqb}
 use Rattle.walsh.specs.Tests.{both}
-use Rattle.walsh.specs.Order.{order, countOf}
+use Rattle.walsh.specs.Order.{order}
 use Rattle.walsh.specs.Serial.{same, serialOf, compositionOf}
 
 pub data Claim : Type 0 where

@@ -1,7 +1,7 @@
 -- Document 01, "Boundary copies": the table.
 use mathlib.Core.List.{List, [], _∷_}
 use Prim.Native.Nat.{ℕ, zero, suc}
-use Rattle.walsh.specs.Example.{threeTwos, seven}
+use Rattle.walsh.specs.Order.{threeTwos, seven}
 use Rattle.boundary.specs.Row.{Claim, lists, serial, next, Row}
 
 abbrev row : List ℕ → ℕ → Claim → Row

@@ -1,4 +1,3 @@
-pub mod Examples
 pub mod Tests
 pub mod Lists
 pub mod Listing

@@ -1,14 +1,14 @@
 -- The listing: its length, its reversal, and its places. Place p of `listing ms (suc k) rem t` is place s of the block of a value v of part k.
 use mathlib.Core.Path.{_≡_, refl, sym, ap, _∙_}
-use mathlib.Core.Bool.{Bool, true, false, cond}
+use mathlib.Core.Bool.{Bool, true, false}
 use mathlib.Core.List.{List, [], _∷_, _++_, map, reverse, reverse-cons}
 use Prim.Native.Nat.{ℕ, zero, suc, _+_, _-_, _≤_, _<_}
-use native.Mathlib.Nat.{suc-add, zero-lt-suc, not-suc-le-zero, le-of-suc-le-suc}
+use native.Mathlib.Nat.{suc-add, not-suc-le-zero, le-of-suc-le-suc}
 use native.Mathlib.Omega.{arith}
 use lib.ListN.{length, getD, length-map}
 use Rattle.walsh.specs.Sums.{sum, flat, sumTo}
-use Rattle.walsh.specs.Order.{isOdd, least, most, choices, valueAt, partValue, partChoices, behind, listing, count}
-use Rattle.walsh.specs.Rank.{indexOf, partIndex, blockSize}
+use Rattle.walsh.specs.Order.{isOdd, least, most, valueAt, partValue, partChoices, behind, listing, count}
+use Rattle.walsh.specs.Rank.{partIndex, blockSize}
 use Rattle.walsh.proofs.Lists.{sum-same, sum-none, length-flat, flat-lt, flat-at, Place, place, flat-mirror, isOdd-suc, value-low, value-high, index-value, index-lt, value-index, value-mirror, sum-values}
 
 -- ---- the number of compositions

@@ -2,19 +2,18 @@
 use mathlib.Core.Path.{_≡_, refl, sym, ap, _∙_}
 use mathlib.Core.Bool.{Bool, true, false, cond, false≢true}
 use mathlib.Core.List.{List, [], _∷_}
-use Prim.Native.Nat.{ℕ, zero, suc, _+_, _-_, _≤_, _<_}
+use Prim.Native.Nat.{ℕ, zero, suc, _-_, _≤_, _<_}
 use native.Mathlib.Nat.{not-suc-le-zero, le-of-suc-le-suc, zero-lt-suc}
 use native.Mathlib.Omega.{arith}
 use lib.Dec.{eqb}
 use lib.ListN.{length, getD, take}
 use lib.Seq.{take-length}
 use borrow.Author.Tests.{eq-eqb, eqb-true}
-use Rattle.walsh.specs.Tests.{both}
-use Rattle.walsh.specs.Order.{Composition, listing, order, countOf}
+use Rattle.walsh.specs.Order.{Composition, order, countOf}
 use Rattle.walsh.specs.Serial.{same, placeOf, serialOf, compositionOf}
 use Rattle.walsh.specs.Rank.{rankOf, unrankOf}
 use Rattle.walsh.proofs.Tests.{both-left, both-right}
-use Rattle.walsh.proofs.Complete.{complete, rank-composition, unrank-at, rank-lt, rank-at, order-length, once}
+use Rattle.walsh.proofs.Complete.{complete, rank-composition, unrank-at, rank-lt, rank-at, order-length}
 
 -- ---- the place of a list in a list of lists
 

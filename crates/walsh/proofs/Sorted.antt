@@ -15,9 +15,9 @@ use Rattle.walsh.specs.Compare.{valueBefore, beforeTo, before}
 use Rattle.walsh.specs.Rank.{indexOf, partIndex, blockSize, rankOf}
 use Rattle.walsh.proofs.Lists.{sum-mono, value-index}
 use Rattle.walsh.proofs.Listing.{length-listing}
-use Rattle.walsh.proofs.Complete.{composition-low, composition-high, composition-prefix, rank-lt, complete, rank-composition, once}
+use Rattle.walsh.proofs.Complete.{composition-low, composition-high, composition-prefix, rank-lt, complete, rank-composition}
 use Rattle.walsh.proofs.Serials.{serial-rank}
-use Rattle.walsh.proofs.Compare.{before-equal, before-differ, before-irreflexive, before-total}
+use Rattle.walsh.proofs.Compare.{before-equal, before-differ, before-total}
 
 -- the value that comes first has the smaller number
 index-before : (lo hi : ℕ) (odd : Bool) (v w : ℕ) → lo ≤ v → v ≤ hi → lo ≤ w → w ≤ hi → valueBefore odd v w ≡ true → indexOf lo hi odd v < indexOf lo hi odd w

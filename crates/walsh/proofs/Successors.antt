@@ -1,12 +1,12 @@
 -- The steps in serials: from the composition of a serial to that of the next, and to that of the one before.
-use mathlib.Core.Path.{_≡_, refl, sym, ap, _∙_}
+use mathlib.Core.Path.{_≡_, sym, ap, _∙_}
 use mathlib.Core.Logic.{_↔_, _⊎_, inl, inr}
 use mathlib.Core.List.{List, []}
 use Prim.Native.Nat.{ℕ, suc, _+_, _-_, _≤_, _<_}
 use native.Mathlib.Omega.{arith}
 use lib.ListN.{length, getD}
 use Rattle.walsh.specs.Sums.{sumTo}
-use Rattle.walsh.specs.Order.{Composition, listing, order, countOf}
+use Rattle.walsh.specs.Order.{Composition, order, countOf}
 use Rattle.walsh.specs.Serial.{serialOf, compositionOf}
 use Rattle.walsh.specs.Rank.{rankOf}
 use Rattle.walsh.specs.Step.{firstOf, AtLast, Pivot, stepAt}

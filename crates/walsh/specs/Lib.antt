@@ -5,6 +5,5 @@ pub mod Serial
 pub mod Neighbours
 pub mod Ending
 pub mod Compare
-pub mod Example
 pub mod Rank
 pub mod Step
