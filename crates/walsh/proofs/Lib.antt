@@ -3,6 +3,11 @@ pub mod Lists
 pub mod Listing
 pub mod Peel
 pub mod Complete
+pub mod Serials
+pub mod Compare
+pub mod Sorted
+pub mod Endings
 pub mod Ends
 pub mod Steps
+pub mod Successors
 pub mod Gray
