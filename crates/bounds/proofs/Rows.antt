@@ -64,7 +64,7 @@ module _ (ms : List ℕ) (r k : ℕ) (reach : r ≤ whole ms) (k-lt : k < length
     pub down-row : (to : Row) (m : ℕ) → m ≡ getD ms k 0 → to .left ≡ row .left - m → to .all ≡ row .all
         → to .low ≡ r - (row .all - (row .left - m)) → to .high ≡ min r (row .left - m)
         → (to .left ≡ sumTo ms k) × (to .all ≡ whole ms) × (to .low ≡ lowest ms r k) × (to .high ≡ highest ms r k) × (to .low ≤ to .high) × (to .high ≤ r)
-            × (to .high + 1 - to .low + rowStart ms r k ≡ row .start)
+        × (to .high + 1 - to .low + rowStart ms r k ≡ row .start)
     down-row to m em e2 e3 e4 e5 =
         let el : row .left - m ≡ sumTo ms k = rw (down-left, em) (back (sumTo ms k) (getD ms k 0)) in
         let elo : to .low ≡ lowest ms r k = e4 ∙ rw (el, i .all) in
@@ -142,3 +142,17 @@ base-rows ms r table reach room j l t b h =
     let b′ : InBand ms r 0 t = rw z at b in
     let p = first-place ms r t reach b′ in
     rw (z, p .1, p .0, count-zero ms) (getD-set-same table 0 1 0 (base-room ms r table reach room), omega arith)
+
+-- the table ends behind the one cell of its last row
+pub last-size : (ms : List ℕ) (r : ℕ) (last : Row) → r ≤ whole ms → IsRow ms r (length ms) last → last .start + 1 ≡ bandSize ms r
+last-size ms r last reach i =
+    let one : width ms r (length ms) ≡ 1 = omega arith in
+    rw (i .start) (ap (λ (n : ℕ). rowStart ms r (length ms) + n) (sym one))
+
+pub size-small : (ms : List ℕ) (r : ℕ) → r ≤ whole ms → r ≤ 255 → length ms ≤ 24 → bandSize ms r ≤ 6145
+size-small ms r reach s few =
+    let one : width ms r (length ms) ≡ 1 = omega arith in
+    go one (start-small ms r s (length ms)) few
+  where
+    go : {w b n : ℕ} → w ≡ 1 → b ≤ 256 * n → n ≤ 24 → b + w ≤ 6145
+    go e l f = omega arith

@@ -7,7 +7,7 @@ ghost use lib.ListN.{length, getD};
 ghost use Rattle.walsh.specs.Sums.{sum, sumTo};
 ghost use Rattle.walsh.specs.Order.{count};
 ghost use Rattle.bounds.specs.Edition.{whole};
-ghost use Rattle.bounds.specs.Band.{lowest, highest, InBand, bandSize, cap, Row-holds, Rows-hold, Band, IsRow};
+ghost use Rattle.bounds.specs.Band.{lowest, highest, InBand, bandSize, cap, Row-holds, Rows-hold, Band, IsRow, surveyOf, countedOf};
 ghost use Rattle.bounds.specs.Window.{Slid};
 
 const MOST: u64 = 9_223_372_036_854_775_807;
@@ -72,7 +72,12 @@ fn up(upper: &[u8], total: usize, k: usize, from: Row) -> Row
     ensures { λ r. ⌜ IsRow (now (upper .entry)) total (k + 1) r ⌝ }
 {
     let m = bound(upper, k);
-    row_of(total, from.start + (from.high + 1 - from.low), from.left + m, from.all)
+    row_of(
+        total,
+        from.start + (from.high + 1 - from.low),
+        from.left + m,
+        from.all,
+    )
 }
 
 // The row of all parts.
@@ -227,25 +232,90 @@ fn fill_row(upper: &[u8], total: usize, k: usize, row: Row, next: Row, cells: &m
     let full = row.low + m;
     let end = next.high + 1;
     let first = between(next.low, walsh::lesser(row.high, full), end);
-    let w1 = fill_part(upper, total, k, m, row, next, cells, next.low, first, w0, true, false);
+    let w1 = fill_part(
+        upper,
+        total,
+        k,
+        m,
+        row,
+        next,
+        cells,
+        next.low,
+        first,
+        w0,
+        true,
+        false,
+    );
     if MOST < w1 {
         return false;
     }
     if full < row.high {
         let second = between(first, row.high, end);
-        let w2 = fill_part(upper, total, k, m, row, next, cells, first, second, w1, true, true);
+        let w2 = fill_part(
+            upper,
+            total,
+            k,
+            m,
+            row,
+            next,
+            cells,
+            first,
+            second,
+            w1,
+            true,
+            true,
+        );
         if MOST < w2 {
             return false;
         }
-        let w3 = fill_part(upper, total, k, m, row, next, cells, second, end, w2, false, true);
+        let w3 = fill_part(
+            upper,
+            total,
+            k,
+            m,
+            row,
+            next,
+            cells,
+            second,
+            end,
+            w2,
+            false,
+            true,
+        );
         return w3 <= MOST;
     }
     let second = between(first, full, end);
-    let w2 = fill_part(upper, total, k, m, row, next, cells, first, second, w1, false, false);
+    let w2 = fill_part(
+        upper,
+        total,
+        k,
+        m,
+        row,
+        next,
+        cells,
+        first,
+        second,
+        w1,
+        false,
+        false,
+    );
     if MOST < w2 {
         return false;
     }
-    let w3 = fill_part(upper, total, k, m, row, next, cells, second, end, w2, false, true);
+    let w3 = fill_part(
+        upper,
+        total,
+        k,
+        m,
+        row,
+        next,
+        cells,
+        second,
+        end,
+        w2,
+        false,
+        true,
+    );
     w3 <= MOST
 }
 
@@ -267,4 +337,59 @@ fn fill_rows(upper: &[u8], total: usize, all: usize, cells: &mut [u64]) -> u64
         k += 1;
     }
     cell(upper, total, n, row, cells, total)
+}
+
+fn uncounted(number: u32, detail: u64) -> Counted
+    ensures { λ r. ⌜ r ≡ record { number = number; detail = detail; count = 0 } ⌝ }
+{
+    Counted {
+        number,
+        detail,
+        count: 0,
+    }
+}
+
+// The checks 1 to 4, and how many cells the table has.
+pub fn survey(upper: &[u8], total: u32) -> Surveyed
+    ensures { λ r. ⌜ r ≡ surveyOf (now (upper .entry)) total ⌝ }
+{
+    let s = crate::shape(upper, total);
+    if 0 < s.number {
+        return Surveyed {
+            number: s.number,
+            detail: s.detail,
+            all: 0,
+            size: 0,
+        };
+    }
+    let row = last(upper, total as usize, s.all);
+    Surveyed {
+        number: 0,
+        detail: 0,
+        all: s.all,
+        size: row.start + 1,
+    }
+}
+
+// Fills the table and answers N, or the first of the refusals 1 to 4, 13 where `cells` is too short, and 5.
+pub fn fill(upper: &[u8], total: u32, cells: &mut [u64]) -> Counted
+    ensures answer { λ r. ⌜ r ≡ countedOf (now (upper .entry)) total (length (now (cells .entry))) ⌝ }
+    ensures table { λ r. ⌜ (r .number ≡ 0 → Band (now (upper .entry)) total (now (cells .exit))) ⌝ }
+{
+    let s = survey(upper, total);
+    if 0 < s.number {
+        return uncounted(s.number, s.detail);
+    }
+    if cells.len() < s.size {
+        return uncounted(13, 0);
+    }
+    let count = fill_rows(upper, total as usize, s.all, cells);
+    if MOST < count {
+        return uncounted(5, 0);
+    }
+    Counted {
+        number: 0,
+        detail: 0,
+        count,
+    }
 }

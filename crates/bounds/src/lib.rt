@@ -66,10 +66,7 @@ fn scan(upper: &[u8]) -> Scanned
         all += m;
         i += 1;
     }
-    Scanned {
-        outside: 0,
-        all,
-    }
+    Scanned { outside: 0, all }
 }
 
 // The checks 1 to 4, in one pass over the bounds.

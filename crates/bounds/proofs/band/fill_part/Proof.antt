@@ -92,7 +92,17 @@ step-requires c κs =
     let h = low-high (now (a .upper)) (a .total) (a .k) (p .3) (p .0) in
     let lt = inside (c .before) in
     let go : a .from < a .end = le-lt (l .inv .0) lt in (
-      p .0, p .1, p .2, p .4, le-trans (h .1) (i .0), i .1, l .inv .2, p .5, l .inv .6, rw (l .inv .3) (p .7), l .inv .4 _ (le-refl _),
+      p .0,
+      p .1,
+      p .2,
+      p .4,
+      le-trans (h .1) (i .0),
+      i .1,
+      l .inv .2,
+      p .5,
+      l .inv .6,
+      rw (l .inv .3) (p .7),
+      l .inv .4 _ (le-refl _),
       λ e. le-suc _ _ _ lt (p .15 go e),
       λ e. le-trans (p .16 go e) (l .inv .0),
       λ e. le-trans (p .17 go e) (l .inv .0),

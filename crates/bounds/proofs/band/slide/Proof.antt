@@ -68,7 +68,6 @@ add-if1 c =
     let s = c .before .before .before .before .before in
     fits-small _ _ _ (low-le (now (s .args .upper)) (s .args .total) (s .args .k) (s .args .row) (s .pre .7)) (s .pre .2) (c .before .before .bound .ensures .1)
 
-
 pub slide-spec : {M : Type 1} → statement M
 slide-spec =
     tie.close
