@@ -1,7 +1,10 @@
 pub mod Tests
+pub mod Cases
 pub mod Lists
 pub mod Listing
 pub mod Peel
+pub mod Window
+pub mod Product
 pub mod Complete
 pub mod Serials
 pub mod Compare
