@@ -14,7 +14,7 @@ fn count(s: &[u8], from: usize) -> usize
     let mut upper = [0u8; 64];
     let m = read::list(s, from, &mut upper);
     let total = read::number(s, m.at);
-    let c = bounds::band::count(read::part(&upper, m.len), read::low(total.value));
+    let c = bounds::check(read::part(&upper, m.len), read::low(total.value));
     show::first(c.number as u64);
     show::next(c.detail);
     show::next(c.count);
