@@ -6,3 +6,4 @@ pub mod Complete
 pub mod Ends
 pub mod Steps
 pub mod Gray
+pub mod Every

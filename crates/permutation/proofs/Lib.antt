@@ -1,0 +1,5 @@
+pub mod Counts
+pub mod Inverse
+pub mod Vectors
+pub mod Exchanges
+pub mod Serials
