@@ -3,3 +3,4 @@ pub mod Inverse
 pub mod Vectors
 pub mod Exchanges
 pub mod Serials
+pub mod Turns

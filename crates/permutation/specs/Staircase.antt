@@ -1,11 +1,16 @@
 -- stand-in for crate mahonian
-use mathlib.Core.Bool.{Bool, true}
+use mathlib.Core.Bool.{Bool}
 use mathlib.Core.List.{List, [], _∷_}
-use Prim.Native.Nat.{ℕ, suc}
-use lib.Dec.{eqb}
+use Prim.Native.Nat.{ℕ, zero, suc}
 use lib.ListN.{length}
-use Rattle.walsh.specs.Tests.{both}
+use Rattle.walsh.specs.Serial.{same}
 
+-- k - 1, .. , 2, 1
+unfoldable pub staircase : ℕ → List ℕ
+staircase zero = []
+staircase (suc zero) = []
+staircase (suc (suc n)) = suc n ∷ staircase (suc n)
+
+-- the bounds of a puzzle edition of k sheets, where k is one more than their number; so no bounds are those of one sheet
 unfoldable pub isStaircase : List ℕ → Bool
-isStaircase [] = true
-isStaircase (m ∷ ms) = both (eqb m (suc (length ms))) (isStaircase ms)
+isStaircase ms = same ms (staircase (suc (length ms)))
