@@ -1,2 +1,4 @@
 pub mod Refusals
 pub mod Editions
+pub mod Compositions
+pub mod Filling

@@ -5,6 +5,7 @@ ghost use lib.ListN.{length};
 ghost use Rattle.bounds.specs.Edition.{whole, outside, firstOutside, shapedOf};
 
 pub mod band;
+pub mod places;
 
 // A refusal's number and detail; 0 and 0 where nothing is refused.
 #[repr(C)]
@@ -66,10 +67,7 @@ fn scan(upper: &[u8]) -> Scanned
         all += m;
         i += 1;
     }
-    Scanned {
-        outside: 0,
-        all,
-    }
+    Scanned { outside: 0, all }
 }
 
 // The checks 1 to 4, in one pass over the bounds.
