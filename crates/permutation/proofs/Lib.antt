@@ -4,3 +4,6 @@ pub mod Vectors
 pub mod Exchanges
 pub mod Serials
 pub mod Turns
+pub mod ByInversions
+pub mod Tables
+pub mod RoundTrips

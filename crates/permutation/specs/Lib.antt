@@ -1,3 +1,5 @@
 pub mod Staircase
 pub mod Permutation
 pub mod Exchange
+pub mod Reading
+pub mod Conversions

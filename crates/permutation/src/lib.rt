@@ -1,10 +1,18 @@
 // Permutations of 1..k and their inversion vectors (document 01, "Sheet orders"): a composition of staircase bounds to its permutation, and back.
+use bounds::Refusal;
+use bounds::places::{composition_refusal, lent_refusal};
 use walsh::wide;
 ghost use mathlib.Core.Path.{_≡_};
 ghost use mathlib.Core.Bool.{cond};
-ghost use mathlib.Core.List.{map, _++_};
+ghost use mathlib.Core.List.{List, map, _++_};
 ghost use Prim.Native.Nat.{ℕ, _+_, _-_, _≤_, _<_};
 ghost use lib.ListN.{length, getD, take, drop};
+ghost use Rattle.bounds.specs.Refusal.{firstRefusal};
+ghost use Rattle.bounds.specs.Edition.{editionChecks};
+ghost use Rattle.bounds.specs.declared.Refusal.{Refusal};
+ghost use Rattle.permutation.specs.Staircase.{isStaircase};
+ghost use Rattle.permutation.specs.Reading.{byInversions};
+ghost use Rattle.permutation.specs.Conversions.{staircaseChecks, permutationChecks, toPermutationChecks, toCompositionChecks, toPermutation, toComposition};
 ghost use Rattle.permutation.specs.Permutation.{times, below, isPermutation, inversions, inversionVector, lift, permutationOf};
 
 fn one(b: bool) -> usize
@@ -115,4 +123,111 @@ fn fill_permutation(g: &[u8], out: &mut [u8])
         make_room(out, after, c);
         out[i] = c + 1;
     }
+}
+
+// stand-ins
+fn edition_refusal(upper: &[u8], total: u32) -> Refusal
+    ensures { λ r. ⌜ r ≡ firstRefusal (editionChecks (now (upper .entry)) total) ⌝ }
+{
+    Refusal {
+        number: 0,
+        detail: 0,
+    }
+}
+
+fn is_staircase(upper: &[u8]) -> bool
+    ensures { λ r. ⌜ r ≡ isStaircase (now (upper .entry)) ⌝ }
+{
+    false
+}
+
+fn refusal(number: u32) -> Refusal
+    ensures { λ r. ⌜ r ≡ record { number = number; detail = 0 } ⌝ }
+{
+    Refusal {
+        number,
+        detail: 0,
+    }
+}
+
+// The places 'edition' and 'sheet orders' as far as 10.
+fn staircase_refusal(upper: &[u8], total: u32) -> Refusal
+    ensures { λ r. ⌜ r ≡ firstRefusal (editionChecks (now (upper .entry)) total ++ staircaseChecks (now (upper .entry))) ⌝ }
+{
+    let edition = edition_refusal(upper, total);
+    if edition.number != 0 {
+        return edition;
+    }
+    if is_staircase(upper) {
+        return refusal(0);
+    }
+    refusal(10)
+}
+
+// The place 'sheet orders' from 11 on.
+fn permutation_refusal(upper: &[u8], total: u32, p: &[u8]) -> Refusal
+    requires { ⌜ length (now upper) ≤ 24 ⌝ }
+    ensures { λ r. ⌜ r ≡ firstRefusal (permutationChecks byInversions (now (upper .entry)) total (now (p .entry))) ⌝ }
+{
+    if !is_permutation(p, upper.len() + 1) {
+        return refusal(11);
+    }
+    if count_inversions(p) != total as usize {
+        return refusal(12);
+    }
+    refusal(0)
+}
+
+// All that can refuse a composition and a lent part of `room` bytes.
+fn to_permutation_refusal(upper: &[u8], total: u32, g: &[u8], room: usize) -> Refusal
+    ensures { λ r. ⌜ r ≡ firstRefusal (toPermutationChecks (now (upper .entry)) total (now (g .entry)) room) ⌝ }
+{
+    let stairs = staircase_refusal(upper, total);
+    if stairs.number != 0 {
+        return stairs;
+    }
+    let given = composition_refusal(upper, total, g);
+    if given.number != 0 {
+        return given;
+    }
+    lent_refusal(upper.len() + 1, room)
+}
+
+// All that can refuse a permutation and a lent part of `room` bytes.
+fn to_composition_refusal(upper: &[u8], total: u32, p: &[u8], room: usize) -> Refusal
+    ensures { λ r. ⌜ r ≡ firstRefusal (toCompositionChecks byInversions (now (upper .entry)) total (now (p .entry)) room) ⌝ }
+{
+    let stairs = staircase_refusal(upper, total);
+    if stairs.number != 0 {
+        return stairs;
+    }
+    let given = permutation_refusal(upper, total, p);
+    if given.number != 0 {
+        return given;
+    }
+    lent_refusal(upper.len(), room)
+}
+
+// document 01: mix to order. Fills the lent part with the permutation whose inversion vector is the composition.
+pub fn permutation(upper: &[u8], total: u32, composition: &[u8], out: &mut [u8]) -> Refusal
+    ensures { λ r. ⌜ _≡_ {A = Refusal × List ℕ} (r, now (out .exit)) (toPermutation byInversions (now (upper .entry)) total (now (composition .entry)) (now (out .entry))) ⌝ }
+{
+    let refused = to_permutation_refusal(upper, total, composition, out.len());
+    if refused.number != 0 {
+        return refused;
+    }
+    fill_permutation(composition, out);
+    refused
+}
+
+// document 01: order to mix. Fills the lent part with the inversion vector of the permutation.
+pub fn inversions(upper: &[u8], total: u32, permutation: &[u8], out: &mut [u8]) -> Refusal
+    ensures { λ r. ⌜ _≡_ {A = Refusal × List ℕ} (r, now (out .exit)) (toComposition byInversions (now (upper .entry)) total (now (permutation .entry)) (now (out .entry))) ⌝ }
+{
+    let refused = to_composition_refusal(upper, total, permutation, out.len());
+    if refused.number != 0 {
+        return refused;
+    }
+    fill_inversions(permutation, out);
+    refused
 }
