@@ -1,5 +1,9 @@
 pub mod Refusals
 pub mod Editions
+pub mod Answers
+pub mod Bands
+pub mod Slides
+pub mod Rows
 pub mod Compositions
 pub mod Filling
 pub mod Chains

@@ -2,10 +2,10 @@
 use mathlib.Core.Path.{_≡_, refl}
 use mathlib.Core.Bool.{Bool, true, false, cond, false≢true}
 use mathlib.Core.List.{List, [], _∷_, _++_}
-use Prim.Native.Nat.{ℕ}
+use Prim.Native.Nat.{ℕ, _<_}
 use native.Mathlib.Omega.{arith}
-use lib.Dec.{ltb}
-use borrow.Author.Tests.{ltb-true}
+use lib.Dec.{ltb, eqb}
+use borrow.Author.Tests.{ltb-true, eqb-true, eqb-false, eq-eqb, ne-eqb}
 use Rattle.walsh.specs.Tests.{both}
 use Rattle.walsh.proofs.Tests.{both-left, both-right}
 use Rattle.walsh.proofs.Cases.{on-test}
@@ -56,3 +56,26 @@ pub refusal-none : (xs : List Check) → numbered xs ≡ true → firstRefusal x
 unfolding firstRefusal
 refusal-none [] n e = refl
 refusal-none (c ∷ cs) n e = let p = passed c cs n e in rw (p .0) (refusal-none cs (p .1) (p .2))
+
+-- ---- answers: a where the number is 0, and b, which has the number and the detail, where it is not
+
+module _ {A : Type 0} (v : Refusal) (a b : A) where
+  pub by-refusal : (n d : ℕ) → v ≡ refused n d → 0 < n → cond (eqb (v .number) 0) a b ≡ b
+  by-refusal n d e l = rw (e, ne-eqb n 0 (λ z. omega arith))
+
+  pub by-acceptance : v .number ≡ 0 → cond (eqb (v .number) 0) a b ≡ a
+  by-acceptance e = rw (eq-eqb (v .number) 0 e)
+
+  -- what such an answer x says of v; the three equations before it are `refl`
+  module _ (number detail : A → ℕ) (za : number a ≡ 0) (nb : number b ≡ v .number) (db : detail b ≡ v .detail) (x : A) (e : x ≡ cond (eqb (v .number) 0) a b) where
+    pub is-refused : 0 < number x → v ≡ refused (number x) (detail x)
+    is-refused l =
+        on-test (eqb (v .number) 0)
+        (λ t. let z : number x ≡ 0 = rw (e, t) za in absurd (omega arith))
+        (λ t. rw (e, t, nb, db))
+
+    pub is-accepted : number x ≡ 0 → (v .number ≡ 0) × (x ≡ a)
+    is-accepted z =
+        on-test (eqb (v .number) 0)
+        (λ t. (eqb-true (v .number) 0 t, rw t at e))
+        (λ t. let n : number x ≡ v .number = rw (e, t) nb in absurd (eqb-false (v .number) 0 t (omega arith)))
