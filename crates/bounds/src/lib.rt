@@ -5,7 +5,6 @@ ghost use lib.ListN.{length};
 ghost use Rattle.bounds.specs.Edition.{whole, outside, firstOutside, shapedOf};
 
 pub mod band;
-pub mod places;
 
 // A refusal's number and detail; 0 and 0 where nothing is refused.
 #[repr(C)]

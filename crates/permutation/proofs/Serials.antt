@@ -10,7 +10,7 @@ use Rattle.walsh.specs.Order.{Composition, order, countOf}
 use Rattle.walsh.specs.Serial.{compositionOf}
 use Rattle.walsh.proofs.Complete.{complete, order-length}
 use Rattle.walsh.proofs.Gray.{gray}
-use Rattle.permutation.specs.Staircase.{isStaircase}
+use Rattle.mahonian.specs.Staircase.{isStaircase}
 use Rattle.permutation.specs.Permutation.{permutationOf}
 use Rattle.permutation.specs.Exchange.{Near}
 use Rattle.permutation.proofs.Vectors.{composition-under}

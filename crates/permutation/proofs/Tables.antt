@@ -1,10 +1,11 @@
 -- What the tables of the two calls say where they refuse nothing, for any reading.
-use mathlib.Core.Path.{_≡_, refl, ap}
-use mathlib.Core.Bool.{true, not}
+use mathlib.Core.Path.{_≡_, refl, sym, ap, _∙_}
+use mathlib.Core.Bool.{Bool, true, false, not}
 use mathlib.Core.List.{List, [], _∷_, _++_}
-use Prim.Native.Nat.{ℕ, _+_, _≤_, _<_}
+use Prim.Native.Nat.{ℕ, _+_, _-_, _≤_, _<_}
+use native.Mathlib.Omega.{arith}
 use lib.Dec.{eqb}
-use lib.ListN.{length}
+use lib.ListN.{length, getD}
 use borrow.Author.Tests.{eqb-true, eq-eqb, lt-ltb, not-false}
 use Rattle.walsh.specs.Order.{Composition}
 use Rattle.bounds.specs.Refusal.{Check, refused, firstRefusal}
@@ -15,11 +16,12 @@ use Rattle.bounds.proofs.Refusals.{numbered, passed}
 use Rattle.bounds.proofs.Editions.{Shapely, shapely}
 use Rattle.bounds.proofs.Compositions.{composition-passed, composition-passes}
 use Rattle.bounds.proofs.Chains.{Accepts, accepts-split, accepts-join}
-use Rattle.permutation.specs.Staircase.{isStaircase}
+use Rattle.mahonian.specs.Staircase.{isStaircase}
 use Rattle.permutation.specs.Permutation.{isPermutation}
 use Rattle.permutation.specs.Reading.{Reading, PermutationWith}
 use Rattle.permutation.specs.Conversions.{staircaseChecks, permutationChecks, toPermutationChecks, toCompositionChecks}
 use Rattle.permutation.proofs.Counts.{is-permutation}
+use Rattle.permutation.proofs.Vectors.{composition-fits}
 
 -- ---- the bounds
 
@@ -28,8 +30,15 @@ pub record Staircase (ms : List ℕ) (r : ℕ) : Type 0 where
   pub edition : Accepts (editionChecks ms r)
   pub stairs : isStaircase ms ≡ true
 
-pub few : {ms : List ℕ} {r : ℕ} → Staircase ms r → length ms ≤ 24
-few {ms} {r} s = shapely ms r (accepts-split (shapeChecks ms r) _ refl (s .edition) .0) .few
+-- what the test t says of the table
+module _ (ms : List ℕ) {t : Bool} (e : t ≡ isStaircase ms) {v : Refusal} where
+  pub staircase-yes : t ≡ true → v ≡ refused 0 0 → v ≡ firstRefusal (staircaseChecks ms)
+  unfolding firstRefusal
+  staircase-yes h is = rw (← e, h) is
+
+  pub staircase-no : t ≡ false → v ≡ refused 10 0 → v ≡ firstRefusal (staircaseChecks ms)
+  unfolding firstRefusal
+  staircase-no h is = rw (← e, h) is
 
 module _ (ms : List ℕ) (r : ℕ) where
   staircase-passed : Accepts (editionChecks ms r) → Accepts (staircaseChecks ms) → Staircase ms r
@@ -38,6 +47,12 @@ module _ (ms : List ℕ) (r : ℕ) where
   staircase-passes : isStaircase ms ≡ true → Accepts (staircaseChecks ms)
   unfolding firstRefusal
   staircase-passes e = rw e
+
+  edition-few : Accepts (editionChecks ms r) → length ms ≤ 24
+  edition-few e = shapely ms r (accepts-split (shapeChecks ms r) _ refl e .0) .few
+
+  pub staircase-few : {v : Refusal} → v ≡ firstRefusal (editionChecks ms r ++ staircaseChecks ms) → v .number ≡ 0 → length ms ≤ 24
+  staircase-few {v} e none = edition-few (accepts-split (editionChecks ms r) _ refl (ap (λ (w : Refusal). w .number) (sym e) ∙ none) .0)
 
 -- ---- the lent part
 
@@ -63,6 +78,13 @@ module _ (ms : List ℕ) (r : ℕ) (g : List ℕ) (room : ℕ) where
       accepts-join (editionChecks ms r) _ refl (s .edition)
       (accepts-join (staircaseChecks ms) _ refl (staircase-passes ms r (s .stairs))
       (accepts-join (compositionChecks ms r g) _ refl (ap (λ (v : Refusal). v .number) (composition-passes ms r g comp)) (lent-passes (length ms + 1) room fits)))
+
+  -- what `fill_permutation` asks
+  pub to-permutation-ready : {v : Refusal} → v ≡ firstRefusal (toPermutationChecks ms r g room) → v .number ≡ 0
+      → (length g ≤ 24) × (room ≡ length g + 1) × ((i : ℕ) → i < length g → getD g i 0 ≤ length g - i)
+  to-permutation-ready {v} e none =
+      let known = to-permutation-passed (ap (λ (w : Refusal). w .number) (sym e) ∙ none) in
+      (omega (arith, known .1 .size, edition-few ms r (known .0 .edition)), omega (arith, known .1 .size, known .2), composition-fits ms (known .0 .stairs) (known .1))
 
 -- ---- order to mix
 
@@ -99,3 +121,11 @@ module _ (reading : Reading) (refuses : 0 < reading .number) (ms : List ℕ) (r 
         accepts-join (editionChecks ms r) _ refl (s .edition)
         (accepts-join (staircaseChecks ms) _ refl (staircase-passes ms r (s .stairs))
         (accepts-join (permutationChecks reading ms r p) _ given-numbered (given-passes perm) (lent-passes (length ms) room fits)))
+
+    -- what `fill_inversions` asks
+    pub to-composition-ready : {v : Refusal} → v ≡ firstRefusal (toCompositionChecks reading ms r p room) → v .number ≡ 0
+        → (length p ≤ 25) × (length p ≡ room + 1)
+    to-composition-ready {v} e none =
+        let known = to-composition-passed (ap (λ (w : Refusal). w .number) (sym e) ∙ none) in
+        let size = known .1 .is .size in
+        (omega (arith, edition-few ms r (known .0 .edition)), omega (arith, known .2))

@@ -1,31 +1,23 @@
 -- Inversion vectors as compositions of staircase bounds: their parts, their bounds and their sum.
 use mathlib.Core.Path.{_≡_, refl, sym, ap, subst, _∙_}
-use mathlib.Core.Bool.{true, cond, false≢true}
+use mathlib.Core.Bool.{true, cond}
 use mathlib.Core.List.{List, [], _∷_}
 use Prim.Native.Nat.{ℕ, zero, suc, _+_, _-_, _≤_, _<_}
 use native.Mathlib.Nat.{zero-add}
+use native.Mathlib.Numerals.{add-one}
 use native.Mathlib.Omega.{arith}
-use lib.Dec.{eqb, ltb, leb·suc-suc}
+use lib.Dec.{ltb, leb·suc-suc}
 use lib.ListN.{length, getD, drop}
-use borrow.Author.Tests.{eqb-true, lt-ltb, le-ltb}
+use borrow.Author.Tests.{lt-ltb, le-ltb}
 use Rattle.walsh.specs.Sums.{sum, sumTo}
 use Rattle.walsh.specs.Order.{Composition}
-use Rattle.walsh.specs.Serial.{same}
 use Rattle.walsh.proofs.Lists.{sum-same, sum-front}
-use Rattle.walsh.proofs.Tests.{both-left, both-right}
-use Rattle.permutation.specs.Staircase.{staircase, isStaircase}
+use Rattle.mahonian.specs.Staircase.{staircase, isStaircase}
+use Rattle.mahonian.proofs.Staircase.{staircase-iff}
 use Rattle.permutation.specs.Permutation.{below, IsPermutation, inversionVector, permutationOf, inverted, inversions}
 use Rattle.permutation.proofs.Inverse.{Under, permutation-is, inversions-permutation, inversions-under, inversions-length}
 
 -- ---- the staircase
-
-same-is : (xs ys : List ℕ) → same xs ys ≡ true → xs ≡ ys
-unfolding same
-same-is [] [] e = refl
-same-is [] (y ∷ ys) e = absurd (false≢true e)
-same-is (x ∷ xs) [] e = absurd (false≢true e)
-same-is (x ∷ xs) (y ∷ ys) e =
-    rw (eqb-true x y (both-left (eqb x y) (same xs ys) e), same-is xs ys (both-right (eqb x y) (same xs ys) e))
 
 stair-at : (n i : ℕ) → i < n → getD (staircase (suc n)) i 0 ≡ n - i
 unfolding staircase
@@ -34,8 +26,7 @@ stair-at (suc n) zero h = omega arith
 stair-at (suc n) (suc i) h = omega (arith, stair-at n i (omega arith))
 
 staircase-at : (ms : List ℕ) → isStaircase ms ≡ true → (i : ℕ) → i < length ms → getD ms i 0 ≡ length ms - i
-unfolding isStaircase
-staircase-at ms e i h = ap (λ (l : List ℕ). getD l i 0) (same-is ms (staircase (suc (length ms))) e) ∙ stair-at (length ms) i h
+staircase-at ms e i h = ap (λ (l : List ℕ). getD l i 0) (rw (add-one (length ms)) at (staircase-iff ms .0 e)) ∙ stair-at (length ms) i h
 
 pub under-at : (g : List ℕ) → Under g → (i : ℕ) → i < length g → getD g i 0 ≤ length g - i
 under-at [] u i h = absurd (omega arith)
@@ -114,8 +105,11 @@ module _ (ms : List ℕ) (stairs : isStaircase ms ≡ true) where
       }
 
   module _ {r : ℕ} {g : List ℕ} (comp : Composition ms r g) where
+    pub composition-fits : (i : ℕ) → i < length g → getD g i 0 ≤ length g - i
+    composition-fits i h = omega (arith, comp .size, comp .parts .fits i (omega (arith, comp .size)), staircase-at ms stairs i (omega (arith, comp .size)))
+
     pub composition-under : Under g
-    composition-under = at-under g (λ i h. omega (arith, comp .size, comp .parts .fits i (omega (arith, comp .size)), staircase-at ms stairs i (omega (arith, comp .size))))
+    composition-under = at-under g composition-fits
 
     -- the permutation of a composition is one, and has as many inversions as the total
     pub composition-permutation : IsPermutation (suc (length ms)) (permutationOf g)

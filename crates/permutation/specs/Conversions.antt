@@ -9,7 +9,7 @@ use Rattle.bounds.specs.Refusal.{Check, check}
 use Rattle.bounds.specs.Edition.{editionChecks}
 use Rattle.bounds.specs.Places.{compositionChecks, lentChecks, filling}
 use Rattle.bounds.specs.declared.Refusal.{Refusal}
-use Rattle.permutation.specs.Staircase.{isStaircase}
+use Rattle.mahonian.specs.Staircase.{isStaircase}
 use Rattle.permutation.specs.Permutation.{isPermutation}
 use Rattle.permutation.specs.Reading.{Reading}
 

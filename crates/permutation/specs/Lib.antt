@@ -1,4 +1,3 @@
-pub mod Staircase
 pub mod Permutation
 pub mod Exchange
 pub mod Reading

@@ -6,7 +6,7 @@ use mathlib.Core.List.{List}
 use Prim.Native.Nat.{ℕ, _+_, _<_}
 use lib.ListN.{length}
 use Rattle.walsh.specs.Order.{Composition}
-use Rattle.permutation.specs.Staircase.{isStaircase}
+use Rattle.mahonian.specs.Staircase.{isStaircase}
 use Rattle.permutation.specs.Permutation.{IsPermutation, inversions, inversionVector, permutationOf}
 
 pub record Reading : Type 0 where

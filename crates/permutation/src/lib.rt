@@ -1,6 +1,7 @@
 // Permutations of 1..k and their inversion vectors (document 01, "Sheet orders"): a composition of staircase bounds to its permutation, and back.
 use bounds::Refusal;
-use bounds::places::{composition_refusal, lent_refusal};
+use mahonian::is_staircase;
+use places::{composition_refusal, lent_refusal, refusal};
 use walsh::wide;
 ghost use mathlib.Core.Path.{_≡_};
 ghost use mathlib.Core.Bool.{cond};
@@ -10,7 +11,7 @@ ghost use lib.ListN.{length, getD, take, drop};
 ghost use Rattle.bounds.specs.Refusal.{firstRefusal};
 ghost use Rattle.bounds.specs.Edition.{editionChecks};
 ghost use Rattle.bounds.specs.declared.Refusal.{Refusal};
-ghost use Rattle.permutation.specs.Staircase.{isStaircase};
+ghost use Rattle.mahonian.specs.Staircase.{isStaircase};
 ghost use Rattle.permutation.specs.Reading.{byInversions};
 ghost use Rattle.permutation.specs.Conversions.{staircaseChecks, permutationChecks, toPermutationChecks, toCompositionChecks, toPermutation, toComposition};
 ghost use Rattle.permutation.specs.Permutation.{times, below, isPermutation, inversions, inversionVector, lift, permutationOf};
@@ -131,21 +132,6 @@ fn edition_refusal(upper: &[u8], total: u32) -> Refusal
 {
     Refusal {
         number: 0,
-        detail: 0,
-    }
-}
-
-fn is_staircase(upper: &[u8]) -> bool
-    ensures { λ r. ⌜ r ≡ isStaircase (now (upper .entry)) ⌝ }
-{
-    false
-}
-
-fn refusal(number: u32) -> Refusal
-    ensures { λ r. ⌜ r ≡ record { number = number; detail = 0 } ⌝ }
-{
-    Refusal {
-        number,
         detail: 0,
     }
 }

@@ -1,37 +1,26 @@
+-- `permutation::permutation` meets its contract.
 use borrow.Author.Needs.{needs}
+use Rattle.bounds.proofs.Filling.{filling-refused, filling-done}
+use Rattle.permutation.specs.Conversions.{toPermutation}
+use Rattle.permutation.proofs.Tables.{to-permutation-ready}
 use Rattle.permutation.proofs.permutation.Statement.{statement}
 use Rattle.permutation.proofs.permutation.Tie as tie
-use Rattle.permutation.proofs.permutation.Reads as reads
-use Rattle.permutation.proofs.permutation.Lts as lts
-use Rattle.permutation.proofs.fill_permutation.Reads as fill-permutation-reads
-use Rattle.permutation.proofs.to_permutation_refusal.Reads as to-permutation-refusal-reads
 
--- src/lib.rt:215:9
-to-permutation-refusal-requires : tie.Need-to-permutation-refusal-requires
-to-permutation-refusal-requires c κs = search needs
-
--- src/lib.rt:217:9
 returns : tie.Need-returns
-returns c = search needs
+unfolding toPermutation
+returns c = filling-refused _ _ _ (c .before .before .to-permutation-refusal .ensures) (c .if1 .taken)
 
--- src/lib.rt:219:5
 fill-permutation-requires : tie.Need-fill-permutation-requires
-fill-permutation-requires c κs = search needs
+fill-permutation-requires c κs = let checked = c .before .before .before in
+    let args = checked .before .before .before .before .args in
+    to-permutation-ready (args .upper .now) (args .total) (args .composition .now) _ (checked .to-permutation-refusal .ensures) (c .before .if1 .left)
 
--- src/lib.rt:212:1
-same-length : tie.Need-same-length
-same-length c = search needs
-
--- src/lib.rt:212:1
 returns-2 : tie.Need-returns-2
-returns-2 c = search needs
+unfolding toPermutation
+returns-2 c = let filled = c .before .before in
+    let checked = filled .before .before .before .before in
+    filling-done _ _ _ (checked .to-permutation-refusal .ensures) (filled .before .before .if1 .left) (filled .fill-permutation .ensures)
 
 pub permutation-spec : {M : Type 1} → statement M
 permutation-spec =
-    tie.close
-    (tie.spec
-    to-permutation-refusal-requires
-    returns
-    fill-permutation-requires
-    same-length
-    returns-2)
+    tie.close (tie.spec (λ c κs. search needs) returns fill-permutation-requires (λ c. search needs) returns-2)

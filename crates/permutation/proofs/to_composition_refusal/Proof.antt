@@ -1,43 +1,36 @@
+-- `permutation::to_composition_refusal` meets its contract. Each place's refusal stands for the rest, or the next place is looked at.
+use mathlib.Core.Path.{refl}
 use borrow.Author.Needs.{needs}
+use Rattle.bounds.proofs.Chains.{answer-first, answer-later}
+use Rattle.permutation.proofs.Tables.{staircase-few}
 use Rattle.permutation.proofs.to_composition_refusal.Statement.{statement}
 use Rattle.permutation.proofs.to_composition_refusal.Tie as tie
-use Rattle.permutation.proofs.to_composition_refusal.Reads as reads
-use Rattle.permutation.proofs.to_composition_refusal.Lts as lts
-use Rattle.bounds.proofs.places.lent_refusal.Reads as lent-refusal-reads
-use Rattle.permutation.proofs.permutation_refusal.Reads as permutation-refusal-reads
-use Rattle.permutation.proofs.staircase_refusal.Reads as staircase-refusal-reads
 
--- src/lib.rt:200:9
-staircase-refusal-requires : tie.Need-staircase-refusal-requires
-staircase-refusal-requires c κs = search needs
-
--- src/lib.rt:202:9
 returns : tie.Need-returns
-returns c = search needs
+returns c = answer-first _ _ (c .before .before .staircase-refusal .ensures) (c .if1 .taken)
 
--- src/lib.rt:204:9
 permutation-refusal-requires : tie.Need-permutation-refusal-requires
-permutation-refusal-requires c κs = search needs
+permutation-refusal-requires c κs = let stairs = c .before .before in
+    let args = stairs .before .before .before .args in
+    staircase-few (args .upper .now) (args .total) (stairs .staircase-refusal .ensures) (c .if1 .left)
 
--- src/lib.rt:206:9
 returns-2 : tie.Need-returns-2
-returns-2 c = search needs
+returns-2 c = let given = c .before .before in
+    let stairs = given .before .before .before in
+    answer-later _ _ (stairs .staircase-refusal .ensures) refl (given .before .if1 .left) (answer-first _ _ (given .permutation-refusal .ensures) (c .if2 .taken))
 
--- src/lib.rt:208:5
-lent-refusal-requires : tie.Need-lent-refusal-requires
-lent-refusal-requires c κs = search needs
-
--- src/lib.rt:197:1
 returns-3 : tie.Need-returns-3
-returns-3 c = search needs
+returns-3 c = let given = c .before .before .before in
+    let stairs = given .before .before .before in
+    answer-later _ _ (stairs .staircase-refusal .ensures) refl (given .before .if1 .left) (answer-later _ _ (given .permutation-refusal .ensures) refl (c .before .if2 .left) (c .lent-refusal .ensures))
 
 pub to-composition-refusal-spec : {M : Type 1} → statement M
 to-composition-refusal-spec =
     tie.close
     (tie.spec
-    staircase-refusal-requires
+    (λ c κs. search needs)
     returns
     permutation-refusal-requires
     returns-2
-    lent-refusal-requires
+    (λ c κs. search needs)
     returns-3)

@@ -1,48 +1,38 @@
+-- `permutation::to_permutation_refusal` meets its contract. Each place's refusal stands for the rest, or the next place is looked at.
+use mathlib.Core.Path.{refl}
+use native.Mathlib.Omega.{arith}
 use borrow.Author.Needs.{needs}
+use Rattle.bounds.proofs.Chains.{answer-first, answer-later}
+use Rattle.permutation.proofs.Tables.{staircase-few}
 use Rattle.permutation.proofs.to_permutation_refusal.Statement.{statement}
 use Rattle.permutation.proofs.to_permutation_refusal.Tie as tie
-use Rattle.permutation.proofs.to_permutation_refusal.Reads as reads
-use Rattle.permutation.proofs.to_permutation_refusal.Lts as lts
-use Rattle.bounds.proofs.places.composition_refusal.Reads as composition-refusal-reads
-use Rattle.bounds.proofs.places.lent_refusal.Reads as lent-refusal-reads
-use Rattle.permutation.proofs.staircase_refusal.Reads as staircase-refusal-reads
 
--- src/lib.rt:185:9
-staircase-refusal-requires : tie.Need-staircase-refusal-requires
-staircase-refusal-requires c κs = search needs
-
--- src/lib.rt:187:9
 returns : tie.Need-returns
-returns c = search needs
+returns c = answer-first _ _ (c .before .before .staircase-refusal .ensures) (c .if1 .taken)
 
--- src/lib.rt:189:9
-composition-refusal-requires : tie.Need-composition-refusal-requires
-composition-refusal-requires c κs = search needs
-
--- src/lib.rt:191:9
 returns-2 : tie.Need-returns-2
-returns-2 c = search needs
+returns-2 c = let given = c .before .before in
+    let stairs = given .before .before .before in
+    answer-later _ _ (stairs .staircase-refusal .ensures) refl (given .before .if1 .left) (answer-first _ _ (given .composition-refusal .ensures) (c .if2 .taken))
 
--- src/lib.rt:193:18
 add-lent-refusal : tie.Need-add-lent-refusal
-add-lent-refusal c = search needs
+add-lent-refusal c = let stairs = c .before .before .before .before .before in
+    let args = stairs .before .before .before .args in
+    omega (arith, staircase-few (args .upper .now) (args .total) (stairs .staircase-refusal .ensures) (c .before .before .before .if1 .left))
 
--- src/lib.rt:193:5
-lent-refusal-requires : tie.Need-lent-refusal-requires
-lent-refusal-requires c κs = search needs
-
--- src/lib.rt:182:1
 returns-3 : tie.Need-returns-3
-returns-3 c = search needs
+returns-3 c = let given = c .before .before .before in
+    let stairs = given .before .before .before in
+    answer-later _ _ (stairs .staircase-refusal .ensures) refl (given .before .if1 .left) (answer-later _ _ (given .composition-refusal .ensures) refl (c .before .if2 .left) (c .lent-refusal .ensures))
 
 pub to-permutation-refusal-spec : {M : Type 1} → statement M
 to-permutation-refusal-spec =
     tie.close
     (tie.spec
-    staircase-refusal-requires
+    (λ c κs. search needs)
     returns
-    composition-refusal-requires
+    (λ c κs. search needs)
     returns-2
     add-lent-refusal
-    lent-refusal-requires
+    (λ c κs. search needs)
     returns-3)

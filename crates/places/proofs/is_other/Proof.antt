@@ -1,4 +1,4 @@
--- `bounds::places::is_other` meets its contract. The parts passed are within their bounds, and with what is left they make up the total.
+-- `places::is_other` meets its contract. The parts passed are within their bounds, and with what is left they make up the total.
 use mathlib.Core.Path.{_≡_}
 use mathlib.Core.Bool.{true}
 use Prim.Native.Nat.{_+_, _-_, _≤_}
@@ -7,10 +7,10 @@ use lib.ListN.{length}
 use borrow.Author.Needs.{needs}
 use Rattle.walsh.specs.Sums.{sumTo}
 use Rattle.walsh.specs.Tests.{every}
 use Rattle.bounds.specs.Places.{isWithin}
-use Rattle.bounds.proofs.Compositions.{within-turn, left-turn, other-over, other-sum, other-end}
-use Rattle.bounds.proofs.places.is_other.Statement.{statement}
-use Rattle.bounds.proofs.places.is_other.Tie as tie
+use Rattle.places.proofs.Turns.{within-turn, left-turn, other-over, other-sum, other-end}
+use Rattle.places.proofs.is_other.Statement.{statement}
+use Rattle.places.proofs.is_other.Tie as tie
 
 abbrev Inv-loop : tie.InvT-loop
 Inv-loop upper total g left₀ i₀ left i = (i ≤ length g) × (every (isWithin upper g) i ≡ true) × (left + sumTo g i ≡ total)

@@ -1,10 +1,10 @@
--- `bounds::places::composition_refusal` meets its contract. Each return by the tests on the way to it.
+-- `places::composition_refusal` meets its contract. Each return by the tests on the way to it.
 use mathlib.Core.Path.{sym, _∙_}
 use borrow.Author.Needs.{needs}
 use borrow.Author.Tests.{eq-eqb, ne-eqb}
 use Rattle.bounds.specs.Refusal.{firstRefusal}
-use Rattle.bounds.proofs.places.composition_refusal.Statement.{statement}
-use Rattle.bounds.proofs.places.composition_refusal.Tie as tie
+use Rattle.places.proofs.composition_refusal.Statement.{statement}
+use Rattle.places.proofs.composition_refusal.Tie as tie
 
 returns : tie.Need-returns
 unfolding firstRefusal

@@ -1,12 +1,13 @@
 // The checks of the places 'mix given' and 'lent part' (document 01, "Refusals by place of checking"), which several calls have.
-use crate::Refusal;
+use bounds::Refusal;
 ghost use mathlib.Core.Path.{_≡_};
 ghost use Prim.Native.Nat.{ℕ};
 ghost use lib.ListN.{length};
 ghost use Rattle.bounds.specs.Refusal.{firstRefusal, refused};
 ghost use Rattle.bounds.specs.Places.{isOther, compositionChecks, lentChecks};
 
-fn refusal(number: u32) -> Refusal
+// A refusal without a detail; 0 is none.
+pub fn refusal(number: u32) -> Refusal
     ensures { λ r. ⌜ r ≡ refused number 0 ⌝ }
 {
     Refusal { number, detail: 0 }

@@ -1,10 +1,10 @@
--- `bounds::places::lent_refusal` meets its contract.
+-- `places::lent_refusal` meets its contract.
 use mathlib.Core.Path.{_∙_, sym}
 use borrow.Author.Needs.{needs}
 use borrow.Author.Tests.{eq-eqb, ne-eqb}
 use Rattle.bounds.specs.Refusal.{firstRefusal}
-use Rattle.bounds.proofs.places.lent_refusal.Statement.{statement}
-use Rattle.bounds.proofs.places.lent_refusal.Tie as tie
+use Rattle.places.proofs.lent_refusal.Statement.{statement}
+use Rattle.places.proofs.lent_refusal.Tie as tie
 
 returns : tie.Need-returns
 unfolding firstRefusal
