@@ -1,12 +1,12 @@
 -- The reading by inversions is faithful.
-use mathlib.Core.Path.{_≡_, refl, subst}
+use mathlib.Core.Path.{subst}
 use mathlib.Core.List.{List}
 use Prim.Native.Nat.{ℕ, suc, _+_}
 use native.Mathlib.Numerals.{add-one}
 use native.Mathlib.Omega.{arith}
 use lib.ListN.{length}
 use Rattle.walsh.specs.Order.{Composition}
-use Rattle.permutation.specs.Permutation.{IsPermutation, inversions, inversionVector}
+use Rattle.permutation.specs.Permutation.{IsPermutation, inversionVector}
 use Rattle.permutation.specs.Reading.{byInversions, PermutationWith, Faithful}
 use Rattle.permutation.proofs.Inverse.{inversions-permutation, permutation-inversions}
 use Rattle.permutation.proofs.Vectors.{vector-composition, composition-under, composition-permutation, composition-inversions}

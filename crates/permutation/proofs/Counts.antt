@@ -1,19 +1,20 @@
 -- Counting the entries of a list, and what it says of a permutation.
 use mathlib.Core.Path.{_≡_, refl, sym, _∙_}
-use mathlib.Core.Bool.{Bool, true, false, cond}
+use mathlib.Core.Bool.{Bool, true, false, cond, false≢true}
 use mathlib.Core.Logic.{_↔_}
 use mathlib.Core.List.{List, [], _∷_, map}
 use Prim.Native.Nat.{ℕ, zero, suc, _+_, _≤_, _<_}
 use native.Mathlib.Nat.{le-refl}
-use native.Mathlib.Decide.{decLe, decLt}
+use native.Mathlib.Decide.{decLt}
 use native.Mathlib.Omega.{arith}
 use lib.Dec.{eqb, ltb}
 use lib.ListN.{length}
 use borrow.Author.Tests.{eqb-true, lt-ltb, le-ltb, eq-eqb, ne-eqb}
 use Rattle.walsh.specs.Tests.{every}
 use Rattle.walsh.proofs.Tests.{both-left, both-right, every-at}
+use Rattle.walsh.proofs.Cases.{on-test}
 use Rattle.walsh.proofs.Every.{every-all}
-use Rattle.permutation.specs.Permutation.{howMany, times, below, IsPermutation, isPermutation}
+use Rattle.permutation.specs.Permutation.{howMany, times, IsPermutation, isPermutation}
 
 -- ---- tests
 
@@ -29,6 +30,10 @@ ltb-same a b c d to from = go (decLt c d)
         go′ (no l) = le-ltb a b (omega arith) ∙ sym (le-ltb c d (omega arith))
 
 -- ---- howMany
+
+-- how many entries are smaller than v
+abbrev pub below : ℕ → List ℕ → ℕ
+below v l = howMany (λ x. ltb x v) l
 
 bit-le : (b : Bool) → cond b 1 0 ≤ 1
 bit-le true = omega arith
@@ -100,3 +105,7 @@ is-permutation k p = (
     once : every each k ≡ true → (v : ℕ) → 1 ≤ v → v ≤ k → times v p ≡ 1
     once e zero l h = absurd (omega arith)
     once e (suc v) l h = eqb-true (times (suc v) p) 1 (every-at each k e v h)
+
+-- number 11: "length isn't k, or not a permutation of 1..k"
+pub not-permutation : (k : ℕ) (p : List ℕ) → (isPermutation k p ≡ false) ↔ (IsPermutation k p → ⊥)
+not-permutation k p = (λ e perm. false≢true (sym e ∙ is-permutation k p .1 perm), λ other. on-test (isPermutation k p) (λ e. absurd (other (is-permutation k p .0 e))) (λ e. e))

@@ -2,15 +2,16 @@
 use mathlib.Core.Path.{_≡_, refl, sym, ap, _∙_}
 use mathlib.Core.Bool.{cond}
 use mathlib.Core.List.{List, [], _∷_, map}
-use Prim.Native.Nat.{ℕ, zero, suc, _+_, _-_, _≤_, _<_}
+use Prim.Native.Nat.{ℕ, zero, suc, _-_, _≤_, _<_}
 use native.Mathlib.Nat.{le-refl}
 use native.Mathlib.Decide.{decLe, decLt}
 use native.Mathlib.Omega.{arith}
 use lib.Dec.{ltb}
 use lib.ListN.{length, length-map}
 use borrow.Author.Tests.{lt-ltb, le-ltb, eq-eqb}
-use Rattle.permutation.specs.Permutation.{times, below, IsPermutation, inversionVector, lift, permutationOf}
-use Rattle.permutation.proofs.Counts.{ltb-same, many-le, many-map, Counted, counted, permutation}
+use Rattle.permutation.specs.Permutation.{times, IsPermutation, inversionVector, lift, permutationOf}
+use Rattle.permutation.proofs.Smaller.{inversions-cons, inversions-short}
+use Rattle.permutation.proofs.Counts.{below, ltb-same, many-le, many-map, Counted, counted, permutation}
 
 -- ---- lift
 
@@ -34,18 +35,14 @@ lift-order c x y = go (decLt c x) (decLt c y)
 
 -- ---- an inversion vector
 
-pub inversions-cons : (v : ℕ) (l : List ℕ) → 0 < length l → inversionVector (v ∷ l) ≡ below v l ∷ inversionVector l
-unfolding inversionVector
-inversions-cons v [] h = absurd (omega arith)
-inversions-cons v (w ∷ l) h = refl
-
 -- it depends on the order of the entries alone
 pub inversions-lift : (c : ℕ) (l : List ℕ) → inversionVector (map (lift c) l) ≡ inversionVector l
-unfolding inversionVector
 inversions-lift c [] = refl
-inversions-lift c (v ∷ []) = refl
+inversions-lift c (v ∷ []) = inversions-short (lift c v ∷ []) (omega arith) ∙ sym (inversions-short (v ∷ []) (omega arith))
 inversions-lift c (v ∷ w ∷ l) =
-    rw (many-map (lift c) (λ x. ltb x (lift c v)) (λ x. ltb x v) (w ∷ l) (λ x. lift-order c x v), inversions-lift c (w ∷ l))
+    inversions-cons (lift c v) (lift c w ∷ map (lift c) l) (omega arith)
+    ∙ rw (many-map (lift c) (λ x. ltb x (lift c v)) (λ x. ltb x v) (w ∷ l) (λ x. lift-order c x v), inversions-lift c (w ∷ l))
+    (sym (inversions-cons v (w ∷ l) (omega arith)))
 
 -- ---- the permutation of a vector
 
@@ -119,7 +116,7 @@ first-inversions c q m h d =
 
 pub inversions-permutation : (g : List ℕ) → Under g → inversionVector (permutationOf g) ≡ g
 unfolding permutationOf
-inversions-permutation [] u = unfold inversionVector in refl
+inversions-permutation [] u = inversions-short (1 ∷ []) (omega arith)
 inversions-permutation (c ∷ g) u =
     inversions-cons (suc c) (map (lift c) (permutationOf g)) (omega (arith, length-map (permutationOf g) (lift c), permutation-length g))
     ∙ rw (

@@ -1,7 +1,9 @@
 pub mod Counts
+pub mod Smaller
 pub mod Inverse
 pub mod Vectors
 pub mod Exchanges
+pub mod Raised
 pub mod Serials
 pub mod Turns
 pub mod ByInversions

@@ -1,23 +1,21 @@
 -- What the tables of the two calls say where they refuse nothing, for any reading.
 use mathlib.Core.Path.{_≡_, refl, sym, ap, _∙_}
-use mathlib.Core.Bool.{Bool, true, false, not}
-use mathlib.Core.List.{List, [], _∷_, _++_}
+use mathlib.Core.Bool.{Bool, true, false}
+use mathlib.Core.List.{List, _++_}
 use Prim.Native.Nat.{ℕ, _+_, _-_, _≤_, _<_}
 use native.Mathlib.Omega.{arith}
-use lib.Dec.{eqb}
 use lib.ListN.{length, getD}
 use borrow.Author.Tests.{eqb-true, eq-eqb, lt-ltb, not-false}
 use Rattle.walsh.specs.Order.{Composition}
-use Rattle.bounds.specs.Refusal.{Check, refused, firstRefusal}
+use Rattle.bounds.specs.Refusal.{refused, firstRefusal}
 use Rattle.bounds.specs.Edition.{shapeChecks, editionChecks}
 use Rattle.bounds.specs.Places.{compositionChecks, lentChecks}
 use Rattle.bounds.specs.declared.Refusal.{Refusal}
 use Rattle.bounds.proofs.Refusals.{numbered, passed}
-use Rattle.bounds.proofs.Editions.{Shapely, shapely}
+use Rattle.bounds.proofs.Editions.{shapely}
 use Rattle.bounds.proofs.Compositions.{composition-passed, composition-passes}
 use Rattle.bounds.proofs.Chains.{Accepts, accepts-split, accepts-join}
 use Rattle.mahonian.specs.Staircase.{isStaircase}
-use Rattle.permutation.specs.Permutation.{isPermutation}
 use Rattle.permutation.specs.Reading.{Reading, PermutationWith}
 use Rattle.permutation.specs.Conversions.{staircaseChecks, permutationChecks, toPermutationChecks, toCompositionChecks}
 use Rattle.permutation.proofs.Counts.{is-permutation}

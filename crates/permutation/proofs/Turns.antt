@@ -1,5 +1,5 @@
 -- What one turn of each loop of the code does.
-use mathlib.Core.Path.{_≡_, refl, sym, ap, _∙_}
+use mathlib.Core.Path.{_≡_, sym, ap, _∙_}
 use mathlib.Core.Bool.{Bool, true, false, cond}
 use mathlib.Core.List.{List, [], _∷_, _++_, map, append-nil}
 use Prim.Native.Nat.{ℕ, zero, suc, _+_, _-_, _≤_, _<_}
@@ -8,14 +8,15 @@ use native.Mathlib.Omega.{arith}
 use native.Mathlib.Decide.{decLt}
 use lib.ListN.{length, getD, take, drop, set, length-drop, length-set, drop-of-length-le}
 use lib.Seq.{drop-cons, drop-length, take-all, take-suc-set, drop-set-lt, append-snoc, getD-set-same, getD-set-other, getD-drop, drop-at, length-take-le}
-use lib.Dec.{eqb}
+use lib.Dec.{eqb, ltb}
 use borrow.Author.Tests.{eq-eqb, ne-eqb}
 use Rattle.walsh.specs.Tests.{every}
 use Rattle.walsh.proofs.Every.{every-not}
-use Rattle.permutation.specs.Permutation.{howMany, times, below, isPermutation, inversions, inversionVector, lift, permutationOf}
-use Rattle.permutation.proofs.Counts.{many-le}
-use Rattle.permutation.proofs.Inverse.{Under, lift-low, lift-high, inversions-cons}
-use Rattle.permutation.proofs.Vectors.{inversions-more, at-under}
+use Rattle.permutation.specs.Permutation.{howMany, times, smallerAfter, isPermutation, inversions, inversionVector, lift, permutationOf}
+use Rattle.permutation.proofs.Counts.{below, many-le}
+use Rattle.permutation.proofs.Smaller.{smaller-is, inversions-cons, inversions-short, inversions-more}
+use Rattle.permutation.proofs.Inverse.{Under, lift-low, lift-high}
+use Rattle.permutation.proofs.Vectors.{at-under}
 
 -- ---- counting
 
@@ -57,15 +58,27 @@ module _ (k : ℕ) (p : List ℕ) where
   unfolding isPermutation
   once-end v size all e = rw (eq-eqb (length p) k size, ← all) e
 
+-- ---- how many later entries are smaller
+
+module _ (p : List ℕ) (i : ℕ) (h : i < length p) where
+  smaller-drop : below (getD p i 0) (drop (i + 1) p) ≡ smallerAfter p i
+  smaller-drop = rw (add-one i) (sym (smaller-is p i h))
+
+  module _ (n j : ℕ) (all : length p ≤ j) (e : n + below (getD p i 0) (drop j p) ≡ below (getD p i 0) (drop (i + 1) p)) where
+    pub smaller-end : n ≡ smallerAfter p i
+    smaller-end = many-end (λ x. ltb x (getD p i 0)) p n j _ all e ∙ smaller-drop
+
+    pub smaller-few : n ≤ length p
+    smaller-few = many-few (λ x. ltb x (getD p i 0)) p n j (i + 1) all e
+
 -- ---- the number of inversions
 
-pub inversions-turn : (p : List ℕ) (s i x b all : ℕ) → i < length p → x ≡ getD p i 0 → b ≡ below x (drop (i + 1) p)
+pub inversions-turn : (p : List ℕ) (s i b all : ℕ) → i < length p → b ≡ smallerAfter p i
     → s + inversions (drop i p) ≡ all
     → s + b + inversions (drop (i + 1) p) ≡ all
-inversions-turn p s i x b all h ex eb e =
-    let b′ : b ≡ below (getD p i 0) (drop (suc i) p) = eb ∙ ap (λ (y : ℕ). below y (drop (i + 1) p)) ex ∙ ap (λ (j : ℕ). below (getD p i 0) (drop j p)) (add-one i) in
+inversions-turn p s i b all h eb e =
     let e′ : s + inversions (getD p i 0 ∷ drop (suc i) p) ≡ all = rw (drop-cons p i 0 h) at e in
-    rw (add-one i) (omega (arith, inversions-more (getD p i 0) (drop (suc i) p)))
+    rw (add-one i) (omega (arith, smaller-is p i h, inversions-more (getD p i 0) (drop (suc i) p)))
 
 pub inversions-end : (p : List ℕ) (s i all : ℕ) → length p ≤ i → s + inversions (drop i p) ≡ all → s ≡ all
 unfolding inversions
@@ -73,27 +86,16 @@ inversions-end p s i all h e = omega (arith, rw (drop-of-length-le p h) at e)
 
 -- ---- the inversion vector
 
-pub vector-turn : (p out full : List ℕ) (i x b : ℕ) → i < length out → length p ≡ length out + 1 → x ≡ getD p i 0 → b ≡ below x (drop (i + 1) p)
+pub vector-turn : (p out full : List ℕ) (i b : ℕ) → i < length out → length p ≡ length out + 1 → b ≡ smallerAfter p i
     → take i out ++ inversionVector (drop i p) ≡ full
     → take (i + 1) (set out i b) ++ inversionVector (drop (i + 1) p) ≡ full
-vector-turn p out full i x b h k ex eb e =
-    let b′ : below (getD p i 0) (drop (suc i) p) ≡ b = rw (← (add-one i), ← ex) (sym eb) in
-    rw (add-one i, take-suc-set out i b h, append-snoc (take i out) b (inversionVector (drop (suc i) p)))
-    (rw (
-      drop-cons p i 0 (omega arith),
-      inversions-cons (getD p i 0) (drop (suc i) p) (omega (arith, length-drop (suc i) p)),
-      b′,
-    ) at e)
-
-one-inversions : (l : List ℕ) → length l ≡ 1 → inversionVector l ≡ []
-unfolding inversionVector
-one-inversions [] e = refl
-one-inversions (v ∷ []) e = refl
-one-inversions (v ∷ w ∷ l) e = absurd (omega arith)
+vector-turn p out full i b h k eb e =
+    rw (add-one i, take-suc-set out i b h, append-snoc (take i out) b (inversionVector (drop (suc i) p)), eb, smaller-is p i (omega arith))
+    (rw (drop-cons p i 0 (omega arith), inversions-cons (getD p i 0) (drop (suc i) p) (omega (arith, length-drop (suc i) p))) at e)
 
 pub vector-end : (p out full : List ℕ) (i : ℕ) → length out ≤ i → length p ≡ i + 1 → take i out ++ inversionVector (drop i p) ≡ full → out ≡ full
 vector-end p out full i h k e =
-    rw (take-all i out h, one-inversions (drop i p) (omega (arith, length-drop i p)), append-nil out) at e
+    rw (take-all i out h, inversions-short (drop i p) (omega (arith, length-drop i p)), append-nil out) at e
 
 -- ---- the permutation
 

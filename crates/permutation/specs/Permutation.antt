@@ -1,27 +1,25 @@
--- Document 01, "Sheet orders": permutations of 1..k and their inversion vectors. The document's sheet order p1..pk is a list p; places are
--- counted from 0, so `getD p i 0` is its p(i+1). A reader who believes this file, `Exchange` and `Conversions` knows what is promised.
+-- Document 01, "Sheet orders": permutations of 1..k and their inversion vectors. The document's sheet order p1..pk is a list p. Places are
+-- counted from 0 here: `getD p i 0` is its p(i+1). A reader who believes this file, `Exchange`, `Reading` and `Conversions` knows what is
+-- promised.
 use mathlib.Core.Path.{_≡_}
 use mathlib.Core.Bool.{Bool, cond}
-use mathlib.Core.List.{List, [], _∷_, map}
-use Prim.Native.Nat.{ℕ, suc, _+_, _≤_}
+use mathlib.Core.List.{List, [], _∷_, _++_, map}
+use Prim.Native.Nat.{ℕ, zero, suc, _+_, _-_, _≤_}
 use lib.Dec.{eqb, ltb}
 use lib.ListN.{length, getD}
 use Rattle.walsh.specs.Tests.{both, every}
 use Rattle.walsh.specs.Sums.{sum}
+
+-- ---- "A sheet order is a permutation p1..pk of 1..k"
 
 -- how many entries of a list pass a test
 abbrev pub howMany : (ℕ → Bool) → List ℕ → ℕ
 howMany test [] = 0
 howMany test (x ∷ l) = cond (test x) 1 0 + howMany test l
 
--- how many are v, and how many are smaller than v
+-- how many are v
 abbrev pub times : ℕ → List ℕ → ℕ
 times v l = howMany (λ x. eqb x v) l
-
-abbrev pub below : ℕ → List ℕ → ℕ
-below v l = howMany (λ x. ltb x v) l
-
--- ---- "A sheet order is a permutation p1..pk of 1..k"
 
 -- p has k entries, and each of 1..k is exactly one of them
 pub record IsPermutation (k : ℕ) (p : List ℕ) : Type 0 where
@@ -34,11 +32,26 @@ isPermutation k p = both (eqb (length p) k) (every (λ v. eqb (times (suc v) p) 
 
 -- ---- "Its mix: gi = how many pj with j > i are smaller than pi."
 
--- g1 counts the entries after p1 that are smaller; the rest is the mix of the rest. The last entry has no part.
+-- 1 if j > i and pj is smaller than pi, else 0
+abbrev pub inverted : List ℕ → ℕ → ℕ → ℕ
+inverted p i j = cond (both (ltb i j) (ltb (getD p j 0) (getD p i 0))) 1 0
+
+-- how many j are such
+abbrev pub smallerAfter : List ℕ → ℕ → ℕ
+smallerAfter p i = sum (λ j. inverted p i j) (length p)
+
+-- f 0, .. , f (n - 1)
+abbrev pub entries : (ℕ → ℕ) → ℕ → List ℕ
+entries f zero = []
+entries f (suc n) = entries f n ++ (f n ∷ [])
+
+-- g1..g(k-1)
 unfoldable pub inversionVector : List ℕ → List ℕ
-inversionVector [] = []
-inversionVector (v ∷ []) = []
-inversionVector (v ∷ w ∷ l) = below v (w ∷ l) ∷ inversionVector (w ∷ l)
+inversionVector p = entries (smallerAfter p) (length p - 1)
+
+-- "So its inversions number r."
+unfoldable pub inversions : List ℕ → ℕ
+inversions p = sum (smallerAfter p) (length p)
 
 -- ---- the way back
 
@@ -46,17 +59,7 @@ inversionVector (v ∷ w ∷ l) = below v (w ∷ l) ∷ inversionVector (w ∷ l
 unfoldable pub lift : ℕ → ℕ → ℕ
 lift c x = cond (ltb c x) (suc x) x
 
--- the permutation of 1..k with the inversion vector g of k - 1 parts: its first entry has g1 smaller ones behind it
+-- the permutation of 1..k whose inversion vector is g: its first entry has g1 smaller ones behind it
 unfoldable pub permutationOf : List ℕ → List ℕ
 permutationOf [] = 1 ∷ []
 permutationOf (c ∷ g) = suc c ∷ map (lift c) (permutationOf g)
-
--- ---- "So its inversions number r."
-
--- 1 if the places i and j are an inversion of p: i is before j, and its entry is larger
-abbrev pub inverted : List ℕ → ℕ → ℕ → ℕ
-inverted p i j = cond (both (ltb i j) (ltb (getD p j 0) (getD p i 0))) 1 0
-
--- how many pairs of places are
-unfoldable pub inversions : List ℕ → ℕ
-inversions p = sum (λ i. sum (λ j. inverted p i j) (length p)) (length p)

@@ -1,7 +1,9 @@
 // Permutations of 1..k and their inversion vectors (document 01, "Sheet orders"): a composition of staircase bounds to its permutation, and back.
 use bounds::Refusal;
 use mahonian::is_staircase;
-use places::{composition_refusal, lent_refusal, refusal};
+use places::composition_refusal;
+use places::lent_refusal;
+use places::refusal;
 use walsh::wide;
 ghost use mathlib.Core.Path.{_≡_};
 ghost use mathlib.Core.Bool.{cond};
@@ -14,7 +16,7 @@ ghost use Rattle.bounds.specs.declared.Refusal.{Refusal};
 ghost use Rattle.mahonian.specs.Staircase.{isStaircase};
 ghost use Rattle.permutation.specs.Reading.{byInversions};
 ghost use Rattle.permutation.specs.Conversions.{staircaseChecks, permutationChecks, toPermutationChecks, toCompositionChecks, toPermutation, toComposition};
-ghost use Rattle.permutation.specs.Permutation.{times, below, isPermutation, inversions, inversionVector, lift, permutationOf};
+ghost use Rattle.permutation.specs.Permutation.{times, smallerAfter, isPermutation, inversions, inversionVector, lift, permutationOf};
 
 fn one(b: bool) -> usize
     ensures { λ r. ⌜ (r ≡ cond b 1 0) × (r ≤ 1) ⌝ }
@@ -35,15 +37,17 @@ fn times(p: &[u8], v: usize) -> usize
     n
 }
 
-// How many entries of p from place `from` on are smaller than v.
-fn below(p: &[u8], from: usize, v: usize) -> usize
-    ensures { λ r. ⌜ (r ≡ below v (drop from (now (p .entry)))) × (r ≤ length (now (p .entry))) ⌝ }
+// How many entries behind place i are smaller than the entry there.
+fn smaller_after(p: &[u8], i: usize) -> usize
+    requires { ⌜ i < length (now p) ⌝ }
+    ensures { λ r. ⌜ (r ≡ smallerAfter (now (p .entry)) i) × (r ≤ length (now (p .entry))) ⌝ }
 {
+    let v = p[i];
     let mut n = 0;
-    let mut i = from;
-    while i < p.len() {
-        n += one(wide(p[i]) < v);
-        i += 1;
+    let mut j = i + 1;
+    while j < p.len() {
+        n += one(p[j] < v);
+        j += 1;
     }
     n
 }
@@ -73,7 +77,7 @@ fn count_inversions(p: &[u8]) -> usize
     let mut sum = 0;
     let mut i = 0;
     while i < p.len() {
-        sum += below(p, i + 1, wide(p[i]));
+        sum += smaller_after(p, i);
         i += 1;
     }
     sum
@@ -86,7 +90,7 @@ fn fill_inversions(p: &[u8], out: &mut [u8])
 {
     let mut i = 0;
     while i < out.len() {
-        out[i] = below(p, i + 1, wide(p[i])) as u8;
+        out[i] = smaller_after(p, i) as u8;
         i += 1;
     }
 }

@@ -16,11 +16,11 @@ abbrev μ-loop : tie.MeasureT-loop
 μ-loop p sum₀ i₀ sum i = length p - i
 
 loop-again : tie.Need-loop-again Inv-loop μ-loop
-loop-again c = let turn = c .before .before .before .before in
+loop-again c = let turn = c .before .before in
     let start = turn .before .before in (
       omega arith,
       omega arith,
-      inversions-turn (start .args .p .now) (turn .loop .sum) (turn .loop .i) _ _ _ (c .before .before .before .loop-test .taken) (c .before .wide .ensures .0) (c .below .ensures .0) (turn .loop .inv .2),
+      inversions-turn (start .args .p .now) (turn .loop .sum) (turn .loop .i) _ _ (c .before .loop-test .taken) (c .smaller-after .ensures .0) (turn .loop .inv .2),
     )
 
 returns : tie.Need-returns Inv-loop μ-loop
@@ -33,9 +33,6 @@ count-inversions-spec =
     Inv-loop
     μ-loop
     (λ c. search needs)
-    (λ c. search needs)
-    (λ c. search needs)
-    (λ c κs. search needs)
     (λ c κs. search needs)
     (λ c. search needs)
     (λ c. search needs)

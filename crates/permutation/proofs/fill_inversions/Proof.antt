@@ -17,16 +17,16 @@ abbrev μ-loop : tie.MeasureT-loop
 μ-loop p out₀ i₀ out i = length out - i
 
 loop-less : tie.Need-loop-less Inv-loop μ-loop
-loop-less c = let turn = c .before .before .before .before in
-    omega (arith, length-set (turn .loop .out) (turn .loop .i) (c .below .result))
+loop-less c = let turn = c .before .before in
+    omega (arith, length-set (turn .loop .out) (turn .loop .i) (c .smaller-after .result))
 
 loop-again : tie.Need-loop-again Inv-loop μ-loop
-loop-again c = let turn = c .before .before .before .before in
+loop-again c = let turn = c .before .before in
     let start = turn .before .before .before in
-    let size = length-set (turn .loop .out) (turn .loop .i) (c .below .result) in (
+    let size = length-set (turn .loop .out) (turn .loop .i) (c .smaller-after .result) in (
       omega arith,
       size ∙ turn .loop .inv .1,
-      vector-turn (start .args .p .now) (turn .loop .out) _ (turn .loop .i) _ _ (c .before .before .before .loop-test .taken) (omega (arith, start .pre)) (c .before .wide .ensures .0) (c .below .ensures .0) (turn .loop .inv .2),
+      vector-turn (start .args .p .now) (turn .loop .out) _ (turn .loop .i) _ (c .before .loop-test .taken) (omega (arith, start .pre)) (c .smaller-after .ensures .0) (turn .loop .inv .2),
     )
 
 returns : tie.Need-returns Inv-loop μ-loop
@@ -39,9 +39,6 @@ fill-inversions-spec =
     Inv-loop
     μ-loop
     (λ c. search needs)
-    (λ c. search needs)
-    (λ c. search needs)
-    (λ c κs. search needs)
     (λ c κs. search needs)
     (λ c. search needs)
     (λ c. search needs)
