@@ -2,6 +2,7 @@
 use bounds::Refusal;
 use mahonian::is_staircase;
 use places::composition_refusal;
+use places::edition_refusal;
 use places::lent_refusal;
 use places::refusal;
 use walsh::wide;
@@ -13,7 +14,6 @@ ghost use lib.ListN.{length, getD, take, drop};
 ghost use Rattle.bounds.specs.Refusal.{firstRefusal};
 ghost use Rattle.bounds.specs.Edition.{editionChecks};
 ghost use Rattle.bounds.specs.declared.Refusal.{Refusal};
-ghost use Rattle.mahonian.specs.Staircase.{isStaircase};
 ghost use Rattle.permutation.specs.Reading.{byInversions};
 ghost use Rattle.permutation.specs.Conversions.{staircaseChecks, permutationChecks, toPermutationChecks, toCompositionChecks, toPermutation, toComposition};
 ghost use Rattle.permutation.specs.Permutation.{times, smallerAfter, isPermutation, inversions, inversionVector, lift, permutationOf};
@@ -127,16 +127,6 @@ fn fill_permutation(g: &[u8], out: &mut [u8])
         let c = g[i];
         make_room(out, after, c);
         out[i] = c + 1;
-    }
-}
-
-// stand-ins
-fn edition_refusal(upper: &[u8], total: u32) -> Refusal
-    ensures { λ r. ⌜ r ≡ firstRefusal (editionChecks (now (upper .entry)) total) ⌝ }
-{
-    Refusal {
-        number: 0,
-        detail: 0,
     }
 }
 
