@@ -1,5 +1,5 @@
 -- The reading by inversions is faithful.
-use mathlib.Core.Path.{subst}
+use mathlib.Core.Path.{_≡_, sym, ap, subst, _∙_}
 use mathlib.Core.List.{List}
 use Prim.Native.Nat.{ℕ, suc, _+_}
 use native.Mathlib.Numerals.{add-one}
