@@ -1,0 +1,4 @@
+pub mod Mahonian
+pub mod Staircase
+pub mod Read
+pub mod Table
