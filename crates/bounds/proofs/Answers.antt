@@ -5,11 +5,12 @@ use mathlib.Core.List.{List, [], _∷_, _++_}
 use Prim.Native.Nat.{ℕ, _≤_, _<_}
 use native.Mathlib.Omega.{arith}
 use lib.Dec.{eqb, ltb}
+use lib.ListN.{take}
 use borrow.Author.Tests.{eqb-true, eqb-false, lt-ltb, le-ltb}
 use Rattle.walsh.specs.Order.{countOf}
 use Rattle.walsh.proofs.Cases.{on-test}
 use Rattle.bounds.specs.Refusal.{Check, check, refused, firstRefusal}
-use Rattle.bounds.specs.Edition.{whole, shapeChecks, editionChecks, boundsOf, shapedOf, checkOf}
+use Rattle.bounds.specs.Edition.{whole, shapeChecks, editionChecks, boundsOf, shapedOf, checkOf, recordChecks, recordOf}
 use Rattle.bounds.specs.Band.{bandSize, surveyOf, tableChecks, numberOf, countedOf}
 use Rattle.bounds.specs.declared.Refusal.{Refusal}
 use Rattle.bounds.specs.declared.Shaped.{Shaped}
@@ -17,7 +18,7 @@ use Rattle.bounds.specs.declared.Bounds.{Bounds}
 use Rattle.bounds.specs.declared.Checked.{Checked}
 use Rattle.bounds.specs.declared.band.Surveyed.{Surveyed}
 use Rattle.bounds.specs.declared.band.Counted.{Counted}
-use Rattle.bounds.proofs.Refusals.{refusal-here, refusal-next, refusal-first, refusal-later, by-refusal, by-acceptance, is-refused, is-accepted}
+use Rattle.bounds.proofs.Refusals.{refusal-here, refusal-next, refusal-first, refusal-later, refusal-none, by-refusal, by-acceptance, is-refused, is-accepted}
 
 module _ (ms : List ℕ) (r : ℕ) where
   abbrev shape : Refusal
@@ -93,6 +94,14 @@ module _ (ms : List ℕ) (r : ℕ) where
       let p = is-accepted edition _ _ (λ (y : Counted). y .number) (λ (y : Counted). y .detail) refl refl refl x e z in
       (p .0, ap (λ (y : Counted). y .count) (p .1))
 
+  -- the refusal alone
+  pub number-refusal : (x : Counted) → x ≡ numberOf ms r → refused (x .number) (x .detail) ≡ edition
+  unfolding numberOf
+  number-refusal x e =
+      on-test (eqb (edition .number) 0)
+      (λ t. rw (e, t) (sym (refusal-none (editionChecks ms r) refl (eqb-true (edition .number) 0 t))))
+      (λ t. rw (e, t))
+
   -- ---- N with a lent table
 
   module _ (size : ℕ) where
@@ -146,3 +155,23 @@ module _ (ms : List ℕ) (r : ℕ) where
   checked-accepted x e z =
       let p = is-accepted edition _ _ (λ (y : Checked). y .number) (λ (y : Checked). y .detail) refl refl refl x e z in
       (p .0, ap (λ (y : Checked). y .bounds) (p .1), ap (λ (y : Checked). y .count) (p .1))
+
+-- ---- a record that nobody has checked
+
+module _ (b : Bounds) where
+  abbrev bounds : List ℕ
+  bounds = take (b .parts) (b .upper)
+
+  pub record-many : 24 < b .parts → refused 1 0 ≡ firstRefusal (recordChecks b)
+  record-many l = sym (refusal-here _ _ (lt-ltb _ _ l))
+
+  pub record-few : b .parts ≤ 24 → firstRefusal (editionChecks bounds (b .total)) ≡ firstRefusal (recordChecks b)
+  record-few l = sym (refusal-next _ _ (le-ltb _ _ l))
+
+  pub record-refused : 24 < b .parts → record { number = 1; detail = 0; bounds = boundsOf [] 0; count = 0 } ≡ recordOf b
+  unfolding recordOf
+  record-refused l = rw (← (record-many l))
+
+  pub record-checked : b .parts ≤ 24 → checkOf bounds (b .total) ≡ recordOf b
+  unfolding recordOf checkOf
+  record-checked l = rw (← (record-few l))

@@ -104,40 +104,16 @@ fn cell(upper: &[u8], total: usize, k: usize, row: Row, cells: &[u64], t: usize)
     cells[row.start + (t - row.low)]
 }
 
-// The same, and 0 above the band.
-fn cell_or_none(upper: &[u8], total: usize, k: usize, row: Row, cells: &[u64], t: usize) -> u64
-    requires { ⌜ (k ≤ length (now upper)) × (k ≤ 24) × (total ≤ 255) × (lowest (now upper) total k ≤ t) × (t ≤ total) × IsRow (now upper) total k row × (bandSize (now upper) total ≤ length (now cells)) × Row-holds (now upper) total (now cells) k 256 ⌝ }
-    ensures { λ r. ⌜ (r ≡ count (now (upper .entry)) k t) × (r < cap) ⌝ }
-{
-    if t <= row.high {
-        return cell(upper, total, k, row, cells, t);
-    }
-    0
-}
-
-// The window over row `k` moved from the sum `t` to `t + 1`.
-fn slide(upper: &[u8], total: usize, k: usize, row: Row, cells: &[u64], t: usize, w: u64) -> u64
-    requires { ⌜ (k < length (now upper)) × (k < 24) × (total ≤ 255) × (total ≤ whole (now upper)) × (lowest (now upper) total k ≤ t) × (t ≤ highest (now upper) total (k + 1)) × (w < cap) × IsRow (now upper) total k row × Slid (now upper) total k t w × (bandSize (now upper) total ≤ length (now cells)) × Row-holds (now upper) total (now cells) k 256 ⌝ }
-    ensures { λ r. ⌜ Slid (now (upper .entry)) total k (t + 1) r ⌝ }
-{
-    let m = bound(upper, k);
-    let e = cell_or_none(upper, total, k, row, cells, t);
-    if row.low + m < t {
-        let rest = w - cell(upper, total, k, row, cells, t - (m + 1));
-        return rest + e;
-    }
-    w + e
-}
-
 // The window before the first sum of the row after, or a number over 2^63 - 1.
 fn head(upper: &[u8], total: usize, k: usize, row: Row, next: Row, cells: &[u64]) -> u64
     requires { ⌜ (k < length (now upper)) × (k < 24) × (total ≤ 255) × (total ≤ whole (now upper)) × IsRow (now upper) total k row × IsRow (now upper) total (k + 1) next × (bandSize (now upper) total ≤ length (now cells)) × Row-holds (now upper) total (now cells) k 256 ⌝ }
     ensures { λ r. ⌜ (r < cap → Slid (now (upper .entry)) total k (next .low) r) × (cap ≤ r → cap ≤ count (now (upper .entry)) (length (now (upper .entry))) total) ⌝ }
 {
+    let end = walsh::lesser(next.low, row.high + 1);
     let mut w: u64 = 0;
     let mut t = row.low;
-    while t < next.low {
-        w = slide(upper, total, k, row, cells, t, w);
+    while t < end {
+        w += cell(upper, total, k, row, cells, t);
         if MOST < w {
             return w;
         }
@@ -146,7 +122,7 @@ fn head(upper: &[u8], total: usize, k: usize, row: Row, next: Row, cells: &[u64]
     w
 }
 
-// `slide` where it is known whether a cell enters the window and whether one leaves it.
+// The window over row `k` moved from the sum `t` to `t + 1`, where it is known whether a cell enters it and whether one leaves it.
 fn step(
     upper: &[u8],
     total: usize,

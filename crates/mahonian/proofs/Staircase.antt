@@ -1,36 +1,23 @@
 -- Staircase bounds: the test at a place, what it says of the bounds, and that the table has their count.
 use mathlib.Core.Path.{_≡_, refl, sym, ap, _∙_}
-use mathlib.Core.Bool.{Bool, true, false, cond, false≢true}
+use mathlib.Core.Bool.{Bool, true, false, cond}
 use mathlib.Core.Logic.{_↔_}
-use mathlib.Core.List.{List, [], _∷_}
+use mathlib.Core.List.{List, _∷_}
 use Prim.Native.Nat.{ℕ, suc, _+_, _-_, _≤_, _<_}
 use native.Mathlib.Numerals.{add-one}
 use native.Mathlib.Omega.{arith}
-use borrow.Author.Tests.{le-leb, lt-leb, eq-eqb, ne-eqb, eqb-true}
+use borrow.Author.Tests.{le-leb, lt-leb, eq-eqb, ne-eqb}
 use lib.Dec.{eqb}
 use lib.ListN.{length, getD, drop, length-drop, drop-of-length-le}
 use lib.Seq.{drop-cons}
 use Rattle.walsh.specs.Tests.{both}
 use Rattle.walsh.specs.Order.{countOf}
 use Rattle.walsh.specs.Serial.{same}
-use Rattle.walsh.proofs.Tests.{both-left, both-right}
+use Rattle.walsh.proofs.Serials.{same-refl, same-eq}
 use Rattle.mahonian.specs.Staircase.{staircase, isStaircase}
 use Rattle.mahonian.specs.Read.{readOf, staircaseCountOf}
 use Rattle.mahonian.specs.declared.Entry.the-variants.{Count, Outside}
 use Rattle.mahonian.proofs.Counting.{mahonian-count}
-
-same-refl : (g : List ℕ) → same g g ≡ true
-unfolding same
-same-refl [] = refl
-same-refl (x ∷ g) = rw (eq-eqb x x refl) (same-refl g)
-
-same-eq : (g h : List ℕ) → same g h ≡ true → g ≡ h
-unfolding same
-same-eq [] [] e = refl
-same-eq [] (y ∷ h) e = absurd (false≢true e)
-same-eq (x ∷ g) [] e = absurd (false≢true e)
-same-eq (x ∷ g) (y ∷ h) e =
-    rw (eqb-true x y (both-left (eqb x y) (same g h) e), same-eq g h (both-right (eqb x y) (same g h) e))
 
 -- ---- the test, at a place
 

@@ -15,6 +15,7 @@ pub enum Entry {
     Outside,
 }
 
+// A number of the table. The compiler writes a constant array out at each use, which is nearly all that a read costs.
 fn stored(i: usize) -> u64
     requires { ⌜ i < 695 ⌝ }
     ensures { λ r. ⌜ r ≡ getD table i 0 ⌝ }

@@ -3,16 +3,16 @@ use mathlib.Core.Path.{_≡_, refl, sym, ap, _∙_, subst}
 use mathlib.Core.Logic.{_↔_, _⊎_, inl, inr}
 use mathlib.Core.List.{List, [], _∷_, _++_}
 use Prim.Native.Nat.{ℕ, zero, suc, _+_, _-_, _≤_, _<_}
-use native.Mathlib.Nat.{not-suc-le-zero, le-of-suc-le-suc, zero-lt-suc, eq-or-lt-of-le, le-refl, zero-add, add-zero, add-suc, suc-add}
+use native.Mathlib.Nat.{not-suc-le-zero, le-of-suc-le-suc, eq-or-lt-of-le, le-refl, zero-add, add-zero, add-suc, suc-add}
 use native.Mathlib.Omega.{arith}
 use lib.ListN.{length, getD, take, length-append, List·getD-append}
 use lib.Seq.{getD-at, take-suc, take-length}
 use borrow.Author.Tests.{lt-ltb, le-ltb}
-use Rattle.walsh.specs.Sums.{sum, sumTo}
+use Rattle.walsh.specs.Sums.{sum}
 use Rattle.walsh.specs.Order.{CompositionTo, Composition, isOdd, least, most, partValue, partChoices, listing, order, count}
 use Rattle.walsh.specs.Rank.{partIndex, blockSize, rankOf, blockOf, unrankOf}
 use Rattle.walsh.proofs.Lists.{snoc-inj, sum-same, sum-le, sum-front, index-lt, value-index}
-use Rattle.walsh.proofs.Listing.{length-listing, listing-zero, listing-zero-length, Spot, spot, spot-lt, spot-at, spot-item, earlier, inner}
+use Rattle.walsh.proofs.Listing.{length-listing, listing-zero, listing-zero-length, Spot, spot, spot-lt, spot-at, spot-item, inner}
 
 -- ---- compositions, by the last part and the parts before it
 

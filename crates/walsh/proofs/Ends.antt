@@ -1,14 +1,14 @@
 -- The first and the last composition of a listing, and what follows the last of a block.
 use mathlib.Core.Path.{_≡_, refl, sym, ap, _∙_}
 use mathlib.Core.Bool.{Bool, true, false}
-use mathlib.Core.List.{List, [], _∷_, _++_, reverse, reverse-cons, reverse-reverse}
-use Prim.Native.Nat.{ℕ, zero, suc, pred, _+_, _-_, _≤_, _<_}
+use mathlib.Core.List.{List, [], _∷_, _++_, reverse, reverse-cons}
+use Prim.Native.Nat.{ℕ, zero, suc, _+_, _-_, _≤_, _<_}
 use native.Mathlib.Nat.{suc-add, sub-self, le-refl}
 use native.Mathlib.Omega.{arith}
 use lib.ListN.{length, getD, length-append, length-reverse, List·getD-append}
 use lib.Seq.{getD-at}
 use Rattle.walsh.specs.Sums.{sum, sumTo}
-use Rattle.walsh.specs.Order.{isOdd, least, most, choices, partChoices, listing, count}
+use Rattle.walsh.specs.Order.{isOdd, least, most, choices, partChoices, listing}
 use Rattle.walsh.specs.Rank.{indexOf, partIndex, blockSize}
 use Rattle.walsh.specs.Step.{firstValue, lastValue, nextValue, partFirst, partLast, firstOf}
 use Rattle.walsh.proofs.Lists.{isOdd-suc-suc, value-index}

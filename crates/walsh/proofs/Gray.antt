@@ -4,7 +4,7 @@ use mathlib.Core.Bool.{Bool, true, false, cond}
 use mathlib.Core.Logic.{_⊎_, inl, inr}
 use mathlib.Core.List.{List, [], _∷_, _++_}
 use Prim.Native.Nat.{ℕ, zero, suc, _+_, _-_, _≤_, _<_, max}
-use native.Mathlib.Nat.{not-suc-le-zero, add-suc, add-zero, le-refl, le-trans, min-le-right, suc-sub-suc}
+use native.Mathlib.Nat.{not-suc-le-zero, add-suc, le-refl, le-trans, min-le-right, suc-sub-suc}
 use native.Mathlib.Numerals.{add-one}
 use native.Mathlib.Omega.{arith}
 use native.Mathlib.Decide.{decLe, ℕ-discrete}
@@ -12,10 +12,10 @@ use lib.ListN.{length, getD, take, drop, List·getD-append}
 use lib.Seq.{getD-at, getD-append-add, split-at}
 use borrow.Author.Tests.{eq-eqb, ne-eqb}
 use Rattle.walsh.specs.Sums.{sumTo}
-use Rattle.walsh.specs.Order.{CompositionTo, Composition, isOdd, least, most, listing, order}
+use Rattle.walsh.specs.Order.{CompositionTo, Composition, isOdd, least, most, order}
 use Rattle.walsh.specs.Neighbours.{Neighbours}
 use Rattle.walsh.specs.Rank.{rankOf}
-use Rattle.walsh.specs.Step.{firstValue, lastValue, nextValue, partFirst, partLast, firstOf, AtLast, Pivot, stepAt, raisedPart, otherPart, gainPart, lossPart}
+use Rattle.walsh.specs.Step.{firstValue, lastValue, nextValue, partFirst, firstOf, AtLast, Pivot, stepAt, raisedPart, otherPart, gainPart, lossPart}
 use Rattle.walsh.proofs.Lists.{sum-mono}
 use Rattle.walsh.proofs.Listing.{inner}
 use Rattle.walsh.proofs.Complete.{complete, rank-composition, rank-at, composition-prefix, composition-low, composition-high}

@@ -6,7 +6,12 @@ pub mod Peel
 pub mod Window
 pub mod Product
 pub mod Complete
+pub mod Serials
+pub mod Compare
+pub mod Sorted
+pub mod Endings
 pub mod Ends
 pub mod Steps
+pub mod Successors
 pub mod Gray
 pub mod Every

@@ -1,14 +1,14 @@
 -- The listing: its length, its reversal, and its places. Place p of `listing ms (suc k) rem t` is place s of the block of a value v of part k.
 use mathlib.Core.Path.{_≡_, refl, sym, ap, _∙_}
-use mathlib.Core.Bool.{Bool, not}
+use mathlib.Core.Bool.{Bool, true, false}
 use mathlib.Core.List.{List, [], _∷_, _++_, map, reverse, reverse-cons}
 use Prim.Native.Nat.{ℕ, zero, suc, _+_, _-_, _≤_, _<_}
-use native.Mathlib.Nat.{suc-add, zero-lt-suc, not-suc-le-zero, le-of-suc-le-suc}
+use native.Mathlib.Nat.{suc-add, not-suc-le-zero, le-of-suc-le-suc}
 use native.Mathlib.Omega.{arith}
 use lib.ListN.{length, getD, length-map}
 use Rattle.walsh.specs.Sums.{sum, flat, sumTo}
-use Rattle.walsh.specs.Order.{isOdd, least, most, choices, valueAt, partValue, partChoices, behind, listing, count}
-use Rattle.walsh.specs.Rank.{indexOf, partIndex, blockSize}
+use Rattle.walsh.specs.Order.{isOdd, least, most, valueAt, partValue, partChoices, behind, listing, count}
+use Rattle.walsh.specs.Rank.{partIndex, blockSize}
 use Rattle.walsh.proofs.Lists.{sum-same, sum-none, length-flat, flat-lt, flat-at, Place, place, flat-mirror, isOdd-suc, value-low, value-high, index-value, index-lt, value-index, value-mirror, sum-values}
 
 -- ---- the number of compositions
@@ -163,3 +163,26 @@ module _ (ms : List ℕ) (k rem t : ℕ) where
   pub spot-item : (p : ℕ) (here : Spot p) → getD (listing ms (suc k) rem t) p [] ≡ getD (inner (here .v)) (here .s) [] ++ (here .v ∷ [])
   spot-item p here =
       ap (λ (q : ℕ). getD (listing ms (suc k) rem t) q []) (here .is) ∙ spot-at (here .v) (here .s) (here .low) (here .high) (here .s-lt)
+
+-- ---- the first part
+
+-- "g1 is then r minus the rest": where the first part is the only one left, it takes all that is left
+pub listing-one : (ms : List ℕ) (rem t : ℕ) → rem ≤ getD ms 0 0 → listing ms 1 rem t ≡ (rem ∷ []) ∷ []
+unfolding listing
+listing-one ms rem t h = ap (flat f) single ∙ ap (λ (v : ℕ). behind v (listing ms 0 (rem - v) (t + v))) (value (isOdd t)) ∙ rest
+  where
+    f : ℕ → List (List ℕ)
+    f i = behind (partValue ms 0 rem t i) (listing ms 0 (rem - partValue ms 0 rem t i) (t + partValue ms 0 rem t i))
+
+    single : partChoices ms 0 rem ≡ 1
+    single = omega arith
+
+    value : (odd : Bool) → valueAt (least ms 0 rem) (most ms 0 rem) odd 0 ≡ rem
+    value true = omega arith
+    value false = omega arith
+
+    none : rem - rem ≡ 0
+    none = omega arith
+
+    rest : behind rem (listing ms 0 (rem - rem) (t + rem)) ≡ (rem ∷ []) ∷ []
+    rest = rw none

@@ -1,10 +1,10 @@
 -- Laws of `sum`, `flat` and the values of a part, and of lists, that Walsh's order needs.
 use mathlib.Core.Path.{_≡_, refl, sym, ap, _∙_}
-use mathlib.Core.Bool.{Bool, true, false, cond, not}
+use mathlib.Core.Bool.{Bool, true, false, not}
 use mathlib.Core.Logic.{_⊎_, inl, inr}
 use mathlib.Core.List.{List, [], _∷_, _++_, append-assoc, append-nil, reverse, reverse-append, reverse-reverse, head-eq-of-cons-eq, tail-eq-of-cons-eq}
 use Prim.Native.Nat.{ℕ, zero, suc, _+_, _-_, _≤_, _<_, _%_}
-use native.Mathlib.Nat.{add-zero, zero-add, add-suc, add-assoc, suc-mod, mod-lt, le-of-suc-le-suc, not-suc-le-zero, zero-lt-suc, eq-or-lt-of-le, le-refl}
+use native.Mathlib.Nat.{add-zero, add-suc, suc-mod, mod-lt, le-of-suc-le-suc, not-suc-le-zero, zero-lt-suc, eq-or-lt-of-le, le-refl}
 use native.Mathlib.Decide.{decLe, decLt, le-ind}
 use native.Mathlib.Omega.{arith}
 use lib.Dec.{eqb}

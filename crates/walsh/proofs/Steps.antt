@@ -1,5 +1,5 @@
 -- The step to the next valid: the first part that is not at its last value moves, and the parts to the left of it start again.
-use mathlib.Core.Path.{_≡_, refl, sym, ap, _∙_, subst}
+use mathlib.Core.Path.{_≡_, sym, ap, _∙_, subst}
 use mathlib.Core.Logic.{_⊎_, inl, inr}
 use mathlib.Core.List.{List, [], _∷_, _++_, reverse}
 use Prim.Native.Nat.{ℕ, zero, suc, _+_, _-_, _≤_, _<_}
@@ -9,7 +9,7 @@ use native.Mathlib.Omega.{arith}
 use lib.ListN.{length, getD, take, drop, length-append, length-drop}
 use lib.Seq.{take-suc, take-at, take-length, getD-append-add, getD-drop, append-snoc}
 use Rattle.walsh.specs.Sums.{sumTo}
-use Rattle.walsh.specs.Order.{CompositionTo, Composition, isOdd, least, most, listing, order}
+use Rattle.walsh.specs.Order.{CompositionTo, Composition, isOdd, listing, order}
 use Rattle.walsh.specs.Rank.{rankOf}
 use Rattle.walsh.specs.Step.{nextValue, partLast, firstOf, AtLast, Pivot, stepAt}
 use Rattle.walsh.proofs.Listing.{length-listing, listing-reverse, listing-zero-length, spot-lt, spot-at, earlier, inner}

@@ -3,7 +3,7 @@
 --
 -- The document's mix g1..gn is a list g, its ceilings m1..mn a list ms of any numbers (0 too), its total r any number. Parts are counted from
 -- 0 here: part k, `getD g k 0`, is the document's g(k+1), and `sumTo ms k` is the sum of the bounds to its left.
-use mathlib.Core.Path.{_≡_}
+use mathlib.Core.Path.{_≡_, refl}
 use mathlib.Core.Bool.{Bool, cond}
 use mathlib.Core.List.{List, [], _∷_, _++_, map}
 use Prim.Native.Nat.{ℕ, zero, suc, _+_, _-_, _%_, _≤_, _<_, min}
@@ -81,3 +81,29 @@ count ms (suc k) rem = sum (λ v. count ms k (rem - v)) (suc (most ms k rem))
 -- the document's N, "the number of mixes"
 unfoldable pub countOf : List ℕ → ℕ → ℕ
 countOf ms r = count ms (length ms) r
+
+-- ---- the document's example, computed: ceilings 2 2 2 and total 3
+
+abbrev pub threeTwos : List ℕ
+threeTwos = 2 ∷ 2 ∷ 2 ∷ []
+
+-- its seven mixes, as the document lists them
+abbrev pub seven : List (List ℕ)
+seven =
+    (2 ∷ 1 ∷ 0 ∷ [])
+    ∷ (1 ∷ 2 ∷ 0 ∷ [])
+    ∷ (0 ∷ 2 ∷ 1 ∷ [])
+    ∷ (1 ∷ 1 ∷ 1 ∷ [])
+    ∷ (2 ∷ 0 ∷ 1 ∷ [])
+    ∷ (1 ∷ 0 ∷ 2 ∷ [])
+    ∷ (0 ∷ 1 ∷ 2 ∷ [])
+    ∷ []
+
+the-order : order threeTwos 3 ≡ seven
+unfolding order listing
+the-order = refl
+
+-- "N is 7 and not 1"
+the-count : countOf threeTwos 3 ≡ 7
+unfolding countOf count
+the-count = refl

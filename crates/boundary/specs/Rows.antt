@@ -1,0 +1,32 @@
+-- Document 01, "Boundary copies": the table.
+use mathlib.Core.List.{List, [], _∷_}
+use Prim.Native.Nat.{ℕ, zero, suc}
+use Rattle.walsh.specs.Order.{threeTwos, seven}
+use Rattle.boundary.specs.Row.{Claim, lists, serial, next, Row}
+
+abbrev row : List ℕ → ℕ → Claim → Row
+row ms r claim = record { bounds = ms; total = r; claim = claim }
+
+unfoldable pub rows : List Row
+rows =
+    -- A: the seven compositions of 2 2 2 with total 3; B: the third of them; C: what follows the fifth
+    row threeTwos 3 (lists seven)
+    ∷ row threeTwos 3 (serial (0 ∷ 2 ∷ 1 ∷ []) 3)
+    ∷ row threeTwos 3 (next (2 ∷ 0 ∷ 1 ∷ []) (1 ∷ 0 ∷ 2 ∷ []))
+    -- D
+    ∷ row threeTwos 5 (lists ((2 ∷ 2 ∷ 1 ∷ []) ∷ (2 ∷ 1 ∷ 2 ∷ []) ∷ (1 ∷ 2 ∷ 2 ∷ []) ∷ []))
+    -- E: one bound of 5
+    ∷ row (5 ∷ []) 5 (lists ((5 ∷ []) ∷ []))
+    -- F: bounds 2 2, the smallest total and the largest
+    ∷ row (2 ∷ 2 ∷ []) 0 (lists ((0 ∷ 0 ∷ []) ∷ []))
+    ∷ row (2 ∷ 2 ∷ []) 4 (lists ((2 ∷ 2 ∷ []) ∷ []))
+    -- G: the staircase of four
+    ∷ row (3 ∷ 2 ∷ 1 ∷ []) 3
+    (lists ((3 ∷ 0 ∷ 0 ∷ []) ∷ (2 ∷ 1 ∷ 0 ∷ []) ∷ (1 ∷ 2 ∷ 0 ∷ []) ∷ (0 ∷ 2 ∷ 1 ∷ []) ∷ (1 ∷ 1 ∷ 1 ∷ []) ∷ (2 ∷ 0 ∷ 1 ∷ []) ∷ []))
+    ∷ []
+
+-- row number i, from 0
+abbrev pub rowAt : List Row → ℕ → Row
+rowAt [] i = row [] 0 (lists ([] ∷ []))
+rowAt (x ∷ xs) zero = x
+rowAt (x ∷ xs) (suc i) = rowAt xs i
