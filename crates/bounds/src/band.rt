@@ -8,7 +8,7 @@ ghost use Rattle.walsh.specs.Sums.{sum, sumTo};
 ghost use Rattle.walsh.specs.Order.{count};
 ghost use Rattle.bounds.specs.Edition.{whole, shapeChecks};
 ghost use Rattle.bounds.specs.Refusal.{firstRefusal};
-ghost use Rattle.bounds.specs.Band.{lowest, highest, InBand, bandSize, cap, Row-holds, Rows-hold, Band, IsRow, surveyOf, numberOf, countedOf};
+ghost use Rattle.bounds.specs.Band.{lowest, highest, InBand, bandSize, cap, Row-holds, Rows-hold, Band, IsRow, surveyOf, limited, numberOf, countedOf};
 ghost use Rattle.bounds.specs.Window.{Slid};
 
 const MOST: u64 = 9_223_372_036_854_775_807;
@@ -326,6 +326,20 @@ fn uncounted(number: u32, detail: u64) -> Counted
     }
 }
 
+// N, or 5 where it is over the limit.
+fn within_limit(n: u64) -> Counted
+    ensures { λ r. ⌜ r ≡ limited n ⌝ }
+{
+    if MOST < n {
+        return uncounted(5, 0);
+    }
+    Counted {
+        number: 0,
+        detail: 0,
+        count: n,
+    }
+}
+
 // The checks 1 to 4, and how many cells the table has.
 pub fn survey(upper: &[u8], total: u32) -> Surveyed
     ensures { λ r. ⌜ r ≡ surveyOf (now (upper .entry)) total ⌝ }
@@ -353,15 +367,8 @@ fn fill_shaped(upper: &[u8], total: u32, all: usize, cells: &mut [u64]) -> Count
     requires { ⌜ (firstRefusal (shapeChecks (now upper) total) .number ≡ 0) × (all ≡ whole (now upper)) × (bandSize (now upper) total ≤ length (now cells)) ⌝ }
     ensures { λ r. ⌜ (r ≡ numberOf (now (upper .entry)) total) × (r .number ≡ 0 → Band (now (upper .entry)) total (now (cells .exit))) ⌝ }
 {
-    let count = fill_rows(upper, total as usize, all, cells);
-    if MOST < count {
-        return uncounted(5, 0);
-    }
-    Counted {
-        number: 0,
-        detail: 0,
-        count,
-    }
+    let n = fill_rows(upper, total as usize, all, cells);
+    within_limit(n)
 }
 
 // Fills the table and answers N, or the first of the refusals 1 to 4, 13 where `cells` is too short, and 5.
@@ -379,32 +386,44 @@ pub fn fill(upper: &[u8], total: u32, cells: &mut [u64]) -> Counted
     fill_shaped(upper, total, s.all, cells)
 }
 
-// N, or the refusal: with a table of its own.
-pub fn count(upper: &[u8], total: u32) -> Counted
+// N of a shape that is accepted, by a table that is as large as it has to be.
+fn count_by_table(upper: &[u8], total: u32, all: usize) -> Counted
+    requires { ⌜ (firstRefusal (shapeChecks (now upper) total) .number ≡ 0) × (all ≡ whole (now upper)) ⌝ }
     ensures { λ r. ⌜ r ≡ numberOf (now (upper .entry)) total ⌝ }
 {
-    let s = survey(upper, total);
-    if 0 < s.number {
-        return uncounted(s.number, s.detail);
-    }
-    let size = s.size;
-    let all = s.all;
-    if size <= 64 {
+    let row = last(upper, total as usize, all);
+    let start = row.start;
+    if start < 64 {
         let mut cells = [0u64; 64];
         return fill_shaped(upper, total, all, &mut cells);
     }
-    if size <= 256 {
+    if start < 256 {
         let mut cells = [0u64; 256];
         return fill_shaped(upper, total, all, &mut cells);
     }
-    if size <= 1024 {
+    if start < 1024 {
         let mut cells = [0u64; 1024];
         return fill_shaped(upper, total, all, &mut cells);
     }
-    if size <= 2048 {
+    if start < 2048 {
         let mut cells = [0u64; 2048];
         return fill_shaped(upper, total, all, &mut cells);
     }
     let mut cells = [0u64; 6145];
     fill_shaped(upper, total, all, &mut cells)
+}
+
+// N, or the refusal. "N of a puzzle edition of 2 to 16 sheets is read from" the constant table.
+pub fn count(upper: &[u8], total: u32) -> Counted
+    ensures { λ r. ⌜ r ≡ numberOf (now (upper .entry)) total ⌝ }
+{
+    let s = crate::shape(upper, total);
+    if 0 < s.number {
+        return uncounted(s.number, s.detail);
+    }
+    let e = mahonian::staircase_count(upper, total);
+    if let mahonian::Entry::Count(n) = e {
+        return within_limit(n);
+    }
+    count_by_table(upper, total, s.all)
 }
