@@ -1,5 +1,5 @@
 -- `permutation::is_permutation` meets its contract. Each of the values 1..v stands once.
-use mathlib.Core.Path.{_≡_, sym, _∙_}
+use mathlib.Core.Path.{_≡_, sym}
 use mathlib.Core.Bool.{true}
 use Prim.Native.Nat.{_-_, _≤_}
 use native.Mathlib.Omega.{arith}
