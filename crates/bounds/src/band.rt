@@ -208,91 +208,19 @@ fn fill_row(upper: &[u8], total: usize, k: usize, row: Row, next: Row, cells: &m
     let m = bound(upper, k);
     let full = row.low + m;
     let end = next.high + 1;
-    let first = between(next.low, walsh::lesser(row.high, full), end);
-    let w1 = fill_part(
-        upper,
-        total,
-        k,
-        m,
-        row,
-        next,
-        cells,
-        next.low,
-        first,
-        w0,
-        true,
-        false,
-    );
+    let least = walsh::lesser(row.high, full);
+    let first = between(next.low, least, end);
+    let w1 = fill_part(upper, total, k, m, row, next, cells, next.low, first, w0, true, false);
     if MOST < w1 {
         return false;
     }
-    if full < row.high {
-        let second = between(first, row.high, end);
-        let w2 = fill_part(
-            upper,
-            total,
-            k,
-            m,
-            row,
-            next,
-            cells,
-            first,
-            second,
-            w1,
-            true,
-            true,
-        );
-        if MOST < w2 {
-            return false;
-        }
-        let w3 = fill_part(
-            upper,
-            total,
-            k,
-            m,
-            row,
-            next,
-            cells,
-            second,
-            end,
-            w2,
-            false,
-            true,
-        );
-        return w3 <= MOST;
-    }
-    let second = between(first, full, end);
-    let w2 = fill_part(
-        upper,
-        total,
-        k,
-        m,
-        row,
-        next,
-        cells,
-        first,
-        second,
-        w1,
-        false,
-        false,
-    );
+    let both = full < row.high;
+    let second = between(first, row.high + full - least, end);
+    let w2 = fill_part(upper, total, k, m, row, next, cells, first, second, w1, both, both);
     if MOST < w2 {
         return false;
     }
-    let w3 = fill_part(
-        upper,
-        total,
-        k,
-        m,
-        row,
-        next,
-        cells,
-        second,
-        end,
-        w2,
-        false,
-        true,
-    );
+    let w3 = fill_part(upper, total, k, m, row, next, cells, second, end, w2, false, true);
     w3 <= MOST
 }
 
