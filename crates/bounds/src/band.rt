@@ -210,17 +210,56 @@ fn fill_row(upper: &[u8], total: usize, k: usize, row: Row, next: Row, cells: &m
     let end = next.high + 1;
     let least = walsh::lesser(row.high, full);
     let first = between(next.low, least, end);
-    let w1 = fill_part(upper, total, k, m, row, next, cells, next.low, first, w0, true, false);
+    let w1 = fill_part(
+        upper,
+        total,
+        k,
+        m,
+        row,
+        next,
+        cells,
+        next.low,
+        first,
+        w0,
+        true,
+        false,
+    );
     if MOST < w1 {
         return false;
     }
     let both = full < row.high;
     let second = between(first, row.high + full - least, end);
-    let w2 = fill_part(upper, total, k, m, row, next, cells, first, second, w1, both, both);
+    let w2 = fill_part(
+        upper,
+        total,
+        k,
+        m,
+        row,
+        next,
+        cells,
+        first,
+        second,
+        w1,
+        both,
+        both,
+    );
     if MOST < w2 {
         return false;
     }
-    let w3 = fill_part(upper, total, k, m, row, next, cells, second, end, w2, false, true);
+    let w3 = fill_part(
+        upper,
+        total,
+        k,
+        m,
+        row,
+        next,
+        cells,
+        second,
+        end,
+        w2,
+        false,
+        true,
+    );
     w3 <= MOST
 }
 

@@ -4,7 +4,6 @@ use mathlib.Core.Bool.{true, false, false≢true}
 use Prim.Native.Nat.{ℕ, _+_, _-_, _≤_, _<_, min}
 use native.Mathlib.Nat.{le-refl, le-trans}
 use native.Mathlib.Omega.{arith}
-use lib.ListN.{length}
 use denote.Ref.{now}
 use mir.Val.{Fits}
 use mir.Syntax.{w64}
@@ -90,7 +89,19 @@ fill-part-requires c κs =
     let b1 = c .before .between .ensures in
     let w0 = lt-of (c .before .before .before .before .before .before .if1 .left) in
     let e = c .before .before .lesser .ensures in (
-      p .0, p .1, p .2, p .3, c .before .before .before .before .before .bound .ensures .0, p .4, p .5, p .6, le-refl _, b1 .0, b1 .1, w0, p .7,
+      p .0,
+      p .1,
+      p .2,
+      p .3,
+      c .before .before .before .before .before .bound .ensures .0,
+      p .4,
+      p .5,
+      p .6,
+      le-refl _,
+      b1 .0,
+      b1 .1,
+      w0,
+      p .7,
       row-none (now (a .upper)) (a .total) (a .k + 1) (now (a .cells)) (a .next) (p .5),
       c .before .before .before .before .before .before .before .head .ensures .0 w0,
       λ go q. growing _ _ _ e _ (b1 .2 go) .0,
@@ -109,7 +120,21 @@ fill-part-requires-2 c κs =
     let w1 = lt-of (c .before .before .before .before .if2 .left) in
     let st = f .ensures .0 w1 in
     let e = c .before .before .before .before .before .before .before .before .before .before .lesser .ensures in (
-      p .0, p .1, p .2, p .3, c .before .before .before .before .before .before .before .before .before .before .before .before .before .bound .ensures .0, p .4, p .5, rw (f .kept .1 .1 .1 .1 .1 .1 .0) (p .6), b1 .0, b2 .0, b2 .1, w1, st .0, st .1, st .2,
+      p .0,
+      p .1,
+      p .2,
+      p .3,
+      c .before .before .before .before .before .before .before .before .before .before .before .before .before .bound .ensures .0,
+      p .4,
+      p .5,
+      rw (f .kept .1 .1 .1 .1 .1 .1 .0) (p .6),
+      b1 .0,
+      b2 .0,
+      b2 .1,
+      w1,
+      st .0,
+      st .1,
+      st .2,
       λ go q. same _ _ _ (sliding _ _ _ e _ (b1 .3 (lt-le go (b2 .1))) (ltb-true _ _ q) .1) (b2 .2 go),
       λ go q. staying _ _ _ e _ (b1 .3 (lt-le go (b2 .1))) (ltb-false _ _ q) .0,
       λ go q. sliding _ _ _ e _ (b1 .3 (lt-le go (b2 .1))) (ltb-true _ _ q) .0,
@@ -127,8 +152,21 @@ fill-part-requires-3 c κs =
     let w2 = lt-of (c .before .if3 .left) in
     let st = g .ensures .0 w2 in
     let e = c .before .before .before .before .before .before .before .before .before .before .before .before .before .before .before .lesser .ensures in (
-      p .0, p .1, p .2, p .3, c .before .before .before .before .before .before .before .before .before .before .before .before .before .before .before .before .before .before .bound .ensures .0, p .4, p .5, rw (g .kept .1 .1 .1 .1 .1 .1 .0 ∙ f .kept .1 .1 .1 .1 .1 .1 .0) (p .6),
-      le-trans (b1 .0) (b2 .0), b2 .1, le-refl _, w2, st .0, st .1, st .2,
+      p .0,
+      p .1,
+      p .2,
+      p .3,
+      c .before .before .before .before .before .before .before .before .before .before .before .before .before .before .before .before .before .before .bound .ensures .0,
+      p .4,
+      p .5,
+      rw (g .kept .1 .1 .1 .1 .1 .1 .0 ∙ f .kept .1 .1 .1 .1 .1 .1 .0) (p .6),
+      le-trans (b1 .0) (b2 .0),
+      b2 .1,
+      le-refl _,
+      w2,
+      st .0,
+      st .1,
+      st .2,
       λ go q. no′ q,
       λ go q. shrinking _ _ _ e _ (b2 .3 go) .0,
       λ go q. shrinking _ _ _ e _ (b2 .3 go) .1,
@@ -141,7 +179,7 @@ returns-4 c =
     let a = s .args in
     let g = c .before .before .fill-part3 in (
       λ h. let st = g .ensures .0 (lt-of (leb-true _ _ h)) in
-      row-filled (now (a .upper)) (a .total) (a .k) (a .next .high + 1) (g .last .1 .1 .1 .1 .1 .1 .0) (st .0) (st .1) (past (s .pre .5 .high)),
+          row-filled (now (a .upper)) (a .total) (a .k) (a .next .high + 1) (g .last .1 .1 .1 .1 .1 .1 .0) (st .0) (st .1) (past (s .pre .5 .high)),
       λ h. g .ensures .1 (leb-false _ _ h),
     )
 
