@@ -12,6 +12,7 @@ use Rattle.bounds.specs.Refusal.{Check, check, firstRefusal}
 use Rattle.bounds.specs.declared.Refusal.{Refusal}
 use Rattle.bounds.specs.declared.Bounds.{Bounds}
 use Rattle.bounds.specs.declared.Checked.{Checked}
+use Rattle.bounds.specs.declared.Shaped.{Shaped}
 
 -- "a ceiling is outside 1..60"
 abbrev pub outside : ℕ → Bool
@@ -22,18 +23,32 @@ unfoldable pub firstOutside : List ℕ → ℕ → ℕ
 firstOutside [] i = 0
 firstOutside (m ∷ ms) i = cond (outside m) (i + 1) (firstOutside ms (i + 1))
 
+-- "the sum of ceilings"
+abbrev pub whole : List ℕ → ℕ
+whole ms = sumTo ms (length ms)
+
 -- the place 'edition', without its last check
 abbrev pub shapeChecks : List ℕ → ℕ → List Check
 shapeChecks ms r =
     check 1 (either (eqb (length ms) 0) (ltb 24 (length ms))) 0
     ∷ check 2 (ltb 0 (firstOutside ms 0)) (firstOutside ms 0)
     ∷ check 3 (ltb 255 r) 0
-    ∷ check 4 (ltb (sumTo ms (length ms)) r) 0
+    ∷ check 4 (ltb (whole ms) r) 0
     ∷ []
 
 -- the place 'edition'
 abbrev pub editionChecks : List ℕ → ℕ → List Check
 editionChecks ms r = shapeChecks ms r ++ (check 5 (ltb 9223372036854775807 (countOf ms r)) 0 ∷ [])
+
+-- the answer of the checks 1 to 4, with the sum of the ceilings where they refuse nothing
+abbrev pub shapedBy : Refusal → List ℕ → Shaped
+shapedBy v ms =
+    cond (eqb (v .number) 0)
+    (record { number = 0; detail = 0; all = whole ms })
+    (record { number = v .number; detail = v .detail; all = 0 })
+
+unfoldable pub shapedOf : List ℕ → ℕ → Shaped
+shapedOf ms r = shapedBy (firstRefusal (shapeChecks ms r)) ms
 
 -- "the record keeps n, 24 cells and r"; "Array cells past n are 0."
 unfoldable pub cellsOf : List ℕ → List ℕ

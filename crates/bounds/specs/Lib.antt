@@ -1,2 +1,4 @@
 pub mod Refusal
 pub mod Edition
+pub mod Band
+pub mod Window

@@ -14,7 +14,10 @@ pub record Check : Type 0 where
 abbrev pub check : ℕ → Bool → ℕ → Check
 check number holds detail = record { number = number; holds = holds; detail = detail }
 
+abbrev pub refused : ℕ → ℕ → Refusal
+refused number detail = record { number = number; detail = detail }
+
 -- the number and the detail of the first check that holds; 0 and 0 where none does
 unfoldable pub firstRefusal : List Check → Refusal
-firstRefusal [] = record { number = 0; detail = 0 }
-firstRefusal (c ∷ cs) = cond (c .holds) (record { number = c .number; detail = c .detail }) (firstRefusal cs)
+firstRefusal [] = refused 0 0
+firstRefusal (c ∷ cs) = cond (c .holds) (refused (c .number) (c .detail)) (firstRefusal cs)

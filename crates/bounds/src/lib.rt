@@ -1,5 +1,10 @@
 // Editions (document 01, "Editions and their number"): the checks 1 to 5, and N.
 ghost use mathlib.Core.Path.{_≡_};
+ghost use Prim.Native.Nat.{ℕ, _≤_};
+ghost use lib.ListN.{length};
+ghost use Rattle.bounds.specs.Edition.{whole, outside, firstOutside, shapedOf};
+
+pub mod band;
 
 // A refusal's number and detail; 0 and 0 where nothing is refused.
 #[repr(C)]
@@ -23,4 +28,81 @@ pub struct Checked {
     pub detail: u64,
     pub bounds: Bounds,
     pub count: u64,
+}
+
+// What the checks 1 to 4 answer, and the sum of the bounds where they refuse nothing.
+struct Shaped {
+    number: u32,
+    detail: u64,
+    all: usize,
+}
+
+// The first part, from 1, with a bound outside 1..60, or 0; and the sum of the bounds before it.
+struct Scanned {
+    outside: usize,
+    all: usize,
+}
+
+fn is_outside(m: usize) -> bool
+    ensures { λ r. ⌜ r ≡ outside m ⌝ }
+{
+    if m < 1 { true } else { 60 < m }
+}
+
+fn scan(upper: &[u8]) -> Scanned
+    requires { ⌜ length (now upper) ≤ 24 ⌝ }
+    ensures { λ r. ⌜ (r .outside ≡ firstOutside (now (upper .entry)) 0) × (r .outside ≡ 0 → r .all ≡ whole (now (upper .entry))) ⌝ }
+{
+    let mut all = 0;
+    let mut i = 0;
+    while i < upper.len() {
+        let m = walsh::wide(upper[i]);
+        if is_outside(m) {
+            return Scanned {
+                outside: i + 1,
+                all,
+            };
+        }
+        all += m;
+        i += 1;
+    }
+    Scanned { outside: 0, all }
+}
+
+// The checks 1 to 4, in one pass over the bounds.
+fn shape(upper: &[u8], total: u32) -> Shaped
+    ensures { λ r. ⌜ r ≡ shapedOf (now (upper .entry)) total ⌝ }
+{
+    let n = upper.len();
+    if n == 0 {
+        return unshaped(1, 0);
+    }
+    if 24 < n {
+        return unshaped(1, 0);
+    }
+    let s = scan(upper);
+    if 0 < s.outside {
+        return unshaped(2, s.outside as u64);
+    }
+    if 255 < total {
+        return unshaped(3, 0);
+    }
+    if s.all < total as usize {
+        return unshaped(4, 0);
+    }
+    Shaped {
+        number: 0,
+        detail: 0,
+        all: s.all,
+    }
+}
+
+fn unshaped(number: u32, detail: u64) -> Shaped
+    ensures { λ r. ⌜ r ≡ record { number = number; detail = detail; all = 0 } ⌝ }
+{
+    Shaped {
+        number,
+        detail,
+        all: 0,
+    }
 }

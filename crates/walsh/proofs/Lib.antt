@@ -1,7 +1,9 @@
 pub mod Tests
+pub mod Cases
 pub mod Lists
 pub mod Listing
 pub mod Peel
+pub mod Window
 pub mod Complete
 pub mod Serials
 pub mod Compare

@@ -1,0 +1,6 @@
+pub mod Refusals
+pub mod Editions
+pub mod Answers
+pub mod Bands
+pub mod Slides
+pub mod Rows
