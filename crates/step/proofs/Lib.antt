@@ -1,3 +1,5 @@
 pub mod Turns
 pub mod Refills
-pub mod Forward
+pub mod Ways
+pub mod Answers
+pub mod Cells

@@ -1,2 +1,5 @@
+pub mod Steps
 pub mod Advance
+pub mod Batch
 pub mod Turn
+pub mod Stand
