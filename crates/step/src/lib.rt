@@ -3,7 +3,7 @@
 // one more, so every part runs the other way.
 pub mod batch;
 pub mod stand;
-use bounds::Refusal;
+use bounds::limit;
 use places::composition_refusal;
 use walsh::first_value;
 use walsh::is_odd;
@@ -19,8 +19,7 @@ ghost use lib.Dec.{ltb};
 ghost use lib.ListN.{length, drop};
 ghost use Rattle.walsh.specs.Sums.{sumTo};
 ghost use Rattle.walsh.specs.Step.{firstOf};
-ghost use Rattle.bounds.specs.Refusal.{firstRefusal};
-ghost use Rattle.bounds.specs.Edition.{editionChecks, cellsOf};
+ghost use Rattle.bounds.specs.Edition.{cellsOf};
 ghost use Rattle.step.specs.Steps.{successorOf, predecessorOf};
 ghost use Rattle.step.specs.Advance.{Advances};
 ghost use Rattle.step.specs.Turn.{Found-at, Turned, Shifted, stepOf};
@@ -139,16 +138,6 @@ pub fn advance(upper: &[u8], total: u32, parts: &mut [u8]) -> bool
     turn(upper, total as usize, parts)
 }
 
-// stand-in
-fn edition_refusal(upper: &[u8], total: u32) -> Refusal
-    ensures { λ r. ⌜ r ≡ firstRefusal (editionChecks (now (upper .entry)) total) ⌝ }
-{
-    Refusal {
-        number: 0,
-        detail: 0,
-    }
-}
-
 fn copy(from: &[u8], out: &mut [u8])
     requires { ⌜ length (now out) ≡ length (now from) ⌝ }
     ensures { λ _. ⌜ now (out .exit) ≡ now (from .entry) ⌝ }
@@ -203,7 +192,7 @@ fn shift(upper: &[u8], total: usize, parts: &[u8]) -> Stepped
 fn step(upper: &[u8], total: u32, composition: &[u8], back: bool) -> Stepped
     ensures { λ r. ⌜ r ≡ stepOf back (now (upper .entry)) total (now (composition .entry)) ⌝ }
 {
-    let edition = edition_refusal(upper, total);
+    let edition = limit::refusal(upper, total);
     if 0 < edition.number {
         return stopped(edition.number, edition.detail);
     }
