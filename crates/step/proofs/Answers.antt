@@ -21,10 +21,6 @@ use Rattle.step.specs.Turn.{Turn, shiftedBy, Shifted, endChecks, stepOf}
 use Rattle.step.specs.declared.Stepped.{Stepped}
 use Rattle.step.proofs.Ways.{way-reached, moving, way-on, way-off}
 
--- an accepted edition
-pub edition-shape : (ms : List ℕ) (r : ℕ) → firstRefusal (editionChecks ms r) .number ≡ 0 → Shapely ms r
-edition-shape ms r e = shapely ms r (accepts-split (shapeChecks ms r) (check 5 _ 0 ∷ []) refl e .0)
-
 module _ (back : Bool) (ms : List ℕ) (r : ℕ) (g : List ℕ) where
   abbrev given : List Check
   given = compositionChecks ms r g

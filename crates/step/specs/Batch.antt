@@ -1,5 +1,6 @@
 -- Document 01, "Trays": "From a serial s and a number c of copies: copy j of the batch, j from 0, is written from byte j × n of the tray. 6 if s is
 -- outside 1..N or c exceeds N − s + 1; then 13 unless the tray has c × n bytes. c = 0 writes nothing."
+use mathlib.Core.Bool.{Bool}
 use mathlib.Core.List.{List, [], _∷_, _++_}
 use Prim.Native.Nat.{ℕ, zero, suc, _+_, _-_, _*_}
 use lib.Dec.{eqb, ltb}
@@ -12,9 +13,13 @@ use Rattle.bounds.specs.Edition.{editionChecks}
 use Rattle.bounds.specs.Places.{lentChecks, filling}
 use Rattle.bounds.specs.declared.Refusal.{Refusal}
 
--- the place 'serial given' in trays, where N is n
+-- "s is outside 1..N or c exceeds N − s + 1", where N is n
+abbrev pub beyond : ℕ → ℕ → ℕ → Bool
+beyond n s c = either (either (eqb s 0) (ltb n s)) (ltb (n - s + 1) c)
+
+-- the place 'serial given' in trays
 abbrev pub rangeChecks : ℕ → ℕ → ℕ → List Check
-rangeChecks n s c = check 6 (either (either (eqb s 0) (ltb n s)) (ltb (n - s + 1) c)) 0 ∷ []
+rangeChecks n s c = check 6 (beyond n s c) 0 ∷ []
 
 abbrev pub batchChecks : List ℕ → ℕ → ℕ → ℕ → List Check
 batchChecks ms r s c = rangeChecks (countOf ms r) s c

@@ -2,42 +2,56 @@
 ghost use mathlib.Core.Path.{_≡_};
 ghost use mathlib.Core.List.{List, _++_};
 ghost use Prim.Native.Nat.{ℕ, _+_, _*_, _≤_, _<_};
+ghost use lib.Dec.{eqb};
 ghost use lib.ListN.{length, take};
 ghost use Rattle.walsh.specs.Order.{Composition, countOf};
 ghost use Rattle.walsh.specs.Serial.{serialOf};
 ghost use Rattle.bounds.specs.Refusal.{firstRefusal};
 ghost use Rattle.bounds.specs.Places.{lentChecks};
 ghost use Rattle.bounds.specs.declared.Refusal.{Refusal};
-ghost use Rattle.step.specs.Batch.{rangeChecks, copiesOf, batchOf};
+ghost use Rattle.step.specs.Batch.{beyond, rangeChecks, copiesOf, batchOf};
 use crate::copy;
 use crate::stand::locate;
 use crate::turn;
 use bounds::Refusal;
 use places::refusal;
 
-// The places 'serial given' and 'lent part'. As many copies as the lent part has room for is asked first: so the product does not wrap.
+// The serials that the copies begin with and end with are not both within 1..count.
+fn is_beyond(count: u64, serial: u64, copies: u64) -> bool
+    ensures { λ r. ⌜ r ≡ beyond count serial copies ⌝ }
+{
+    if serial == 0 {
+        return true;
+    }
+    if count < serial {
+        return true;
+    }
+    count - serial + 1 < copies
+}
+
+// `have` bytes are as many as the copies have. By division: the product may not fit.
+fn is_room(n: usize, copies: u64, have: usize) -> bool
+    requires { ⌜ 0 < n ⌝ }
+    ensures { λ r. ⌜ r ≡ eqb have (copies * n) ⌝ }
+{
+    if have % n != 0 {
+        return false;
+    }
+    (have / n) as u64 == copies
+}
+
+// The places 'serial given' and 'lent part'.
 fn room_refusal(count: u64, n: usize, serial: u64, copies: u64, have: usize) -> Refusal
     requires { ⌜ 0 < n ⌝ }
     ensures { λ r. ⌜ r ≡ firstRefusal (rangeChecks count serial copies ++ lentChecks (copies * n) have) ⌝ }
 {
-    if serial == 0 {
+    if is_beyond(count, serial, copies) {
         return refusal(6);
     }
-    if count < serial {
-        return refusal(6);
+    if is_room(n, copies, have) {
+        return refusal(0);
     }
-    if count - serial < copies {
-        if count - serial + 1 < copies {
-            return refusal(6);
-        }
-    }
-    if (have / n) as u64 != copies {
-        return refusal(13);
-    }
-    if have % n != 0 {
-        return refusal(13);
-    }
-    refusal(0)
+    refusal(13)
 }
 
 // Writes `copies` compositions from `first` on, each into a part of `out` of its own.
