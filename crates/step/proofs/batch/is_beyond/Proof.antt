@@ -1,24 +1,14 @@
+-- `step::batch::is_beyond` meets its contract.
 use borrow.Author.Needs.{needs}
+use borrow.Author.Tests.{eq-eqb, ne-eqb, lt-ltb, le-ltb}
 use Rattle.step.proofs.batch.is_beyond.Statement.{statement}
 use Rattle.step.proofs.batch.is_beyond.Tie as tie
-use Rattle.step.proofs.batch.is_beyond.Reads as reads
-use Rattle.step.proofs.batch.is_beyond.Lts as lts
-
--- src/batch.rt:24:9
-returns : tie.Need-returns
-returns c = search needs
-
--- src/batch.rt:27:9
-returns-2 : tie.Need-returns-2
-returns-2 c = search needs
-
--- src/batch.rt:29:5
-add-result : tie.Need-add-result
-add-result c = search needs
-
--- src/batch.rt:20:1
-returns-3 : tie.Need-returns-3
-returns-3 c = search needs
 
 pub is-beyond-spec : {M : Type 1} → statement M
-is-beyond-spec = tie.close (tie.spec returns returns-2 add-result returns-3)
+is-beyond-spec =
+    tie.close
+    (tie.spec
+    (λ c. simp (eq-eqb _ _ (c .if1 .taken)))
+    (λ c. simp (ne-eqb _ _ (c .before .if1 .left), lt-ltb _ _ (c .if2 .taken)))
+    (λ c. search needs)
+    (λ c. simp (ne-eqb _ _ (c .before .if1 .left), le-ltb _ _ (c .if2 .left))))
