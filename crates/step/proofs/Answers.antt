@@ -17,7 +17,7 @@ use Rattle.bounds.proofs.Refusals.{refusal-here, refusal-next}
 use Rattle.bounds.proofs.Chains.{accepts-split, answer-first, answer-later}
 use Rattle.bounds.proofs.Editions.{Shapely, shapely}
 use Rattle.bounds.proofs.Compositions.{composition-passed}
-use Rattle.step.specs.Turn.{Turn, shiftedBy, Shifted, endChecks, stepOf}
+use Rattle.step.specs.Turn.{Turn, shiftedBy, Shifted, nextSerial, endChecks, stepOf}
 use Rattle.step.specs.declared.Stepped.{Stepped}
 use Rattle.step.proofs.Ways.{way-reached, moving, way-on, way-off}
 
@@ -53,12 +53,16 @@ module _ (back : Bool) (ms : List ℕ) (r : ℕ) (g : List ℕ) where
       table : {w : Refusal} → w ≡ firstRefusal (endChecks back ms r g) → w ≡ firstRefusal (editionChecks ms r ++ (given ++ ends))
       table e = answer-later (editionChecks ms r) (given ++ ends) ee refl ez (answer-later given ends ev refl vz e)
 
-      turned : (b : Bool) (h : List ℕ) → Turn ms (cond back (r + 1) r) g b h → shiftedBy b h ≡ stepOf back ms r g
+      -- not at the end
+      pub step-goes : eqb (serialOf ms r g) (cond back 1 (countOf ms r)) ≡ false
+          → record { number = 0; detail = 0; composition = cellsOf (compositionOf ms r (nextSerial back (serialOf ms r g))) } ≡ stepOf back ms r g
       unfolding stepOf firstRefusal
-      turned true h t =
-          let on = way-on ms r g valid back h t in
-          let none : refused 0 0 ≡ firstRefusal (editionChecks ms r ++ (given ++ ends)) = table (sym (refusal-next _ [] (on .0))) in
-          rw (← none, on .1)
+      step-goes on =
+          let none : refused 0 0 ≡ firstRefusal (editionChecks ms r ++ (given ++ ends)) = table (sym (refusal-next _ [] on)) in
+          rw (← none)
+
+      turned : (b : Bool) (h : List ℕ) → Turn ms (cond back (r + 1) r) g b h → shiftedBy b h ≡ stepOf back ms r g
+      turned true h t = let on = way-on ms r g valid back h t in rw (on .1) (step-goes (on .0))
       turned false h t = refused-by (refused 9 0) (table (sym (refusal-here _ [] (way-off ms r g valid back h t)))) (λ z. omega arith)
 
       -- the step itself

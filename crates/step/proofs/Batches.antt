@@ -62,8 +62,3 @@ module _ (ms : List ℕ) (r s c : ℕ) (out : List ℕ) where
     pub batch-done : v .number ≡ 0 → {bytes : List ℕ} → bytes ≡ copiesOf ms r s c → _≡_ {A = Refusal × List ℕ} (v, bytes) (batchOf ms r s c out)
     unfolding batchOf
     batch-done none is = filling-done (editionChecks ms r ++ range) (copiesOf ms r s c) out table none is
-
--- the composition of a serial in its cells
-pub cells-front : (ms : List ℕ) (r s : ℕ) (cells : List ℕ) → 0 < s → s ≤ countOf ms r → cells ≡ cellsOf (compositionOf ms r s) → take (length ms) cells ≡ compositionOf ms r s
-unfolding cellsOf
-cells-front ms r s cells some l e = rw e (take-at (compositionOf ms r s) _ (length ms) (composition-is ms r s some l .size))

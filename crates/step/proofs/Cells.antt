@@ -1,11 +1,14 @@
 -- Copied bytes, and a composition in 24 cells.
 use mathlib.Core.Path.{_≡_, refl, sym, ap, _∙_}
 use mathlib.Core.List.{List, [], _∷_, _++_}
-use Prim.Native.Nat.{ℕ, zero, suc, _+_, _-_, _<_}
+use Prim.Native.Nat.{ℕ, zero, suc, _+_, _-_, _≤_, _<_}
 use native.Mathlib.Nat.{sub-zero, zero-sub, suc-sub-suc}
 use native.Mathlib.Numerals.{add-one}
 use lib.ListN.{length, getD, take, drop, set, replicate}
-use lib.Seq.{take-suc, take-suc-set, drop-at}
+use lib.Seq.{take-suc, take-suc-set, take-at, drop-at}
+use Rattle.walsh.specs.Order.{countOf}
+use Rattle.walsh.specs.Serial.{compositionOf}
+use Rattle.walsh.proofs.Serials.{composition-is}
 use Rattle.bounds.specs.Edition.{cellsOf}
 
 -- one more byte is copied
@@ -24,3 +27,8 @@ pub in-cells : (h g : List ℕ) (n : ℕ) → length g ≡ n → length h ≡ n 
 unfolding cellsOf
 in-cells h g n eg eh =
     ap (λ (q : List ℕ). h ++ q) (drop-at g (drop n (replicate 24 0)) n eg ∙ drop-replicate 24 n 0 ∙ ap (λ (k : ℕ). replicate (24 - k) 0) (sym eh))
+
+-- the composition of a serial in its cells
+pub cells-front : (ms : List ℕ) (r s : ℕ) (cells : List ℕ) → 0 < s → s ≤ countOf ms r → cells ≡ cellsOf (compositionOf ms r s) → take (length ms) cells ≡ compositionOf ms r s
+unfolding cellsOf
+cells-front ms r s cells some l e = rw e (take-at (compositionOf ms r s) _ (length ms) (composition-is ms r s some l .size))

@@ -3,12 +3,13 @@ use mathlib.Core.Path.{_≡_, refl, sym, ap, _∙_}
 use mathlib.Core.Bool.{Bool, true, false, true≢false}
 use mathlib.Core.List.{List, [], _++_, append-assoc}
 use Prim.Native.Nat.{ℕ, zero, suc, _+_, _-_, _*_, _/_, _%_, _≤_, _<_}
-use native.Mathlib.Nat.{mul-le-mul-right, suc-mul, mul-mod-left, mul-div-left, div-add-mod'}
+use mathlib.Core.Logic.{_⊎_, inl, inr}
+use native.Mathlib.Nat.{not-suc-le-zero, le-of-suc-le-suc, eq-or-lt-of-le, zero-mul, mul-le-mul-right, suc-mul, mul-mod-left, mul-div-left, div-add-mod'}
 use native.Mathlib.Numerals.{add-one}
 use native.Mathlib.Omega.{arith}
 use lib.Dec.{eqb}
 use lib.ListN.{length, take, drop, length-take, length-drop, length-append}
-use lib.Seq.{take-at, length-take-le}
+use lib.Seq.{take-at, drop-at, take-all, take-append-le, drop-append-le, length-take-le}
 use borrow.Author.Tests.{eqb-true, eq-eqb, ne-eqb}
 use Rattle.walsh.specs.Order.{countOf}
 use Rattle.walsh.specs.Serial.{compositionOf}
@@ -65,3 +66,38 @@ module _ (ms : List ℕ) (r : ℕ) where
       let valid = composition-is ms r s some (omega arith) in
       let turn = (rw e at t) (moving ms r (compositionOf ms r s) valid r (omega arith)) in
       ap (λ (p : Bool × List ℕ). p .1) (advanced ms r (compositionOf ms r s) valid b h turn ∙ advance-serial ms r s some l)
+
+  -- "copy j of the batch, j from 0, is written from byte j × n"
+  module _ (s : ℕ) (some : 0 < s) where
+    copy-size : (c : ℕ) → s + c ≤ countOf ms r → length (compositionOf ms r (s + c)) ≡ length ms
+    copy-size c h = composition-is ms r (s + c) (omega arith) h .size
+
+    pub copies-length : (c : ℕ) → s + c ≤ countOf ms r + 1 → length (copiesOf ms r s c) ≡ c * length ms
+    unfolding copiesOf
+    copies-length zero h = sym (zero-mul (length ms))
+    copies-length (suc c) h =
+        length-append (copiesOf ms r s c) (compositionOf ms r (s + c))
+        ∙ omega (arith, copies-length c (omega arith), copy-size c (omega arith), suc-mul c (length ms))
+
+    pub copy-at : (c j : ℕ) → s + c ≤ countOf ms r + 1 → j < c → take (length ms) (drop (j * length ms) (copiesOf ms r s c)) ≡ compositionOf ms r (s + j)
+    unfolding copiesOf
+    copy-at zero j h l = absurd (not-suc-le-zero l)
+    copy-at (suc c) j h l = go (copy-at c j (omega arith)) (eq-or-lt-of-le (le-of-suc-le-suc l))
+      where
+        n : ℕ
+        n = length ms
+
+        all : List ℕ
+        all = copiesOf ms r s c
+
+        last : List ℕ
+        last = compositionOf ms r (s + c)
+
+        size : length all ≡ c * n
+        size = copies-length c (omega arith)
+
+        go : (j < c → take n (drop (j * n) all) ≡ compositionOf ms r (s + j)) → (j ≡ c) ⊎ (j < c) → take n (drop (j * n) (all ++ last)) ≡ compositionOf ms r (s + j)
+        go below (inl e) = rw (e, drop-at all last (c * n) size) (take-all n last (omega (arith, copy-size c (omega arith))))
+        go below (inr m) =
+            let w = part-within j c n m in
+            rw (drop-append-le (j * n) all last (omega (arith, size))) (take-append-le n (drop (j * n) all) last (simp length-drop (omega (arith, size))) ∙ below m)

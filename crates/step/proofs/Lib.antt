@@ -3,6 +3,7 @@ pub mod Refills
 pub mod Ways
 pub mod Answers
 pub mod Cells
+pub mod Steps
 pub mod Copies
 pub mod Batches
 pub mod Standing

@@ -14,7 +14,8 @@ use Rattle.bounds.proofs.Editions.{Shapely, shapely, edition-shape}
 use Rattle.step.specs.Stand.{nearest}
 use Rattle.step.specs.Batch.{copiesOf}
 use Rattle.step.proofs.Standing.{located-refused, located-accepted, clamp-in}
-use Rattle.step.proofs.Batches.{Ranged, ranged, batch-edition, batch-range, batch-done, cells-front}
+use Rattle.step.proofs.Cells.{cells-front}
+use Rattle.step.proofs.Batches.{Ranged, ranged, batch-edition, batch-range, batch-done}
 use Rattle.step.proofs.batch.batch.Statement.{statement}
 use Rattle.step.proofs.batch.batch.Tie as tie
 
