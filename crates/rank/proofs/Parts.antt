@@ -9,9 +9,10 @@ use lib.ListN.{length, getD}
 use Rattle.walsh.specs.Sums.{sum}
 use Rattle.walsh.specs.Order.{CompositionTo, least, most}
 use Rattle.walsh.specs.Rank.{partIndex, blockSize, rankOf}
-use Rattle.walsh.proofs.Complete.{composition-low, composition-high, composition-prefix}
+use Rattle.walsh.proofs.Complete.{composition-low, composition-high, composition-prefix, rank-lt}
+use Rattle.walsh.proofs.Listing.{length-listing}
 use Rattle.bounds.specs.Edition.{whole}
-use Rattle.bounds.specs.Band.{InBand, IsRow}
+use Rattle.bounds.specs.Band.{InBand, IsRow, cap}
 use Rattle.bounds.specs.declared.band.Row.{Row}
 use Rattle.bounds.proofs.Bands.{whole-band, band-down}
 use Rattle.rank.specs.Walk.{Here, Filled}
@@ -84,3 +85,10 @@ part ms g k k′ rem t v e f ev =
 pub rank-done : (ms g : List ℕ) (k rem t : ℕ) → k ≡ 0 → rankOf ms k rem t g ≡ 0
 unfolding rankOf
 rank-done ms g k rem t e = rw e
+
+-- its rank is within the limit
+pub rank-small : (ms : List ℕ) (r : ℕ) (last : Row) (cells : List ℕ) → Filled ms r last cells → (g : List ℕ) → CompositionTo ms (length ms) r g
+    → rankOf ms (length ms) r 0 g < cap
+rank-small ms r last cells filled g parts =
+    let limit = filled .table .holds (length ms) (le-refl _) r (whole-band ms r (filled .reached)) (omega (arith, filled .small)) .1 in
+    omega (arith, rank-lt ms (length ms) r 0 g parts, length-listing ms (length ms) r 0, limit)

@@ -21,6 +21,6 @@ foundBy v n s g =
     (record { number = 0; detail = 0; count = n; serial = s; composition = g })
     (record { number = v .number; detail = v .detail; count = 0; serial = 0; composition = replicate 24 0 })
 
-abbrev pub foundOf : Task → List ℕ → ℕ → List ℕ → Found
+unfoldable pub foundOf : Task → List ℕ → ℕ → List ℕ → Found
 foundOf Rank ms r g = foundBy (firstRefusal (rankChecks ms r g)) (countOf ms r) (serialOf ms r g) (replicate 24 0)
 foundOf (Unrank s) ms r g = foundBy (firstRefusal (editionChecks ms r)) (countOf ms r) (clamp (countOf ms r) s) (nearest ms r s)

@@ -1,17 +1,13 @@
 use mathlib.Core.Path.{_≡_, ap, _∙_}
 use Prim.Native.Nat.{ℕ, suc, _+_, _-_, _≤_, _<_}
-use native.Mathlib.Nat.{zero-add, le-refl}
+use native.Mathlib.Nat.{zero-add}
 use native.Mathlib.Omega.{arith}
 use lib.ListN.{length}
 use denote.Ref.{now}
 use borrow.Author.Needs.{needs}
 use Rattle.walsh.specs.Order.{CompositionTo}
 use Rattle.walsh.specs.Rank.{rankOf}
-use Rattle.walsh.proofs.Complete.{rank-lt}
-use Rattle.walsh.proofs.Listing.{length-listing}
-use Rattle.bounds.specs.Band.{cap}
-use Rattle.bounds.proofs.Bands.{whole-band}
-use Rattle.rank.proofs.Parts.{Walks, walk-starts, turn-down, turn-here, turn-next, Part, part, rank-done}
+use Rattle.rank.proofs.Parts.{Walks, walk-starts, turn-down, turn-here, turn-next, Part, part, rank-done, rank-small}
 use Rattle.rank.proofs.walk.place.Statement.{statement}
 use Rattle.rank.proofs.walk.place.Tie as tie
 
@@ -21,21 +17,6 @@ Inv-loop upper total cells g k₀ row₀ rem₀ t₀ s₀ k row rem t s =
 
 abbrev μ-loop : tie.MeasureT-loop
 μ-loop upper total cells g k₀ row₀ rem₀ t₀ s₀ k row rem t s = k
-
--- the rank is within the limit
-small-at : (c : tie.Start Inv-loop μ-loop) → let a = c .args in rankOf (now (a .upper)) (length (now (a .upper))) (a .total) 0 (now (a .g)) < cap
-small-at c =
-    let a = c .args in
-    let f = c .pre .0 in
-    let n = length (now (a .upper)) in
-    join (rank-lt (now (a .upper)) n (a .total) 0 (now (a .g)) (c .pre .2)) (length-listing (now (a .upper)) n (a .total) 0)
-    (f .table .holds n (le-refl n) (a .total) (whole-band (now (a .upper)) (a .total) (f .reached)) (next (f .small)) .1)
-  where
-    join : {x l c m : ℕ} → x < l → l ≡ c → c < m → x < m
-    join p q r = omega arith
-
-    next : {x : ℕ} → x ≤ 255 → x < 256
-    next l = omega arith
 
 loop-holds : tie.Need-loop-holds Inv-loop μ-loop
 loop-holds c =
@@ -85,7 +66,9 @@ value-at : (c : tie.After-earlier Inv-loop μ-loop) → (c .before .wide .result
 value-at c = let l = c .before .before .before .before .before .loop in (omega (arith, part-at (c .before) .high), rw (l .inv .0 .sum) (c .before .before .before .before .before .before .before .before .before .pre .0 .small))
 
 add-s : tie.Need-add-s Inv-loop μ-loop
-add-s c = omega (arith, part-at (c .before) .rank, c .before .before .before .before .before .loop .inv .2, small-at (c .before .before .before .before .before .before .before .before .before), c .earlier .ensures)
+add-s c =
+    let s = c .before .before .before .before .before .before .before .before .before in
+    omega (arith, part-at (c .before) .rank, c .before .before .before .before .before .loop .inv .2, rank-small _ _ (s .args .last) _ (s .pre .0) _ (s .pre .2), c .earlier .ensures)
 
 loop-again : tie.Need-loop-again Inv-loop μ-loop
 loop-again c =

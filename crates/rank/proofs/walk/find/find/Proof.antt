@@ -1,133 +1,99 @@
+use mathlib.Core.Path.{_≡_, refl, sym, _∙_}
+use Prim.Native.Nat.{ℕ, _+_, _-_, _≤_, _<_}
+use native.Mathlib.Nat.{le-refl}
+use native.Mathlib.Omega.{arith}
+use lib.ListN.{length, take, replicate}
+use denote.Ref.{now}
 use borrow.Author.Needs.{needs}
+use Rattle.bounds.specs.Refusal.{firstRefusal}
+use Rattle.bounds.specs.Edition.{whole, shapeChecks}
+use Rattle.bounds.specs.Band.{bandSize, IsRow}
+use Rattle.bounds.proofs.Editions.{shapely}
+use Rattle.bounds.proofs.Answers.{surveyed-refused, surveyed-accepted}
+use Rattle.bounds.proofs.Bands.{cell-room, whole-band}
+use Rattle.bounds.proofs.Rows.{last-row, size-small}
+use Rattle.rank.proofs.Finds.{found-shape, prefix-length}
 use Rattle.rank.proofs.walk.find.find.Statement.{statement}
 use Rattle.rank.proofs.walk.find.find.Tie as tie
-use Rattle.rank.proofs.walk.find.find.Reads as reads
-use Rattle.rank.proofs.walk.find.find.Lts as lts
-use Rattle.bounds.proofs.band.survey.Reads as survey-reads
-use Rattle.rank.proofs.walk.find.find_in.Reads as find-in-reads
-use Rattle.rank.proofs.walk.find.nothing.Reads as nothing-reads
 
--- src/walk/find.rt:116:9
-survey-requires : tie.Need-survey-requires
-survey-requires c κs = search needs
-
--- src/walk/find.rt:118:9
-nothing-requires : tie.Need-nothing-requires
-nothing-requires c κs = search needs
-
--- src/walk/find.rt:118:9
 returns : tie.Need-returns
-returns c = search needs
+returns c =
+    let s = c .before .before .before .survey in
+    let l = c .before .if1 .taken in
+    c .nothing .ensures ∙ found-shape _ _ (c .before .before .before .before .before .before .args .task) _ _ _ (surveyed-refused _ _ (s .result) (s .ensures) l) l
 
--- src/walk/find.rt:122:16
-sub-t14 : tie.Need-sub-t14
-sub-t14 c = search needs
+survey-at : (c : tie.Else1)
+    → let a = c .before .before .before .before .before .args in
+    let ms = now (a .upper) in
+    let s = c .before .before .survey .result in
+    (firstRefusal (shapeChecks ms (a .total)) .number ≡ 0) × (s .all ≡ whole ms) × (s .size ≡ bandSize ms (a .total))
+survey-at c = let s = c .before .before .survey in surveyed-accepted _ _ (s .result) (s .ensures) (none (c .if1 .left))
+  where
+    none : {n : ℕ} → n ≤ 0 → n ≡ 0
+    none l = omega arith
 
--- src/walk/find.rt:130:44
-array-borrow-prefix-cells : tie.Need-array-borrow-prefix-cells
-array-borrow-prefix-cells c = search needs
+-- the table has a cell, and at most 6145
+size-at : (c : tie.Else1) → (0 < c .before .before .survey .result .size) × (c .before .before .survey .result .size ≤ 6145)
+size-at c =
+    let a = c .before .before .before .before .before .args in
+    let k = survey-at c in
+    let h = shapely (now (a .upper)) (a .total) (k .0) in
+    sized (k .2) (cell-room (now (a .upper)) (a .total) (length (now (a .upper))) (a .total) (le-refl _) (whole-band (now (a .upper)) (a .total) (h .reached)))
+    (size-small (now (a .upper)) (a .total) (h .reached) (h .small) (h .few))
+  where
+    sized : {x b i : ℕ} → x ≡ b → i < b → b ≤ 6145 → (0 < x) × (x ≤ 6145)
+    sized e l h = (omega arith, omega arith)
 
--- src/walk/find.rt:130:44
-slice-aggregate-find-in : tie.Need-slice-aggregate-find-in
-slice-aggregate-find-in c = search needs
+-- the last row
+last-at : (c : tie.Else1)
+    → let a = c .before .before .before .before .before .args in
+    let s = c .before .before .survey .result in
+    IsRow (now (a .upper)) (a .total) (length (now (a .upper))) (record { start = s .size - 1; left = s .all; all = s .all; low = a .total; high = a .total })
+last-at c =
+    let a = c .before .before .before .before .before .args in
+    let k = survey-at c in
+    last-row (now (a .upper)) (a .total) _ (shapely (now (a .upper)) (a .total) (k .0) .reached) (back (size-at c .0) ∙ k .2) (k .1) (k .1) refl refl
+  where
+    back : {x : ℕ} → 0 < x → x - 1 + 1 ≡ x
+    back l = omega arith
 
--- src/walk/find.rt:130:9
-find-in-requires : tie.Need-find-in-requires
-find-in-requires c κs = search needs
-
--- src/walk/find.rt:130:9
-returns-2 : tie.Need-returns-2
-returns-2 c = search needs
-
--- src/walk/find.rt:134:44
-array-borrow-prefix-cells-2 : tie.Need-array-borrow-prefix-cells-2
-array-borrow-prefix-cells-2 c = search needs
-
--- src/walk/find.rt:134:44
-slice-aggregate-find-in-2 : tie.Need-slice-aggregate-find-in-2
-slice-aggregate-find-in-2 c = search needs
-
--- src/walk/find.rt:134:9
-find-in-requires-2 : tie.Need-find-in-requires-2
-find-in-requires-2 c κs = search needs
-
--- src/walk/find.rt:134:9
-returns-3 : tie.Need-returns-3
-returns-3 c = search needs
-
--- src/walk/find.rt:138:44
-array-borrow-prefix-cells-3 : tie.Need-array-borrow-prefix-cells-3
-array-borrow-prefix-cells-3 c = search needs
-
--- src/walk/find.rt:138:44
-slice-aggregate-find-in-3 : tie.Need-slice-aggregate-find-in-3
-slice-aggregate-find-in-3 c = search needs
-
--- src/walk/find.rt:138:9
-find-in-requires-3 : tie.Need-find-in-requires-3
-find-in-requires-3 c κs = search needs
-
--- src/walk/find.rt:138:9
-returns-4 : tie.Need-returns-4
-returns-4 c = search needs
-
--- src/walk/find.rt:142:44
-array-borrow-prefix-cells-4 : tie.Need-array-borrow-prefix-cells-4
-array-borrow-prefix-cells-4 c = search needs
-
--- src/walk/find.rt:142:44
-slice-aggregate-find-in-4 : tie.Need-slice-aggregate-find-in-4
-slice-aggregate-find-in-4 c = search needs
-
--- src/walk/find.rt:142:9
-find-in-requires-4 : tie.Need-find-in-requires-4
-find-in-requires-4 c κs = search needs
-
--- src/walk/find.rt:142:9
-returns-5 : tie.Need-returns-5
-returns-5 c = search needs
-
--- src/walk/find.rt:145:33
-array-borrow-prefix-cells-5 : tie.Need-array-borrow-prefix-cells-5
-array-borrow-prefix-cells-5 c = search needs
-
--- src/walk/find.rt:145:33
-slice-aggregate-find-in-5 : tie.Need-slice-aggregate-find-in-5
-slice-aggregate-find-in-5 c = search needs
-
--- src/walk/find.rt:145:5
-find-in-requires-5 : tie.Need-find-in-requires-5
-find-in-requires-5 c κs = search needs
-
--- src/walk/find.rt:113:1
-returns-6 : tie.Need-returns-6
-returns-6 c = search needs
+-- the first cells of a table of m cells have room
+asks-at : (c : tie.Else1) (m : ℕ) → c .before .before .survey .result .size ≤ m
+    → let a = c .before .before .before .before .before .args in
+    let ms = now (a .upper) in
+    let s = c .before .before .survey .result in
+    (firstRefusal (shapeChecks ms (a .total)) .number ≡ 0) × (bandSize ms (a .total) ≤ length (take {A = ℕ} (s .size) (replicate m 0)))
+    × IsRow ms (a .total) (length ms) (record { start = s .size - 1; left = s .all; all = s .all; low = a .total; high = a .total })
+asks-at c m l = let k = survey-at c in (k .0, room (k .2) (prefix-length _ m l), last-at c)
+  where
+    room : {x b y : ℕ} → x ≡ b → y ≡ x → b ≤ y
+    room e f = omega arith
 
 pub find-spec : {M : Type 1} → statement M
 find-spec =
     tie.close
     (tie.spec
-    survey-requires
-    nothing-requires
+    (λ c κs. search needs)
+    (λ c κs. search needs)
     returns
-    sub-t14
-    array-borrow-prefix-cells
-    slice-aggregate-find-in
-    find-in-requires
-    returns-2
-    array-borrow-prefix-cells-2
-    slice-aggregate-find-in-2
-    find-in-requires-2
-    returns-3
-    array-borrow-prefix-cells-3
-    slice-aggregate-find-in-3
-    find-in-requires-3
-    returns-4
-    array-borrow-prefix-cells-4
-    slice-aggregate-find-in-4
-    find-in-requires-4
-    returns-5
-    array-borrow-prefix-cells-5
-    slice-aggregate-find-in-5
-    find-in-requires-5
-    returns-6)
+    (λ c. size-at c .0)
+    (λ c. search needs)
+    (λ c. sym (prefix-length _ 64 (c .before .if2 .taken)))
+    (λ c κs. asks-at (c .before .before) 64 (c .before .if2 .taken))
+    (λ c. c .before .find-in .ensures)
+    (λ c. search needs)
+    (λ c. sym (prefix-length _ 256 (c .before .if3 .taken)))
+    (λ c κs. asks-at (c .before .before .before) 256 (c .before .if3 .taken))
+    (λ c. c .before .find-in2 .ensures)
+    (λ c. search needs)
+    (λ c. sym (prefix-length _ 1024 (c .before .if4 .taken)))
+    (λ c κs. asks-at (c .before .before .before .before) 1024 (c .before .if4 .taken))
+    (λ c. c .before .find-in3 .ensures)
+    (λ c. search needs)
+    (λ c. sym (prefix-length _ 2048 (c .before .if5 .taken)))
+    (λ c κs. asks-at (c .before .before .before .before .before) 2048 (c .before .if5 .taken))
+    (λ c. c .before .find-in4 .ensures)
+    (λ c. size-at (c .before .before .before .before) .1)
+    (λ c. sym (prefix-length _ 6145 (size-at (c .before .before .before .before .before) .1)))
+    (λ c κs. asks-at (c .before .before .before .before .before) 6145 (size-at (c .before .before .before .before .before) .1))
+    (λ c. c .before .find-in5 .ensures))
