@@ -1,21 +1,19 @@
 -- The answers of a step, from those of the places that are checked before.
 use mathlib.Core.Path.{_≡_, refl, sym, ap, _∙_}
 use mathlib.Core.Bool.{Bool, true, false, cond}
-use mathlib.Core.List.{List, [], _∷_, _++_}
-use Prim.Native.Nat.{ℕ, _+_, _≤_, _<_}
+use mathlib.Core.List.{List, [], _++_}
+use Prim.Native.Nat.{ℕ, _+_, _<_}
 use native.Mathlib.Omega.{arith}
 use lib.Dec.{eqb}
-use lib.ListN.{length}
 use borrow.Author.Tests.{ne-eqb}
 use Rattle.walsh.specs.Order.{Composition, countOf}
 use Rattle.walsh.specs.Serial.{serialOf, compositionOf}
-use Rattle.bounds.specs.Refusal.{Check, check, refused, firstRefusal}
-use Rattle.bounds.specs.Edition.{shapeChecks, editionChecks, cellsOf}
+use Rattle.bounds.specs.Refusal.{Check, refused, firstRefusal}
+use Rattle.bounds.specs.Edition.{editionChecks, cellsOf}
 use Rattle.bounds.specs.Places.{compositionChecks}
 use Rattle.bounds.specs.declared.Refusal.{Refusal}
 use Rattle.bounds.proofs.Refusals.{refusal-here, refusal-next}
-use Rattle.bounds.proofs.Chains.{accepts-split, answer-first, answer-later}
-use Rattle.bounds.proofs.Editions.{Shapely, shapely}
+use Rattle.bounds.proofs.Chains.{answer-first, answer-later}
 use Rattle.bounds.proofs.Compositions.{composition-passed}
 use Rattle.step.specs.Turn.{Turn, shiftedBy, Shifted, nextSerial, endChecks, stepOf}
 use Rattle.step.specs.declared.Stepped.{Stepped}

@@ -1,26 +1,22 @@
 -- The answers of a batch, from those of the places that are checked.
 use mathlib.Core.Path.{_≡_, refl, sym, ap, _∙_}
-use mathlib.Core.Bool.{true, false, not}
-use mathlib.Core.List.{List, [], _∷_, _++_}
+use mathlib.Core.List.{List, _++_}
 use Prim.Native.Nat.{ℕ, _+_, _-_, _*_, _≤_, _<_}
 use native.Mathlib.Omega.{arith}
 use lib.Dec.{eqb, ltb}
-use lib.ListN.{length, take, replicate}
-use lib.Seq.{take-at}
+use lib.ListN.{length}
 use borrow.Author.Tests.{eqb-true, eqb-false, ltb-false, not-false}
 use Rattle.walsh.specs.Tests.{either}
 use Rattle.walsh.specs.Order.{countOf}
-use Rattle.walsh.specs.Serial.{compositionOf}
-use Rattle.walsh.proofs.Serials.{composition-is}
 use Rattle.bounds.specs.Refusal.{Check, firstRefusal}
-use Rattle.bounds.specs.Edition.{editionChecks, cellsOf}
+use Rattle.bounds.specs.Edition.{editionChecks}
 use Rattle.bounds.specs.Places.{lentChecks}
 use Rattle.bounds.specs.declared.Refusal.{Refusal}
 use Rattle.bounds.proofs.Refusals.{passed}
 use Rattle.bounds.proofs.Editions.{neither}
 use Rattle.bounds.proofs.Chains.{answer-first, answer-later}
 use Rattle.bounds.proofs.Filling.{filling-refused, filling-done}
-use Rattle.step.specs.Batch.{beyond, rangeChecks, batchChecks, copiesOf, batchOf}
+use Rattle.step.specs.Batch.{rangeChecks, batchChecks, copiesOf, batchOf}
 
 -- what an accepted range of serials, and an accepted lent part of `have` bytes, are
 pub record Ranged (all n s c have : ℕ) : Type 0 where

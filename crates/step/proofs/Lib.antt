@@ -6,4 +6,4 @@ pub mod Cells
 pub mod Steps
 pub mod Copies
 pub mod Batches
-pub mod Standing
+pub mod Located

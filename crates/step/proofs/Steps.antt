@@ -1,15 +1,15 @@
 -- What follows for the answers of `successor` and `predecessor`: each undoes the other, a step takes one unit from one part to another, and no two
 -- compositions have the same successor. So "a step that always hands out the same mix" (document 01, "Serial and mix") has not these answers.
-use mathlib.Core.Path.{_≡_, refl, sym, ap, _∙_, subst}
+use mathlib.Core.Path.{_≡_, refl, sym, ap, _∙_}
 use mathlib.Core.Bool.{Bool, true, false, cond, not}
-use mathlib.Core.List.{List, [], _∷_, _++_}
+use mathlib.Core.List.{List, _++_}
 use Prim.Native.Nat.{ℕ, suc, _+_, _-_, _≤_, _<_}
 use native.Mathlib.Omega.{arith}
 use lib.Dec.{eqb}
-use lib.ListN.{length, getD, take}
+use lib.ListN.{length, take}
 use lib.Seq.{take-at}
 use borrow.Author.Tests.{eqb-false, ne-eqb}
-use Rattle.walsh.specs.Order.{Composition, order, countOf}
+use Rattle.walsh.specs.Order.{Composition, countOf}
 use Rattle.walsh.specs.Serial.{serialOf, compositionOf}
 use Rattle.walsh.specs.Neighbours.{Neighbours}
 use Rattle.walsh.proofs.Serials.{count-length, composition-is, serial-composition, composition-serial, serial-pos, serial-le}
@@ -18,7 +18,7 @@ use Rattle.bounds.specs.Refusal.{refused, firstRefusal}
 use Rattle.bounds.specs.Edition.{editionChecks, cellsOf}
 use Rattle.bounds.specs.Places.{compositionChecks}
 use Rattle.bounds.proofs.Refusals.{is-accepted, passed}
-use Rattle.bounds.proofs.Chains.{Accepts, accepts-split, accepts-join}
+use Rattle.bounds.proofs.Chains.{Accepts, accepts-split}
 use Rattle.bounds.proofs.Compositions.{composition-passed, composition-passes}
 use Rattle.step.specs.Steps.{successorOf, predecessorOf}
 use Rattle.step.specs.Turn.{nextSerial, endChecks, stepOf}

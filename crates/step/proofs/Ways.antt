@@ -10,7 +10,7 @@ use lib.ListN.{length}
 use borrow.Author.Tests.{eq-eqb, ne-eqb}
 use Rattle.walsh.specs.Order.{Composition, countOf}
 use Rattle.walsh.specs.Serial.{serialOf, compositionOf}
-use Rattle.walsh.proofs.Serials.{composition-is, serial-composition}
+use Rattle.walsh.proofs.Serials.{serial-composition}
 use Rattle.walsh.proofs.Successors.{successor-at, successor-none, predecessor-at, predecessor-none}
 use Rattle.step.specs.Advance.{advanceOf}
 use Rattle.step.specs.Turn.{Moving, Turn, nextSerial}

@@ -2,4 +2,3 @@ pub mod Steps
 pub mod Advance
 pub mod Batch
 pub mod Turn
-pub mod Stand

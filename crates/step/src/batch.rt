@@ -11,10 +11,10 @@ ghost use Rattle.bounds.specs.Places.{lentChecks};
 ghost use Rattle.bounds.specs.declared.Refusal.{Refusal};
 ghost use Rattle.step.specs.Batch.{beyond, rangeChecks, copiesOf, batchOf};
 use crate::copy;
-use crate::stand::locate;
 use crate::turn;
 use bounds::Refusal;
 use places::refusal;
+use rank::locate;
 
 // The serials that the copies begin with and end with are not both within 1..count.
 fn is_beyond(count: u64, serial: u64, copies: u64) -> bool

@@ -2,7 +2,7 @@
 // to its left start anew (source document 000, section 2). Backward is the same with one more than the total: every sum to the right is then
 // one more, so every part runs the other way.
 pub mod batch;
-pub mod stand;
+
 use bounds::limit;
 use places::composition_refusal;
 use walsh::first_value;

@@ -1,11 +1,10 @@
 -- `step::step` meets its contract: the laws of proofs/Answers at each return.
-use mathlib.Core.Path.{_≡_, sym, ap, _∙_}
+use mathlib.Core.Path.{sym, ap, _∙_}
 use native.Mathlib.Omega.{arith}
 use borrow.Author.Needs.{needs}
 use Rattle.walsh.specs.Order.{Composition}
 use Rattle.bounds.specs.declared.Refusal.{Refusal}
 use Rattle.bounds.proofs.Editions.{Shapely, shapely, edition-shape}
-use Rattle.step.proofs.Ways.{moving}
 use Rattle.step.proofs.Answers.{step-edition, step-given, step-shifted, valid}
 use Rattle.step.proofs.step.Statement.{statement}
 use Rattle.step.proofs.step.Tie as tie

@@ -1,5 +1,5 @@
 -- `step::batch::batch` meets its contract: the laws of proofs/Batches at each return.
-use mathlib.Core.Path.{_≡_, refl, sym, ap, _∙_}
+use mathlib.Core.Path.{_≡_, sym, ap, _∙_}
 use Prim.Native.Nat.{ℕ}
 use native.Mathlib.Omega.{arith}
 use lib.ListN.{length, take}
@@ -9,11 +9,10 @@ use Rattle.walsh.specs.Serial.{compositionOf}
 use Rattle.walsh.proofs.Serials.{composition-is, serial-composition}
 use Rattle.bounds.specs.Refusal.{firstRefusal}
 use Rattle.bounds.specs.Edition.{editionChecks, cellsOf}
-use Rattle.bounds.specs.declared.Refusal.{Refusal}
 use Rattle.bounds.proofs.Editions.{Shapely, shapely, edition-shape}
-use Rattle.step.specs.Stand.{nearest}
-use Rattle.step.specs.Batch.{copiesOf}
-use Rattle.step.proofs.Standing.{located-refused, located-accepted, clamp-in}
+use Rattle.rank.specs.Locate.{nearest}
+use Rattle.rank.proofs.Calls.{clamp-in}
+use Rattle.step.proofs.Located.{located-refused, located-accepted}
 use Rattle.step.proofs.Cells.{cells-front}
 use Rattle.step.proofs.Batches.{Ranged, ranged, batch-edition, batch-range, batch-done}
 use Rattle.step.proofs.batch.batch.Statement.{statement}

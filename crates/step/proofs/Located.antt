@@ -1,14 +1,13 @@
--- stand-in for rank's laws
-use mathlib.Core.Path.{_≡_, refl, sym, ap, _∙_}
+-- What the answer of `rank::locate` says.
+use mathlib.Core.Path.{_≡_, refl, ap}
 use mathlib.Core.List.{List}
-use Prim.Native.Nat.{ℕ, _≤_, _<_}
-use native.Mathlib.Omega.{arith}
+use Prim.Native.Nat.{ℕ, _<_}
 use Rattle.walsh.specs.Order.{countOf}
 use Rattle.bounds.specs.Refusal.{refused, firstRefusal}
 use Rattle.bounds.specs.Edition.{editionChecks}
 use Rattle.bounds.proofs.Refusals.{is-refused, is-accepted}
-use Rattle.step.specs.Stand.{locateOf, nearest, clamp}
-use Rattle.step.specs.declared.stand.Located.{Located}
+use Rattle.rank.specs.Locate.{nearest, locateOf}
+use Rattle.rank.specs.declared.Located.{Located}
 
 module _ (ms : List ℕ) (r s : ℕ) (x : Located) (e : x ≡ locateOf ms r s) where
   pub located-refused : 0 < x .number → firstRefusal (editionChecks ms r) ≡ refused (x .number) (x .detail)
@@ -20,6 +19,3 @@ module _ (ms : List ℕ) (r s : ℕ) (x : Located) (e : x ≡ locateOf ms r s) w
   located-accepted z =
       let a = is-accepted _ _ _ (λ (y : Located). y .number) (λ (y : Located). y .detail) refl refl refl x e z in
       (a .0, ap (λ (y : Located). y .count) (a .1), ap (λ (y : Located). y .composition) (a .1))
-
-pub clamp-in : (n s : ℕ) → 0 < s → s ≤ n → clamp n s ≡ s
-clamp-in n s some l = omega arith
