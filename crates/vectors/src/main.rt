@@ -69,6 +69,46 @@ fn unrank(s: &[u8], from: usize) -> usize
     size.at
 }
 
+// step: s forward or p backward, upper, total, composition: number, detail, 24 cells
+fn step(s: &[u8], from: usize, back: bool) -> usize
+    ensures { λ r. ⌜ from ≤ r ⌝ }
+{
+    let mut upper = [0u8; 64];
+    let mut given = [0u8; 64];
+    let e = read::bounded_by(s, from, &mut upper);
+    let g = read::list(s, e.at, &mut given);
+    let ms = read::part(&upper, e.parts);
+    let composition = read::part(&given, g.len);
+    if back {
+        show::stepped(step::predecessor(ms, e.total, composition));
+    } else {
+        show::stepped(step::successor(ms, e.total, composition));
+    }
+    g.at
+}
+
+// batch: b, upper, total, serial, copies, length: number, detail, the lent part
+fn batch(s: &[u8], from: usize) -> usize
+    ensures { λ r. ⌜ from ≤ r ⌝ }
+{
+    let mut upper = [0u8; 64];
+    let mut out = [FILL; 1024];
+    let e = read::bounded_by(s, from, &mut upper);
+    let serial = read::number(s, e.at);
+    let copies = read::number(s, serial.at);
+    let size = read::number(s, copies.at);
+    let lent = read::lent(&mut out, size.value);
+    let r = step::batch::batch(
+        read::part(&upper, e.parts),
+        e.total,
+        serial.value,
+        copies.value,
+        lent,
+    );
+    show::lent(r, lent);
+    size.at
+}
+
 // permutation: o, upper, total, composition, length: number, detail, the lent part
 fn permutation(s: &[u8], from: usize) -> usize
     ensures { λ r. ⌜ from ≤ r ⌝ }
@@ -120,6 +160,9 @@ fn command(s: &[u8], letter: u8, from: usize) -> usize
         b't' => table(s, from),
         b'r' => rank(s, from),
         b'u' => unrank(s, from),
+        b's' => step(s, from, false),
+        b'p' => step(s, from, true),
+        b'b' => batch(s, from),
         b'o' => permutation(s, from),
         b'i' => inversions(s, from),
         _ => from,

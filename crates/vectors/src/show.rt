@@ -38,3 +38,12 @@ pub fn lent(refusal: bounds::Refusal, out: &[u8]) {
     bytes(out);
     end();
 }
+
+// A line of a step's answer.
+pub fn stepped(answer: step::Stepped) {
+    let composition = answer.composition;
+    first(answer.number as u64);
+    next(answer.detail);
+    bytes(&composition);
+    end();
+}
