@@ -1,9 +1,8 @@
 -- Document 01, "The register", and "Refusals", places 'opening' and 'register calls': what each call does, as a function of the record and the
 -- column alone.
-use mathlib.Core.Path.{_≡_}
 use mathlib.Core.Bool.{Bool, cond, not}
 use mathlib.Core.List.{List, [], _∷_, _++_, map}
-use Prim.Native.Nat.{ℕ, suc, _+_, _-_, min}
+use Prim.Native.Nat.{ℕ, _+_, _-_, min}
 use lib.Dec.{ltb, leb, eqb}
 use lib.ListN.{length, take, set}
 use Rattle.walsh.specs.Order.{order, countOf}
