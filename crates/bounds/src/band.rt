@@ -6,8 +6,9 @@ ghost use Prim.Native.Nat.{ℕ, _+_, _-_, _≤_, _<_, min};
 ghost use lib.ListN.{length, getD};
 ghost use Rattle.walsh.specs.Sums.{sum, sumTo};
 ghost use Rattle.walsh.specs.Order.{count};
-ghost use Rattle.bounds.specs.Edition.{whole};
-ghost use Rattle.bounds.specs.Band.{lowest, highest, InBand, bandSize, cap, Row-holds, Rows-hold, Band, IsRow, surveyOf, countedOf};
+ghost use Rattle.bounds.specs.Edition.{whole, shapeChecks};
+ghost use Rattle.bounds.specs.Refusal.{firstRefusal};
+ghost use Rattle.bounds.specs.Band.{lowest, highest, InBand, bandSize, cap, Row-holds, Rows-hold, Band, IsRow, surveyOf, numberOf, countedOf};
 ghost use Rattle.bounds.specs.Window.{Slid};
 
 const MOST: u64 = 9_223_372_036_854_775_807;
@@ -371,6 +372,22 @@ pub fn survey(upper: &[u8], total: u32) -> Surveyed
     }
 }
 
+// `fill` of a shape that is accepted, with room for its table.
+fn fill_shaped(upper: &[u8], total: u32, all: usize, cells: &mut [u64]) -> Counted
+    requires { ⌜ (firstRefusal (shapeChecks (now upper) total) .number ≡ 0) × (all ≡ whole (now upper)) × (bandSize (now upper) total ≤ length (now cells)) ⌝ }
+    ensures { λ r. ⌜ (r ≡ numberOf (now (upper .entry)) total) × (r .number ≡ 0 → Band (now (upper .entry)) total (now (cells .exit))) ⌝ }
+{
+    let count = fill_rows(upper, total as usize, all, cells);
+    if MOST < count {
+        return uncounted(5, 0);
+    }
+    Counted {
+        number: 0,
+        detail: 0,
+        count,
+    }
+}
+
 // Fills the table and answers N, or the first of the refusals 1 to 4, 13 where `cells` is too short, and 5.
 pub fn fill(upper: &[u8], total: u32, cells: &mut [u64]) -> Counted
     ensures answer { λ r. ⌜ r ≡ countedOf (now (upper .entry)) total (length (now (cells .entry))) ⌝ }
@@ -383,13 +400,35 @@ pub fn fill(upper: &[u8], total: u32, cells: &mut [u64]) -> Counted
     if cells.len() < s.size {
         return uncounted(13, 0);
     }
-    let count = fill_rows(upper, total as usize, s.all, cells);
-    if MOST < count {
-        return uncounted(5, 0);
+    fill_shaped(upper, total, s.all, cells)
+}
+
+// N, or the refusal: with a table of its own.
+pub fn count(upper: &[u8], total: u32) -> Counted
+    ensures { λ r. ⌜ r ≡ numberOf (now (upper .entry)) total ⌝ }
+{
+    let s = survey(upper, total);
+    if 0 < s.number {
+        return uncounted(s.number, s.detail);
     }
-    Counted {
-        number: 0,
-        detail: 0,
-        count,
+    let size = s.size;
+    let all = s.all;
+    if size <= 64 {
+        let mut cells = [0u64; 64];
+        return fill_shaped(upper, total, all, &mut cells);
     }
+    if size <= 256 {
+        let mut cells = [0u64; 256];
+        return fill_shaped(upper, total, all, &mut cells);
+    }
+    if size <= 1024 {
+        let mut cells = [0u64; 1024];
+        return fill_shaped(upper, total, all, &mut cells);
+    }
+    if size <= 2048 {
+        let mut cells = [0u64; 2048];
+        return fill_shaped(upper, total, all, &mut cells);
+    }
+    let mut cells = [0u64; 6145];
+    fill_shaped(upper, total, all, &mut cells)
 }
