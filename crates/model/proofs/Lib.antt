@@ -5,5 +5,7 @@ pub mod Opening
 pub mod Calls
 pub mod Books
 pub mod Places
+pub mod Records
+pub mod Replies
 pub mod Simulation
 pub mod Whole

@@ -21,6 +21,7 @@ use Rattle.model.proofs.Lists.{length-snoc, length-over, set-over, nonz
 use Rattle.model.proofs.Cells.{take-cells}
 use Rattle.model.proofs.Calls.{grant, for-an-order}
 use Rattle.model.proofs.Opening.{Opens}
+use Rattle.model.proofs.Records.{together, answered-by}
 
 -- the record that belongs to a list of lines
 abbrev pub ledgerOf : List ℕ → ℕ → List ℕ → Ledger
@@ -33,13 +34,6 @@ ledgerOf ms r l =
       next = nextComposition (compositions ms r) (length l);
     }
 
--- where a record and a column belong together, the answer is the model's over the lines written
-pub answered-by : (r : Ledger) (col : List ℕ) (c : Call) → consistent r col ≡ true → answered r col c ≡ answer (compositionsOf (r .bounds)) (written r col) c
-unfolding answered answer
-answered-by r col c t =
-    let gs = compositionsOf (r .bounds) in
-    ap (λ (v : Refusal). answerBy v gs (granted gs (written r col) c)) (refusal-next (check 16 (not (consistent r col)) 0) _ (ap not t))
-
 module _ (ms : List ℕ) (r : ℕ) (col : List ℕ) (o : Opens ms r col) where
   abbrev gs : List (List ℕ)
   gs = compositions ms r
@@ -50,21 +44,14 @@ module _ (ms : List ℕ) (r : ℕ) (col : List ℕ) (o : Opens ms r col) where
       ∙ rw (take-cells ms) (o .sound)
 
   belongs : (l : List ℕ) → length l ≤ length gs → consistent (ledgerOf ms r l) (over col l) ≡ true
-  unfolding consistent
   belongs l h =
-      rw (
-        eq-eqb (firstRefusal (recordChecks (boundsOf ms r)) .number) 0 sound,
-        take-append-seam l (drop (length l) col),
-        take-cells ms,
-        le-leb (length gs) 1000000 (o .small),
-        length-over col l (omega (arith, o .room)),
-        le-leb (length gs) (length col) (o .room),
-        le-leb (length l) (length gs) h,
-        eq-eqb (nonzeros l) (nonzeros l) refl,
-        eq-eqb (zeros l) (zeros l) refl,
-        same-refl (nextComposition gs (length l)),
-        same-refl (cellsOf ms),
-      )
+      together (ledgerOf ms r l) (over col l) sound (rw (take-cells ms) (o .small))
+      (rw (take-cells ms, length-over col l (omega (arith, o .room))) (o .room))
+      (rw (take-cells ms) h)
+      (rw (take-append-seam l (drop (length l) col)))
+      (rw (take-append-seam l (drop (length l) col)))
+      (rw (take-cells ms) (same-refl (nextComposition gs (length l))))
+      (rw (take-cells ms) (same-refl (cellsOf ms)))
 
   -- one call: the answer is the model's, and the record and the column are those of the model's list after it
   pub answers : (l : List ℕ) → length l ≤ length gs → (c : Call) → answered (ledgerOf ms r l) (over col l) c ≡ answer gs l c
