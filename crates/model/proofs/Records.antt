@@ -6,22 +6,22 @@ use mathlib.Core.List.{List, [], _∷_}
 use Prim.Native.Nat.{ℕ, zero, suc, _+_, _-_, _≤_, _<_, min}
 use native.Mathlib.Omega.{arith}
 use lib.Dec.{leb, eqb}
-use lib.ListN.{length, getD, take}
+use lib.ListN.{length, getD, take, set}
 use lib.Seq.{length-take-le}
-use borrow.Author.Tests.{leb-true, le-leb, eqb-true, eq-eqb, ne-eqb}
+use borrow.Author.Tests.{ltb-false, leb-true, le-leb, eqb-true, eq-eqb, ne-eqb}
 use Rattle.walsh.specs.Serial.{same}
 use Rattle.walsh.specs.Tests.{both}
 use Rattle.walsh.proofs.Serials.{same-eq}
 use Rattle.bounds.specs.Refusal.{check, firstRefusal}
 use Rattle.bounds.specs.Edition.{recordChecks, cellsOf}
 use Rattle.bounds.specs.declared.Refusal.{Refusal}
-use Rattle.bounds.proofs.Refusals.{refusal-here, refusal-next}
+use Rattle.bounds.proofs.Refusals.{passed, refusal-here, refusal-next}
 use Rattle.model.specs.declared.Answer.{Answer}
 use Rattle.model.specs.declared.Claimed.{Claimed}
 use Rattle.model.specs.declared.Ledger.{Ledger}
 use Rattle.model.specs.Basics.{zeros, nonzeros, all}
 use Rattle.model.specs.Model.{Call, peek, blank, granted, answerBy, answer, accepted}
-use Rattle.model.specs.Record.{upperOf, compositionsOf, nextComposition, written, tests, consistent, answered, counted, entered, recordAfter, columnAfter, calling}
+use Rattle.model.specs.Record.{upperOf, compositionsOf, nextComposition, written, tests, consistent, answered, counted, entered, recordAfter, columnAfter, calling, entriesOf}
 use Rattle.model.proofs.Lists.{zeros-or-not}
 
 -- ---- number 16
@@ -51,7 +51,10 @@ pub record Consistent (r : Ledger) (col : List ℕ) : Type 0 where
   pub voided : r .voided ≡ zeros (written r col)
   pub next : r .next ≡ nextComposition (compositionsOf (r .bounds)) (r .entries)
   pub spare : r .bounds .upper ≡ cellsOf (upperOf (r .bounds))
+  pub few : r .bounds .parts ≤ 24
   pub length-written : length (written r col) ≡ r .entries
+  pub few-sold : r .sold ≤ 1000000
+  pub few-voided : r .voided ≤ 1000000
 
 -- a refused answer
 abbrev pub refusedWith : ℕ → ℕ → Answer
@@ -65,18 +68,27 @@ module _ (r : Ledger) (col : List ℕ) where
   unfolding consistent
   parts t =
       let p = each (tests r col) t in
+      let h1 = eqb-true (firstRefusal (recordChecks (r .bounds)) .number) 0 (p .0) in
+      let h2 = leb-true (length gs) 1000000 (p .1 .0) in
       let h3 = leb-true (length gs) (length col) (p .1 .1 .0) in
       let h4 = leb-true (r .entries) (length gs) (p .1 .1 .1 .0) in
+      let h5 = eqb-true (r .sold) (nonzeros (written r col)) (p .1 .1 .1 .1 .0) in
+      let h6 = eqb-true (r .voided) (zeros (written r col)) (p .1 .1 .1 .1 .1 .0) in
+      let n = length-take-le (r .entries) col (omega arith) in
+      let both = zeros-or-not (written r col) in
       record {
-        sound = eqb-true (firstRefusal (recordChecks (r .bounds)) .number) 0 (p .0);
-        small = leb-true (length gs) 1000000 (p .1 .0);
+        sound = h1;
+        small = h2;
         room = h3;
         entries = h4;
-        sold = eqb-true (r .sold) (nonzeros (written r col)) (p .1 .1 .1 .1 .0);
-        voided = eqb-true (r .voided) (zeros (written r col)) (p .1 .1 .1 .1 .1 .0);
+        sold = h5;
+        voided = h6;
         next = same-eq (r .next) (nextComposition gs (r .entries)) (p .1 .1 .1 .1 .1 .1 .0);
         spare = same-eq (r .bounds .upper) (cellsOf (upperOf (r .bounds))) (p .1 .1 .1 .1 .1 .1 .1 .0);
-        length-written = length-take-le (r .entries) col (omega arith);
+        few = ltb-false 24 (r .bounds .parts) (passed _ _ refl h1 .0);
+        length-written = n;
+        few-sold = omega arith;
+        few-voided = omega arith;
       }
 
   -- a test that fails, by its place
@@ -130,7 +142,17 @@ module _ (r : Ledger) (col : List ℕ) where
       unfolding calling recordAfter columnAfter
       calling-refused n = rw (← e, ne-eqb (a .number) 0 n)
 
-      pub calling-accepted : (r′ : Ledger) (col′ : List ℕ) → a .number ≡ 0 → r′ ≡ counted r c → col′ ≡ entered col c
-          → _≡_ {A = Claimed × List ℕ} (record { answer = a; ledger = r′ }, col′) (calling r col c)
+      pub calling-accepted : (r′ : Ledger) (x : ℕ) → a .number ≡ 0 → r′ ≡ counted r c → entered col c ≡ set col (r .entries) x
+          → _≡_ {A = Claimed × List ℕ} (record { answer = a; ledger = r′ }, set col (r .entries) x) (calling r col c)
       unfolding calling recordAfter columnAfter
-      calling-accepted r′ col′ n p q = rw (← e, eq-eqb (a .number) 0 n, p, q)
+      calling-accepted r′ x n p q = rw (← e, eq-eqb (a .number) 0 n, p, q)
+
+  -- ---- the lines so far
+
+  pub entries-none : consistent r col ≡ false → [] ≡ entriesOf r col
+  unfolding entriesOf
+  entries-none f = rw f
+
+  pub entries-some : consistent r col ≡ true → written r col ≡ entriesOf r col
+  unfolding entriesOf
+  entries-some t = rw t

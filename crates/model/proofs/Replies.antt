@@ -25,16 +25,13 @@ use Rattle.model.proofs.Records.{parts, refusedWith, answered-16, answe
 
 -- the answer of the checks of a serial alone, which is that of a void
 abbrev pub placed : List (List ℕ) → List ℕ → ℕ → Answer
-placed gs l s = answerBy (firstRefusal (placeChecks gs l s)) gs s
+placed gs l s = answer gs l (void s)
 
 module _ (gs : List (List ℕ)) (l : List ℕ) where
-  pub void-is : (s : ℕ) → answer gs l (void s) ≡ placed gs l s
-  unfolding answer
-  void-is s = refl
-
   -- ---- the checks of a serial
 
   pub placed-outside : (s : ℕ) → either (eqb s 0) (ltb (length gs) s) ≡ true → placed gs l s ≡ refusedWith 6 0
+  unfolding answer
   placed-outside s t = ap (λ (v : Refusal). answerBy v gs s) (refusal-here (check 6 (either (eqb s 0) (ltb (length gs) s)) 0) _ t)
 
   module _ (s : ℕ) (h : 1 ≤ s) (k : s ≤ length gs) where
@@ -42,15 +39,17 @@ module _ (gs : List (List ℕ)) (l : List ℕ) where
     inside = refusal-next _ _ (rw (ne-eqb s 0 (omega arith)) (le-ltb (length gs) s k))
 
     pub placed-below : s < next l → placed gs l s ≡ refusedWith 18 (getD l (s - 1) 0)
+    unfolding answer
     placed-below q = ap (λ (v : Refusal). answerBy v gs s) (inside ∙ refusal-here _ _ (lt-ltb s (next l) q))
 
     pub placed-above : next l < s → placed gs l s ≡ refusedWith 19 (next l)
+    unfolding answer
     placed-above q =
         ap (λ (v : Refusal). answerBy v gs s)
         (inside ∙ refusal-next _ _ (le-ltb s (next l) (omega arith)) ∙ refusal-here _ _ (lt-ltb (next l) s q))
 
     pub placed-next : s ≡ next l → placed gs l s ≡ given gs s
-    unfolding firstRefusal
+    unfolding answer firstRefusal
     placed-next q =
         let none : firstRefusal (check 18 (ltb s (next l)) (getD l (s - 1) 0) ∷ check 19 (ltb (next l) s) (next l) ∷ []) ≡ refused 0 0 =
         rw (le-ltb s (next l) (omega arith), le-ltb (next l) s (omega arith)) in
@@ -79,6 +78,7 @@ module _ (gs : List (List ℕ)) (l : List ℕ) where
 
       module _ (z : placed gs l s .number ≡ 0) where
         zero-number : firstRefusal (placeChecks gs l s) .number ≡ 0
+        unfolding answer
         zero-number = sym (answer-number (firstRefusal (placeChecks gs l s)) gs s) ∙ z
 
         later : firstRefusal (callChecks gs l (claim s o)) ≡ firstRefusal (again ∷ [])
