@@ -60,8 +60,8 @@ module _ (ms : List ℕ) (r e : ℕ) where
           rw serial
           (on-test (eqb (e + 1) (countOf ms r))
           (λ t.
-              let last : e + 1 ≡ min (e + 1 + 1) (length gs) = omega (arith, eqb-true (e + 1) (countOf ms r) t) in
-              rw t (ap (compositionOf ms r) last))
+          let last : e + 1 ≡ min (e + 1 + 1) (length gs) = omega (arith, eqb-true (e + 1) (countOf ms r) t) in
+          rw t (ap (compositionOf ms r) last))
           (λ t.
-              let more : e + 1 + 1 ≡ min (e + 1 + 1) (length gs) = omega (arith, eqb-false (e + 1) (countOf ms r) t) in
-              rw t (ap (compositionOf ms r) more)))
+          let more : e + 1 + 1 ≡ min (e + 1 + 1) (length gs) = omega (arith, eqb-false (e + 1) (countOf ms r) t) in
+          rw t (ap (compositionOf ms r) more)))

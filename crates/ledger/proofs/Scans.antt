@@ -53,10 +53,10 @@ more l x y z h a b s ea eb =
           on-less 0 h
           (λ q u. let kept = index-kept x l (y ∷ []) (s .some q) in omega (arith, s .some q))
           (λ q u.
-              let past = index-past x l (y ∷ []) (s .none (omega arith)) in
-              on-test (eqb y x)
-              (λ t. let first : indexOf x (y ∷ []) ≡ 0 = rw t in omega arith)
-              (λ t. let zero : b ≡ 0 = rw t at eb in absurd (omega arith)));
+          let past = index-past x l (y ∷ []) (s .none (omega arith)) in
+          on-test (eqb y x)
+          (λ t. let first : indexOf x (y ∷ []) ≡ 0 = rw t in omega arith)
+          (λ t. let zero : b ≡ 0 = rw t at eb in absurd (omega arith)));
     }
 
 pub scanned-more : (col : List ℕ) (i x z h a b : ℕ) → i < length col → Scanned (take i col) x z h

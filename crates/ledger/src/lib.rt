@@ -207,7 +207,14 @@ fn following(ledger: Ledger) -> [u8; 24]
 }
 
 // The order in the next entry, and the record that counts it.
-fn enter(ledger: Ledger, orders: &mut [u32], answer: Answer, order: u32, sold: u64, voided: u64) -> Claimed
+fn enter(
+    ledger: Ledger,
+    orders: &mut [u32],
+    answer: Answer,
+    order: u32,
+    sold: u64,
+    voided: u64,
+) -> Claimed
     requires { ⌜ (consistent ledger (now orders) ≡ true) × (ledger .entries < length (compositionsOf (ledger .bounds))) ⌝ }
     ensures { λ r. ⌜ (r, now (orders .exit)) ≡ entering ledger (now (orders .entry)) answer order sold voided ⌝ }
 {
@@ -236,7 +243,14 @@ pub fn claim(ledger: Ledger, orders: &mut [u32], serial: u64, order: u32) -> Cla
     if answer.number != 0 {
         return Claimed { answer, ledger };
     }
-    enter(ledger, orders, answer, order, ledger.sold + 1, ledger.voided)
+    enter(
+        ledger,
+        orders,
+        answer,
+        order,
+        ledger.sold + 1,
+        ledger.voided,
+    )
 }
 
 // document 01: spoil. The serial for no order.

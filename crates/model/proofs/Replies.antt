@@ -157,7 +157,7 @@ pub writing : (r : Ledger) (col : List ℕ) (c : Call) (a : Answer) → a ≡ an
 writing r col c a e z w =
     on-test (consistent r col)
     (λ t.
-        let g = grant (compositionsOf (r .bounds)) (written r col) c (eq-eqb _ 0 (ap (λ (x : Answer). x .number) (sym (answered-by r col c t) ∙ sym e) ∙ z)) in
-        let n = parts r col t .length-written in
-        record { belongs = t; serial = g .serial w ∙ ap (λ (k : ℕ). k + 1) n; room = omega (arith, g .room) })
+    let g = grant (compositionsOf (r .bounds)) (written r col) c (eq-eqb _ 0 (ap (λ (x : Answer). x .number) (sym (answered-by r col c t) ∙ sym e) ∙ z)) in
+    let n = parts r col t .length-written in
+    record { belongs = t; serial = g .serial w ∙ ap (λ (k : ℕ). k + 1) n; room = omega (arith, g .room) })
     (λ f. let x : 16 ≡ 0 = ap (λ (x : Answer). x .number) (sym (e ∙ answered-16 r col c f)) ∙ z in absurd (omega arith))

@@ -19,8 +19,7 @@ abbrev μ-loop : tie.MeasureT-loop
 loop-again : tie.Need-loop-again Inv-loop μ-loop
 loop-again c =
     let at = c .before .before .before .before .loop in
-    let start = c .before .before .before .before .before .before in
-    (
+    let start = c .before .before .before .before .before .before in (
       omega arith,
       omega (arith, c .before .one .ensures .1),
       omega (arith, c .one2 .ensures .1),
