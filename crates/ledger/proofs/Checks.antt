@@ -1,13 +1,12 @@
 -- The tests of number 16, one law for each way out of them.
 use mathlib.Core.Path.{_≡_, refl, sym, ap, _∙_}
 use mathlib.Core.Logic.{_≢_}
-use mathlib.Core.Bool.{Bool, true, false, false≢true}
+use mathlib.Core.Bool.{true, false, false≢true}
 use mathlib.Core.List.{List, []}
 use Prim.Native.Nat.{ℕ, _+_, _-_, _≤_, _<_, min, max}
 use native.Mathlib.Omega.{arith}
-use lib.Dec.{leb, eqb}
-use lib.ListN.{length, getD, take}
-use borrow.Author.Tests.{lt-leb, eq-eqb, ne-eqb, ltb-false}
+use lib.ListN.{length, getD}
+use borrow.Author.Tests.{lt-leb, ne-eqb, ltb-false}
 use Rattle.walsh.specs.Order.{order, countOf}
 use Rattle.walsh.specs.Serial.{same, compositionOf}
 use Rattle.walsh.proofs.Cases.{on-less}

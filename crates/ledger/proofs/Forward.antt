@@ -1,14 +1,14 @@
 -- One step on from the record's composition is the composition of the serial after the next.
-use mathlib.Core.Path.{_≡_, refl, sym, ap, _∙_}
-use mathlib.Core.Bool.{Bool, true, false, cond}
-use mathlib.Core.List.{List, [], _∷_, _++_}
-use Prim.Native.Nat.{ℕ, suc, _+_, _-_, _≤_, _<_, min}
+use mathlib.Core.Path.{_≡_, sym, ap, _∙_}
+use mathlib.Core.Bool.{Bool}
+use mathlib.Core.List.{List, _++_}
+use Prim.Native.Nat.{ℕ, _+_, _-_, _≤_, _<_, min}
 use native.Mathlib.Omega.{arith}
 use lib.Dec.{eqb}
-use lib.ListN.{length, getD, take, drop, replicate}
+use lib.ListN.{length, take, drop, replicate}
 use lib.Seq.{drop-append-seam}
 use borrow.Author.Tests.{eqb-true, eqb-false}
-use Rattle.walsh.specs.Order.{Composition, order, countOf}
+use Rattle.walsh.specs.Order.{Composition, countOf}
 use Rattle.walsh.specs.Serial.{serialOf, compositionOf}
 use Rattle.walsh.proofs.Cases.{on-test}
 use Rattle.walsh.proofs.Serials.{composition-is, serial-composition}

@@ -1,22 +1,21 @@
 -- The answers of an opening, from what the edition answers for serial 1.
 use mathlib.Core.Path.{_≡_, refl, sym, ap, _∙_}
-use mathlib.Core.Bool.{cond}
-use mathlib.Core.List.{List, [], _∷_, _++_}
+use mathlib.Core.List.{List, [], _∷_}
 use Prim.Native.Nat.{ℕ, _≤_, _<_}
 use native.Mathlib.Omega.{arith}
-use lib.Dec.{ltb, eqb}
+use lib.Dec.{ltb}
 use lib.ListN.{length, take}
 use lib.Seq.{take-all}
 use borrow.Author.Tests.{lt-ltb, le-ltb}
 use Rattle.walsh.specs.Order.{countOf}
 use Rattle.bounds.specs.Refusal.{Check, check, refused, firstRefusal}
-use Rattle.bounds.specs.Edition.{shapeChecks, editionChecks, cellsOf}
+use Rattle.bounds.specs.Edition.{editionChecks, cellsOf}
 use Rattle.bounds.specs.declared.Refusal.{Refusal}
 use Rattle.bounds.proofs.Editions.{shapely, edition-shape}
 use Rattle.bounds.proofs.Refusals.{refusal-here, refusal-next, refusal-first, refusal-later, by-refusal, is-refused, is-accepted}
 use Rattle.rank.specs.Locate.{locateOf}
 use Rattle.rank.specs.declared.Located.{Located}
-use Rattle.model.specs.Record.{openingChecks, opened, blankLedger, openedBy, opening}
+use Rattle.model.specs.Record.{openingChecks, opened, blankLedger, opening}
 use Rattle.model.specs.declared.Opened.{Opened}
 use Rattle.ledger.proofs.Checks.{nearest-next}
 

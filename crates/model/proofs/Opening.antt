@@ -7,10 +7,10 @@ use lib.ListN.{length}
 use borrow.Author.Tests.{ltb-false}
 use Rattle.walsh.specs.Order.{countOf}
 use Rattle.bounds.specs.Refusal.{firstRefusal}
-use Rattle.bounds.specs.Edition.{shapeChecks, editionChecks}
-use Rattle.bounds.proofs.Editions.{shapely}
+use Rattle.bounds.specs.Edition.{editionChecks}
+use Rattle.bounds.proofs.Editions.{shapely, edition-shape}
 use Rattle.bounds.proofs.Refusals.{passed, is-accepted}
-use Rattle.bounds.proofs.Tables.{passed-both}
+use Rattle.bounds.proofs.Chains.{accepts-split}
 use Rattle.model.specs.declared.Opened.{Opened}
 use Rattle.model.specs.Record.{compositions, openingChecks, opened, opening}
 use Rattle.model.proofs.Compositions.{compositions-size}
@@ -27,14 +27,13 @@ unfolding opening
 opens ms r col z =
     let v = firstRefusal (openingChecks ms r (length col)) in
     let a = is-accepted v _ _ (λ (x : Opened). x .number) (λ (x : Opened). x .detail) refl refl refl _ refl z in
-    let p = passed-both (editionChecks ms r) _ refl (a .0) in
-    let s = passed-both (shapeChecks ms r) _ refl (p .0) in
+    let p = accepts-split (editionChecks ms r) _ refl (a .0) in
     let p14 = passed _ _ refl (p .1) in
     let p15 = passed _ _ refl (p14 .2) in
     let n = compositions-size ms r in (
       record {
         sound = p .0;
-        few = shapely ms r (s .0) .few;
+        few = shapely ms r (edition-shape ms r (p .0)) .few;
         small = omega (arith, ltb-false 1000000 (countOf ms r) (p14 .0));
         room = omega (arith, ltb-false (length col) (countOf ms r) (p15 .0));
       },

@@ -1,12 +1,11 @@
 -- Laws of the record and the column: what number 16 tests, and what a call leaves.
-use mathlib.Core.Path.{_≡_, refl, sym, ap, _∙_}
+use mathlib.Core.Path.{_≡_, refl, sym, ap}
 use mathlib.Core.Logic.{_≢_}
-use mathlib.Core.Bool.{Bool, true, false, cond, not, false≢true}
+use mathlib.Core.Bool.{Bool, true, false, not, false≢true}
 use mathlib.Core.List.{List, [], _∷_}
-use Prim.Native.Nat.{ℕ, zero, suc, _+_, _-_, _≤_, _<_, min}
+use Prim.Native.Nat.{ℕ, zero, suc, _-_, _≤_}
 use native.Mathlib.Omega.{arith}
-use lib.Dec.{leb, eqb}
-use lib.ListN.{length, getD, take, set}
+use lib.ListN.{length, getD, set}
 use lib.Seq.{length-take-le}
 use borrow.Author.Tests.{ltb-false, leb-true, le-leb, eqb-true, eq-eqb, ne-eqb}
 use Rattle.walsh.specs.Serial.{same}
@@ -20,7 +19,7 @@ use Rattle.model.specs.declared.Answer.{Answer}
 use Rattle.model.specs.declared.Claimed.{Claimed}
 use Rattle.model.specs.declared.Ledger.{Ledger}
 use Rattle.model.specs.Basics.{zeros, nonzeros, all}
-use Rattle.model.specs.Model.{Call, peek, blank, granted, answerBy, answer, accepted}
+use Rattle.model.specs.Model.{Call, blank, granted, answerBy, answer}
 use Rattle.model.specs.Record.{upperOf, compositionsOf, nextComposition, written, tests, consistent, answered, counted, entered, recordAfter, columnAfter, calling, entriesOf}
 use Rattle.model.proofs.Lists.{zeros-or-not}
 

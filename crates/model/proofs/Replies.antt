@@ -1,9 +1,9 @@
 -- Which answer each way through a call's checks leads to.
 use mathlib.Core.Path.{_≡_, refl, sym, ap, _∙_}
 use mathlib.Core.Logic.{_≢_}
-use mathlib.Core.Bool.{Bool, true, false, cond}
+use mathlib.Core.Bool.{true}
 use mathlib.Core.List.{List, [], _∷_, _++_}
-use Prim.Native.Nat.{ℕ, zero, suc, _+_, _-_, _≤_, _<_, min}
+use Prim.Native.Nat.{ℕ, _+_, _-_, _≤_, _<_, min}
 use native.Mathlib.Omega.{arith}
 use lib.Dec.{eqb, ltb}
 use lib.ListN.{length, getD}
@@ -17,7 +17,7 @@ use Rattle.bounds.proofs.Refusals.{refusal-here, refusal-next, refusal-first, r
 use Rattle.model.specs.declared.Answer.{Answer}
 use Rattle.model.specs.declared.Ledger.{Ledger}
 use Rattle.model.specs.Basics.{indexOf}
-use Rattle.model.specs.Model.{Call, peek, claim, void, next, compositionAt, placeChecks, callChecks, answerBy, answer}
+use Rattle.model.specs.Model.{Call, peek, claim, void, next, placeChecks, callChecks, answerBy, answer}
 use Rattle.model.specs.Record.{compositionsOf, written, consistent, answered}
 use Rattle.model.specs.Trace.{writes, named}
 use Rattle.model.proofs.Calls.{given, answer-number, peek-open, grant}

@@ -1,13 +1,13 @@
 -- The record and the column follow the model: one induction over the calls.
 use mathlib.Core.Path.{_≡_, refl, sym, ap, _∙_}
-use mathlib.Core.Bool.{Bool, true, false, cond, not}
+use mathlib.Core.Bool.{Bool, true, false, cond}
 use mathlib.Core.List.{List, [], _∷_, _++_}
 use Prim.Native.Nat.{ℕ, _+_, _-_, _≤_}
 use native.Mathlib.Omega.{arith}
 use lib.Dec.{ltb}
 use lib.ListN.{length, drop, set}
 use lib.Seq.{take-append-seam}
-use borrow.Author.Tests.{le-leb, le-ltb, eq-eqb}
+use borrow.Author.Tests.{le-ltb}
 use Rattle.walsh.proofs.Serials.{same-refl}
 use Rattle.bounds.specs.Refusal.{check, firstRefusal}
 use Rattle.bounds.specs.Edition.{recordChecks, cellsOf, boundsOf}
@@ -15,8 +15,8 @@ use Rattle.bounds.specs.declared.Refusal.{Refusal}
 use Rattle.bounds.proofs.Refusals.{refusal-next}
 use Rattle.model.specs.declared.Ledger.{Ledger}
 use Rattle.model.specs.Basics.{zeros, nonzeros, over}
-use Rattle.model.specs.Model.{Call, peek, claim, void, next, granted, answerBy, accepted, answer, appended, after, bookFrom}
-use Rattle.model.specs.Record.{compositions, compositionsOf, written, nextComposition, consistent, answered, advanced, counted, entered, recordAfter, columnAfter, Run, run}
+use Rattle.model.specs.Model.{Call, peek, claim, void, next, accepted, answer, appended, after, bookFrom}
+use Rattle.model.specs.Record.{compositions, written, nextComposition, consistent, answered, advanced, counted, entered, recordAfter, columnAfter, Run, run}
 use Rattle.model.proofs.Lists.{length-snoc, length-over, set-over, nonzeros-snoc, zeros-snoc}
 use Rattle.model.proofs.Cells.{take-cells}
 use Rattle.model.proofs.Calls.{grant, for-an-order}

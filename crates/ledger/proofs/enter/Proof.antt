@@ -1,7 +1,5 @@
 -- `ledger::enter` meets its contract.
-use mathlib.Core.Path.{_≡_, refl, ap}
 use native.Mathlib.Omega.{arith}
-use lib.ListN.{length, set}
 use denote.Ref.{now}
 use borrow.Author.Needs.{needs}
 use Rattle.model.proofs.Records.{Consistent, parts}

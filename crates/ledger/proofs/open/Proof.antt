@@ -2,7 +2,6 @@
 use mathlib.Core.Path.{_≡_, _∙_}
 use Prim.Native.Nat.{ℕ, _≤_}
 use native.Mathlib.Omega.{arith}
-use denote.Ref.{now}
 use borrow.Author.Needs.{needs}
 use Rattle.ledger.proofs.Openings.{opening-edition, opening-many, opening-short, opening-good}
 use Rattle.ledger.proofs.open.Statement.{statement}

@@ -1,11 +1,10 @@
 -- `ledger::place` meets its contract: each way out is a law of the model's proofs/Replies.antt.
-use mathlib.Core.Path.{_≡_, sym, ap, _∙_}
-use Prim.Native.Nat.{ℕ, _≤_, _<_}
+use mathlib.Core.Path.{sym, ap, _∙_}
+use Prim.Native.Nat.{_≤_}
 use native.Mathlib.Omega.{arith}
 use lib.ListN.{length}
 use denote.Ref.{now}
 use borrow.Author.Needs.{needs}
-use Rattle.model.specs.Record.{compositionsOf}
 use Rattle.model.proofs.Records.{Consistent, parts, refusedWith}
 use Rattle.model.proofs.Replies.{serial-zero, serial-over, serial-below, serial-above, serial-next}
 use Rattle.ledger.proofs.place.Statement.{statement}

@@ -1,5 +1,4 @@
 -- `ledger::check::one` meets its contract.
-use mathlib.Core.Path.{_≡_, refl}
 use native.Mathlib.Omega.{arith}
 use borrow.Author.Tests.{eq-eqb, ne-eqb}
 use Rattle.ledger.proofs.check.one.Statement.{statement}

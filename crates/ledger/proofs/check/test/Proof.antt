@@ -1,14 +1,11 @@
 -- `ledger::check::test` meets its contract: each way out is a law of proofs/Checks.antt.
-use mathlib.Core.Path.{_≡_, refl, sym, ap, _∙_}
+use mathlib.Core.Path.{_≡_, sym, _∙_}
 use Prim.Native.Nat.{ℕ, _≤_}
 use native.Mathlib.Omega.{arith}
 use lib.ListN.{length}
-use lib.Seq.{length-take-le}
 use denote.Ref.{now}
 use borrow.Author.Needs.{needs}
 use borrow.Author.Tests.{not-true, not-false}
-use Rattle.model.specs.Record.{written}
-use Rattle.ledger.specs.Check.{Scanned}
 use Rattle.ledger.proofs.Scans.{scanned-few}
 use Rattle.ledger.proofs.Checks.{Asked, asked, no-edition, too-many, no-room, past-end, other-voided, other-sold, other-next, no-spare, belongs}
 use Rattle.ledger.proofs.check.test.Statement.{statement}
