@@ -9,6 +9,7 @@ use Rattle.walsh.specs.Order.{count}
 use Rattle.bounds.specs.Edition.{whole}
 use Rattle.bounds.specs.Band.{lowest, bandSize, cap, Row-holds, Rows-hold, IsRow}
 use Rattle.bounds.specs.declared.band.Row.{Row}
+use Rattle.bounds.specs.declared.band.Span.{Span}
 
 -- what does not change while row k + 1 is filled from row k, in a table of `size` cells
 pub record Filling (ms : List ℕ) (r k : ℕ) (row next : Row) (size : ℕ) : Type 0 where
@@ -31,9 +32,16 @@ pub record Filled (ms : List ℕ) (r k t w : ℕ) (cells : List ℕ) : Type 0 wh
   pub window : Slid ms r k t w
   pub small : w < cap
 
--- at the sums from `from` up to `end` a cell enters the window, or none does, and one leaves it, or none does
-pub record Stretch (row : Row) (m from end : ℕ) (enters leaves : Bool) : Type 0 where
-  pub entering : from < end → enters ≡ true → end ≤ row .high + 1
-  pub passed : from < end → enters ≡ false → row .high < from
-  pub leaving : from < end → leaves ≡ true → row .low + m < from
-  pub staying : from < end → leaves ≡ false → end ≤ row .low + m + 1
+-- at the sum t a cell of row k enters the window, or none does, and one leaves it, or none does
+pub record Moves (row : Row) (m t : ℕ) (enters leaves : Bool) : Type 0 where
+  pub entering : enters ≡ true → t ≤ row .high
+  pub passed : enters ≡ false → row .high < t
+  pub leaving : leaves ≡ true → row .low + m < t
+  pub staying : leaves ≡ false → t ≤ row .low + m
+
+-- so at each sum of a part of row k + 1
+pub record Stretch (row next : Row) (m : ℕ) (span : Span) : Type 0 where
+  pub low : next .low ≤ span .from
+  pub rising : span .from ≤ span .end
+  pub high : span .end ≤ next .high + 1
+  pub moves : (t : ℕ) → span .from ≤ t → t < span .end → Moves row m t (span .enters) (span .leaves)

@@ -20,12 +20,6 @@ use Rattle.bounds.proofs.band.step.Tie as tie
 le-min : (t h r x : ℕ) → t ≤ h → h ≡ min r x → t ≤ r
 le-min t h r x l e = omega arith
 
-one-more : (t : ℕ) → t < t + 1
-one-more t = omega arith
-
-le-of-one : {t h : ℕ} → t + 1 ≤ h + 1 → t ≤ h
-le-of-one l = omega arith
-
 small-at : (c : tie.Start) → c .args .t ≤ c .args .total
 small-at c = le-min _ _ _ _ (c .pre .3) (c .pre .0 .to .high)
 
@@ -38,25 +32,25 @@ high-at : (c : tie.Start) → c .args .t ≤ highest (now (c .args .upper)) (c .
 high-at c = rw (← (c .pre .0 .to .high)) (c .pre .3)
 
 full-at : (c : tie.Start) → c .args .leaves ≡ true → lowest (now (c .args .upper)) (c .args .total) (c .args .k) + c .args .m < c .args .t
-full-at c h = rw (← (c .pre .0 .from .low)) (c .pre .5 .leaving (one-more _) h)
+full-at c h = rw (← (c .pre .0 .from .low)) (c .pre .5 .leaving h)
 
 under-at : (c : tie.Start) → c .args .leaves ≡ false → c .args .t ≤ lowest (now (c .args .upper)) (c .args .total) (c .args .k) + c .args .m
-under-at c h = rw (← (c .pre .0 .from .low)) (le-of-one (c .pre .5 .staying (one-more _) h))
+under-at c h = rw (← (c .pre .0 .from .low)) (c .pre .5 .staying h)
 
 enter-at : (c : tie.Start) → c .args .enters ≡ true → InBand (now (c .args .upper)) (c .args .total) (c .args .k) (c .args .t)
-enter-at c h = band-ends _ _ _ _ (low-at c) (rw (← (c .pre .0 .from .high)) (le-of-one (c .pre .5 .entering (one-more _) h)))
+enter-at c h = band-ends _ _ _ _ (low-at c) (rw (← (c .pre .0 .from .high)) (c .pre .5 .entering h))
 
 leave-at : (c : tie.Start) → c .args .leaves ≡ true → InBand (now (c .args .upper)) (c .args .total) (c .args .k) (c .args .t - (c .args .m + 1))
 leave-at c h = behind-in (now (c .args .upper)) (c .args .total) (c .args .k) (c .args .t) (c .args .m) (c .pre .1) (high-at c) (full-at c h)
 
 none-at : (c : tie.Start) → c .args .enters ≡ false → 0 ≡ count (now (c .args .upper)) (c .args .k) (c .args .t)
-none-at c h = sym (above-none (now (c .args .upper)) (c .args .total) (c .args .k) (c .args .t) (c .args .row) (c .pre .0 .from) (small-at c) (c .pre .5 .passed (one-more _) h))
+none-at c h = sym (above-none (now (c .args .upper)) (c .args .total) (c .args .k) (c .args .t) (c .args .row) (c .pre .0 .from) (small-at c) (c .pre .5 .passed h))
 
 one-fits : (low m t total : ℕ) → low + m < t → t ≤ total → total ≤ 255 → Fits w64 (m + 1) × (m + 1 ≤ t)
 one-fits low m t total a b c = (omega arith, omega arith)
 
 back-at : (c : tie.Start) → c .args .leaves ≡ true → Fits w64 (c .args .m + 1) × (c .args .m + 1 ≤ c .args .t)
-back-at c h = one-fits (c .args .row .low) _ _ _ (c .pre .5 .leaving (one-more _) h) (small-at c) (c .pre .0 .small)
+back-at c h = one-fits (c .args .row .low) _ _ _ (c .pre .5 .leaving h) (small-at c) (c .pre .0 .small)
 
 rest-at : (c : tie.Start) (x : ℕ) → c .args .leaves ≡ true → x ≡ count (now (c .args .upper)) (c .args .k) (c .args .t - (c .args .m + 1)) → x ≤ c .args .w
 rest-at c x h e = slid-leaves (now (c .args .upper)) (c .args .total) (c .args .k) (c .args .t) (c .args .m) (c .args .w) x 0 (c .pre .4 .window) (c .pre .1) (full-at c h) e

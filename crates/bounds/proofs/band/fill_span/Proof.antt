@@ -1,6 +1,5 @@
--- `bounds::band::fill_part` meets its contract.
+-- `bounds::band::fill_span` meets its contract.
 use mathlib.Core.Path.{_≡_, refl, _∙_, subst}
-use mathlib.Core.Bool.{Bool}
 use Prim.Native.Nat.{ℕ, suc, _+_, _-_, _*_, _≤_, _<_, min}
 use native.Mathlib.Nat.{le-refl, le-trans, le-antisymm}
 use native.Mathlib.Omega.{arith}
@@ -11,20 +10,19 @@ use mir.Syntax.{w64}
 use borrow.Author.Needs.{needs}
 use Rattle.walsh.proofs.Cases.{closer}
 use Rattle.bounds.specs.Band.{highest, InBand, bandSize, cellIndex, cap}
-use Rattle.bounds.specs.Window.{Filled, Stretch}
-use Rattle.bounds.specs.declared.band.Row.{Row}
+use Rattle.bounds.specs.Window.{Filled}
 use Rattle.bounds.proofs.Bands.{band-ends, cell-room}
 use Rattle.bounds.proofs.Rows.{at-low, at-place, at-small, store-row, store-rows}
 use Rattle.bounds.proofs.Slides.{slid-done, slid-most}
-use Rattle.bounds.proofs.band.fill_part.Statement.{statement}
-use Rattle.bounds.proofs.band.fill_part.Tie as tie
+use Rattle.bounds.proofs.band.fill_span.Statement.{statement}
+use Rattle.bounds.proofs.band.fill_span.Tie as tie
 
 abbrev Inv-loop : tie.InvT-loop
-Inv-loop upper total k m row next cells₀ from end w0 enters leaves w₀ t₀ cells w t =
-    (from ≤ t) × (t ≤ end) × (length cells ≡ length cells₀) × Filled upper total k t w cells
+Inv-loop upper total k m row next cells₀ w0 end enters leaves w₀ t₀ cells w t =
+    (t₀ ≤ t) × (t ≤ end) × (length cells ≡ length cells₀) × Filled upper total k t w cells
 
 abbrev μ-loop : tie.MeasureT-loop
-μ-loop upper total k m row next cells₀ from end w0 enters leaves w₀ t₀ cells w t = end - t
+μ-loop upper total k m row next cells₀ w0 end enters leaves w₀ t₀ cells w t = end - t
 
 fits-next : (t h r x : ℕ) → t ≤ h → h ≡ min r x → r ≤ 255 → Fits w64 (t + 1)
 fits-next t h r x l e s = omega arith
@@ -41,26 +39,9 @@ suc-le l = omega arith
 le-add : {a t : ℕ} → a ≤ t → a ≤ t + 1
 le-add l = omega arith
 
-lt-le : {a b d : ℕ} → a < b → b ≤ d → a < d
-lt-le p q = omega arith
-
-le-lt : {a b d : ℕ} → a ≤ b → b < d → a < d
-le-lt p q = omega arith
-
--- a part of a stretch
-narrow : (row : Row) (m from end t : ℕ) (enters leaves : Bool) → from ≤ t → t < end → Stretch row m from end enters leaves → Stretch row m t (t + 1) enters leaves
-narrow row m from end t enters leaves l h s =
-    let go = le-lt l h in
-    record {
-      entering = λ _ q. le-trans (suc-le h) (s .entering go q);
-      passed = λ _ q. lt-le (s .passed go q) l;
-      leaving = λ _ q. lt-le (s .leaving go q) l;
-      staying = λ _ q. le-trans (suc-le h) (s .staying go q);
-    }
-
 -- the sum is one of the row that is filled
 in-at : (c : tie.In-loop Inv-loop μ-loop) → let a = c .before .before .before .before .args in (a .next .low ≤ c .before .loop .t) × (c .before .loop .t ≤ a .next .high)
-in-at c = let p = c .before .before .before .before .pre in (le-trans (p .2) (c .before .loop .inv .0), le-suc (c .loop-test .taken) (p .4))
+in-at c = let p = c .before .before .before .before .pre in (le-trans (p .2 .low) (c .before .loop .inv .0), le-suc (c .loop-test .taken) (p .2 .high))
 
 band-at : (c : tie.In-loop Inv-loop μ-loop) → let a = c .before .before .before .before .args in InBand (now (a .upper)) (a .total) (a .k + 1) (c .before .loop .t)
 band-at c =
@@ -91,7 +72,7 @@ step-requires c κs =
     let l = c .before .before .loop in
     let p = s .pre in
     let i = in-at (c .before) in
-    (rw (l .inv .2) (p .0), p .1, i .0, i .1, l .inv .3, narrow _ _ _ _ _ _ _ (l .inv .0) (c .before .loop-test .taken) (p .6))
+    (rw (l .inv .2) (p .0), p .1, i .0, i .1, l .inv .3, p .2 .moves _ (l .inv .0) (c .before .loop-test .taken))
 
 returns : tie.Need-returns Inv-loop μ-loop
 returns c =
@@ -140,13 +121,13 @@ returns-2 c =
     let e = le-antisymm (l .inv .1) (c .loop-test .left) in
     (λ h. subst (λ (t : ℕ). Filled (now (a .upper)) (a .total) (a .k) t (l .w) (l .cells)) e (l .inv .3), λ h. absurd (omega (arith, h, l .inv .3 .small)))
 
-pub fill-part-spec : {M : Type 1} → statement M
-fill-part-spec =
+pub fill-span-spec : {M : Type 1} → statement M
+fill-span-spec =
     tie.close
     (tie.spec
     Inv-loop
     μ-loop
-    (λ c. let p = c .before .before .pre in (le-refl _, p .3, refl, p .5))
+    (λ c. let p = c .before .before .pre in (le-refl _, p .2 .rising, refl, p .3))
     step-requires
     (λ c. search needs)
     returns
