@@ -15,6 +15,7 @@ use Rattle.bounds.specs.Refusal.{refused, firstRefusal}
 use Rattle.bounds.specs.Edition.{whole, editionChecks, shapeChecks, cellsOf}
 use Rattle.bounds.specs.Places.{compositionChecks}
 use Rattle.bounds.specs.declared.Refusal.{Refusal}
+use Rattle.bounds.proofs.Answers.{edition-refused}
 use Rattle.bounds.proofs.Compositions.{composition-passes}
 use Rattle.bounds.proofs.Nonempty.{count-some}
 use Rattle.bounds.proofs.Refusals.{refusal-first, refusal-later, by-refusal, by-acceptance}
@@ -45,7 +46,7 @@ module _ (ms : List ℕ) (r : ℕ) where
   found-edition (Unrank s) g n d e l = found-refused (firstRefusal (editionChecks ms r)) _ _ _ n d e l
 
   pub found-shape : (task : Task) (g : List ℕ) (n d : ℕ) → firstRefusal (shapeChecks ms r) ≡ refused n d → 0 < n → nothing n d ≡ foundOf task ms r g
-  found-shape task g n d e l = found-edition task g n d (refusal-first (shapeChecks ms r) _ (some-number e l) ∙ e) l
+  found-shape task g n d e l = found-edition task g n d (edition-refused ms r n d e l) l
 
   -- an edition that is accepted
   module _ (accepted : firstRefusal (editionChecks ms r) .number ≡ 0) (g : List ℕ) where

@@ -5,11 +5,11 @@ use lib.ListN.{length}
 use denote.Ref.{now}
 use borrow.Author.Needs.{needs}
 use Rattle.walsh.specs.Order.{countOf}
-use Rattle.bounds.specs.declared.Refusal.{Refusal}
 use Rattle.bounds.specs.Refusal.{firstRefusal}
 use Rattle.bounds.specs.Edition.{editionChecks}
+use Rattle.bounds.specs.Band.{numberOf}
 use Rattle.bounds.proofs.Editions.{shapely}
-use Rattle.bounds.proofs.Answers.{counted-refused, counted-accepted, table-edition}
+use Rattle.bounds.proofs.Answers.{numbered-refused, numbered-accepted, counted-number}
 use Rattle.rank.specs.Walk.{Filled}
 use Rattle.rank.specs.Find.{foundOf}
 use Rattle.rank.specs.declared.walk.find.Task.{Task}
@@ -20,16 +20,17 @@ use Rattle.rank.proofs.walk.find.find_in.Tie as tie
 none : {n : ℕ} → n ≤ 0 → n ≡ 0
 none l = omega arith
 
+-- with room for the table, `fill` answers N or the edition's refusal
+number-at : (c : tie.After-fill) → let a = c .before .before .before .before .before .args in c .fill .result ≡ numberOf (now (a .upper)) (a .total)
+number-at c = let s = c .before .before .before .before .before in c .fill .ensures .0 ∙ counted-number (now (s .args .upper)) (s .args .total) (length (now (s .args .cells))) (s .pre .1)
+
 returns : tie.Need-returns
 returns c =
-    let s = c .before .before .before .before .before .before .before .before .before .before in
-    let ms = now (s .args .upper) in
-    let f = c .before .before .before .before .before .fill in
-    let room = table-edition ms (s .args .total) (length (now (s .args .cells))) (s .pre .1) in
+    let a = c .before .before .before .before .before .before .before .before .before .before .args in
+    let ms = now (a .upper) in
+    let f = c .before .before .before .before .before .fill .result in
     let l = c .before .if1 .taken in
-    c .nothing .ensures
-    ∙ found-edition ms (s .args .total) (s .args .task) _ (f .result .number) (f .result .detail)
-    (sym room ∙ counted-refused ms (s .args .total) (length (now (s .args .cells))) (f .result) (f .ensures .0) l) l
+    c .nothing .ensures ∙ found-edition ms (a .total) (a .task) _ (f .number) (f .detail) (numbered-refused ms (a .total) f (number-at (c .before .before .before .before .before)) l) l
 
 -- what both directions ask for
 accepted-at : (c : tie.Else1)
@@ -41,12 +42,11 @@ accepted-at c =
     let s = c .before .before .before .before .before .before .before .before .before in
     let ms = now (s .args .upper) in
     let r = s .args .total in
-    let size = length (now (s .args .cells)) in
     let f = c .before .before .before .before .fill in
     let z = none (c .if1 .left) in
-    let k = counted-accepted ms r size (f .result) (f .ensures .0) z in
+    let k = numbered-accepted ms r (f .result) (number-at (c .before .before .before .before)) z in
     let shape = shapely ms r (s .pre .0) in (
-      ap (λ (v : Refusal). v .number) (sym (table-edition ms r size (s .pre .1))) ∙ k .0,
+      k .0,
       record { few = shape .few; small = shape .small; reached = shape .reached; row = s .pre .2; table = f .ensures .1 z },
       k .1,
     )
