@@ -1,29 +1,27 @@
 -- The answers of `rank`, `unrank` and `locate`, from what `find` answers.
 use mathlib.Core.Path.{_≡_, refl, sym, ap, _∙_}
-use mathlib.Core.Bool.{true, false, cond}
 use mathlib.Core.List.{List, _++_}
-use Prim.Native.Nat.{ℕ, _≤_, _<_, min, max}
+use Prim.Native.Nat.{ℕ, _≤_, _<_}
 use native.Mathlib.Omega.{arith}
 use lib.Dec.{eqb}
-use lib.ListN.{length, take, replicate}
+use lib.ListN.{length, take}
 use borrow.Author.Tests.{eq-eqb, ne-eqb, lt-ltb, le-ltb}
 use Rattle.walsh.specs.Order.{countOf}
 use Rattle.walsh.specs.Serial.{compositionOf}
 use Rattle.walsh.proofs.Cases.{on-test}
 use Rattle.bounds.specs.Refusal.{refused, firstRefusal}
-use Rattle.bounds.specs.Edition.{shapeChecks, editionChecks, cellsOf}
+use Rattle.bounds.specs.Edition.{shapeChecks, editionChecks}
 use Rattle.bounds.specs.Places.{serialChecks, lentChecks}
 use Rattle.bounds.specs.declared.Refusal.{Refusal}
-use Rattle.bounds.proofs.Refusals.{refusal-next, refusal-first, refusal-later, is-refused, is-accepted}
+use Rattle.bounds.proofs.Refusals.{refusal-first, refusal-later, is-refused, is-accepted}
 use Rattle.bounds.proofs.Editions.{Shapely, shapely}
 use Rattle.bounds.proofs.Chains.{accepts-split}
 use Rattle.bounds.proofs.Filling.{filling-refused, filling-done}
-use Rattle.rank.specs.Rank.{Answer, rankChecks, rankAnswer}
+use Rattle.rank.specs.Rank.{rankChecks, rankAnswer}
 use Rattle.rank.specs.Unrank.{unrankChecks, unrankCall}
 use Rattle.rank.specs.Locate.{nearest, locateOf}
 use Rattle.rank.proofs.Locations.{nearest-bytes}
 use Rattle.rank.specs.Find.{foundOf}
-use Rattle.rank.specs.declared.Located.{Located}
 use Rattle.rank.specs.declared.walk.find.Found.{Found}
 use Rattle.rank.specs.declared.walk.find.Task.the-variants.{Rank, Unrank}
 

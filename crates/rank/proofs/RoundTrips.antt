@@ -14,9 +14,8 @@ use Rattle.bounds.proofs.Refusals.{refusal-later, is-accepted}
 use Rattle.bounds.proofs.Chains.{Accepts, accepts-split}
 use Rattle.bounds.proofs.Compositions.{composition-passed, composition-passes}
 use Rattle.bounds.proofs.Places.{serial-passed, serial-passes, lent-passed, lent-passes}
-use Rattle.bounds.proofs.Filling.{filling-accepted}
 use Rattle.rank.specs.Rank.{Answer, rankChecks, rankAnswer}
-use Rattle.rank.specs.Unrank.{unrankChecks, unrankCall}
+use Rattle.rank.specs.Unrank.{unrankCall}
 
 module _ (ms : List ℕ) (r : ℕ) where
   -- ---- which calls are accepted, and what they answer

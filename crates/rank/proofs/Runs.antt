@@ -4,7 +4,7 @@ use mathlib.Core.List.{List}
 use Prim.Native.Nat.{ℕ, suc, _+_, _-_, _*_, _≤_, _<_}
 use native.Mathlib.Nat.{le-refl, le-of-lt, lt-of-lt-of-le}
 use native.Mathlib.Omega.{arith}
-use lib.ListN.{length, getD}
+use lib.ListN.{getD}
 use Rattle.walsh.specs.Order.{least, most, partValue, partChoices}
 use Rattle.walsh.specs.Rank.{indexOf, partIndex, blockSize}
 use Rattle.walsh.proofs.Lists.{value-low, value-high}

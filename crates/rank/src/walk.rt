@@ -1,7 +1,7 @@
 // The walk over a filled counting table, from the last part down: from a rank, which counts from 0, to its composition, and back.
 ghost use mathlib.Core.Path.{_≡_};
 ghost use mathlib.Core.List.{[]};
-ghost use Prim.Native.Nat.{ℕ, suc, _+_, _-_, _≤_, _<_};
+ghost use Prim.Native.Nat.{suc, _+_, _-_, _≤_, _<_};
 ghost use lib.ListN.{length, getD};
 ghost use Rattle.walsh.specs.Sums.{sum, sumTo};
 ghost use Rattle.walsh.specs.Order.{CompositionTo, order, count, least, most};

@@ -1,4 +1,5 @@
-use mathlib.Core.Path.{_≡_, ap}
+-- `rank::walk::block` meets its contract. The index stands between those of the run's two ends.
+use mathlib.Core.Path.{ap}
 use Prim.Native.Nat.{ℕ, _+_, _-_, _≤_, _<_}
 use native.Mathlib.Omega.{arith}
 use lib.ListN.{length, getD}

@@ -1,11 +1,11 @@
-use mathlib.Core.Path.{_≡_, ap, _∙_}
+-- `rank::walk::pick_value` meets its contract. The rank is the blocks passed and what is left of it.
+use mathlib.Core.Path.{_≡_}
 use Prim.Native.Nat.{ℕ, suc, _+_, _-_, _≤_, _<_}
 use native.Mathlib.Nat.{le-trans}
 use native.Mathlib.Omega.{arith}
 use denote.Ref.{now}
 use mir.Val.{Fits}
 use mir.Syntax.{w64}
-use borrow.Author.Needs.{needs}
 use Rattle.walsh.specs.Sums.{sum}
 use Rattle.walsh.specs.Order.{partChoices}
 use Rattle.walsh.specs.Rank.{blockSize}
