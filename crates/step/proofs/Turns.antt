@@ -36,7 +36,7 @@ module _ (lo hi v : ℕ) where
 
 module _ (ms : List ℕ) (w : ℕ) (g : List ℕ) where
   -- the parts up to i
-  upTo : Moving ms w g → (i : ℕ) → i < length ms → CompositionTo ms (suc i) (sumTo g (suc i)) g
+  pub upTo : Moving ms w g → (i : ℕ) → i < length ms → CompositionTo ms (suc i) (sumTo g (suc i)) g
   upTo m i l = record { fits = λ j b. m .fits j (omega arith); sums = refl }
 
   pub part-stays : (i : ℕ) → i < length ms → canMove ms w g i ≡ false → Moving ms w g → AtLast ms w g i

@@ -1,4 +1,5 @@
 pub mod Steps
 pub mod Advance
 pub mod Batch
+pub mod Run
 pub mod Turn

@@ -3,18 +3,21 @@ ghost use mathlib.Core.Path.{_≡_};
 ghost use mathlib.Core.List.{List, _++_};
 ghost use Prim.Native.Nat.{ℕ, _+_, _*_, _≤_, _<_};
 ghost use lib.Dec.{eqb};
-ghost use lib.ListN.{length, take};
-ghost use Rattle.walsh.specs.Order.{Composition, countOf};
-ghost use Rattle.walsh.specs.Serial.{serialOf};
+ghost use lib.ListN.{length, getD};
 ghost use Rattle.bounds.specs.Refusal.{firstRefusal};
 ghost use Rattle.bounds.specs.Places.{lentChecks};
 ghost use Rattle.bounds.specs.declared.Refusal.{Refusal};
-ghost use Rattle.step.specs.Batch.{beyond, rangeChecks, copiesOf, batchOf};
+ghost use Rattle.step.specs.Batch.{beyond, rangeChecks, batchOf};
+ghost use Rattle.step.specs.Run.{valuesLeft, Running, CanMove, movedOf, shown, Onward, Asked, copiesFrom};
 use crate::copy;
 use crate::turn;
 use bounds::Refusal;
 use places::refusal;
 use rank::locate;
+use walsh::is_odd;
+use walsh::lesser;
+use walsh::over;
+use walsh::wide;
 
 // The serials that the copies begin with and end with are not both within 1..count.
 fn is_beyond(count: u64, serial: u64, copies: u64) -> bool
@@ -54,22 +57,116 @@ fn room_refusal(count: u64, n: usize, serial: u64, copies: u64, have: usize) -> 
     refusal(13)
 }
 
+// The first two parts of a composition, which way the second goes, and how often it can still move. Most steps move these two alone, so they are
+// kept apart from the others.
+struct Run {
+    first: u8,
+    second: u8,
+    falling: bool,
+    more: usize,
+}
+
+// How many of the values lo..hi come after v.
+fn values_left(v: usize, lo: usize, hi: usize, falling: bool) -> usize
+    ensures { λ r. ⌜ r ≡ valuesLeft lo hi falling v ⌝ }
+{
+    if falling { over(v, lo) } else { over(hi, v) }
+}
+
+fn run_of(upper: &[u8], total: usize, parts: &[u8]) -> Run
+    requires { ⌜ (1 < length (now upper)) × (1 < length (now parts)) ⌝ }
+    ensures { λ r. ⌜ (r .first ≡ getD (now (parts .entry)) 0 0) × (r .second ≡ getD (now (parts .entry)) 1 0) × Running (now (upper .entry)) total r ⌝ }
+{
+    let first = parts[0];
+    let second = parts[1];
+    let sum = wide(first) + wide(second);
+    let falling = is_odd(over(total, sum));
+    let lo = over(sum, wide(upper[0]));
+    let hi = lesser(wide(upper[1]), sum);
+    let more = values_left(wide(second), lo, hi, falling);
+    Run {
+        first,
+        second,
+        falling,
+        more,
+    }
+}
+
+// The second part at its next value.
+fn moved(run: Run) -> Run
+    requires { ⌜ CanMove run ⌝ }
+    ensures { λ r. ⌜ r ≡ movedOf run ⌝ }
+{
+    if run.falling {
+        return Run {
+            first: run.first + 1,
+            second: run.second - 1,
+            falling: true,
+            more: run.more - 1,
+        };
+    }
+    Run {
+        first: run.first - 1,
+        second: run.second + 1,
+        falling: false,
+        more: run.more - 1,
+    }
+}
+
+// The next composition: by the run where it can go on, or else by a step of the parts, with which a new run begins.
+fn onward(upper: &[u8], total: usize, run: Run, parts: &mut [u8]) -> Run
+    requires { ⌜ (1 < length (now upper)) × (length (now upper) ≤ 24) × (total ≤ 255) × (length (now parts) ≡ length (now upper)) × Running (now upper) total run ⌝ }
+    ensures { λ r. ⌜ Onward (now (upper .entry)) total (shown run (now (parts .entry))) r (now (parts .exit)) ⌝ }
+{
+    if 0 < run.more {
+        return moved(run);
+    }
+    parts[0] = run.first;
+    parts[1] = run.second;
+    turn(upper, total, parts);
+    run_of(upper, total, parts)
+}
+
+// Writes the composition of a run, whose other parts are those of `parts`.
+fn put(run: Run, parts: &[u8], out: &mut [u8])
+    requires { ⌜ (1 < length (now parts)) × (length (now out) ≡ length (now parts)) ⌝ }
+    ensures { λ _. ⌜ now (out .exit) ≡ shown run (now (parts .entry)) ⌝ }
+{
+    copy(parts, out);
+    out[0] = run.first;
+    out[1] = run.second;
+}
+
 // Writes `copies` compositions from `first` on, each into a part of `out` of its own.
-fn write(upper: &[u8], total: usize, first: [u8; 24], copies: u64, out: &mut [u8])
-    requires { ⌜ (0 < length (now upper)) × (length (now upper) ≤ 24) × (total ≤ 255) × Composition (now upper) total (take (length (now upper)) first) × (serialOf (now upper) total (take (length (now upper)) first) + copies ≤ countOf (now upper) total + 1) × (length (now out) ≡ copies * length (now upper)) ⌝ }
-    ensures { λ _. ⌜ now (out .exit) ≡ copiesOf (now (upper .entry)) total (serialOf (now (upper .entry)) total (take (length (now (upper .entry))) first)) copies ⌝ }
+fn write_runs(upper: &[u8], total: usize, first: [u8; 24], copies: u64, out: &mut [u8])
+    requires { ⌜ (1 < length (now upper)) × Asked (now upper) total first copies (length (now out)) ⌝ }
+    ensures { λ _. ⌜ now (out .exit) ≡ copiesFrom (now (upper .entry)) total first copies ⌝ }
 {
     let n = upper.len();
     let mut parts = first;
+    let mut run = run_of(upper, total, &parts[..n]);
     let mut at = 0;
     let mut j: u64 = 0;
     while j < copies {
         let end = at + n;
-        copy(&parts[..n], &mut out[at..end]);
-        turn(upper, total, &mut parts[..n]);
+        put(run, &parts[..n], &mut out[at..end]);
+        run = onward(upper, total, run, &mut parts[..n]);
         at = end;
         j += 1;
     }
+}
+
+// The same, for a single part too: that has one composition.
+fn write(upper: &[u8], total: usize, first: [u8; 24], copies: u64, out: &mut [u8])
+    requires { ⌜ Asked (now upper) total first copies (length (now out)) ⌝ }
+    ensures { λ _. ⌜ now (out .exit) ≡ copiesFrom (now (upper .entry)) total first copies ⌝ }
+{
+    if upper.len() == 1 {
+        let have = out.len();
+        copy(&first[..have], out);
+        return;
+    }
+    write_runs(upper, total, first, copies, out);
 }
 
 // Writes `copies` compositions from that of `serial` on into `out`, or answers the refusal and writes nothing. One table serves them all.

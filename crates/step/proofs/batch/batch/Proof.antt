@@ -65,7 +65,7 @@ write-requires c κs =
     let s = shape-at (e .before .before .before) in
     let valid = composition-is (a .upper .now) (a .total) (a .serial) (p .some) (p .within) in
     let number = serial-composition (a .upper .now) (a .total) (a .serial) (p .some) (p .within) in
-    (s .some, s .few, s .small, rw (first-at e) valid, rw (first-at e, number) (p .few), p .room)
+    record { some = s .some; few = s .few; small = s .small; valid = rw (first-at e) valid; within = rw (first-at e, number) (p .few); room = p .room }
 
 returns-3 : tie.Need-returns-3
 returns-3 c =

@@ -1,0 +1,60 @@
+-- `step::batch::onward` meets its contract.
+use mathlib.Core.Path.{_≡_, sym, ap, _∙_}
+use mathlib.Core.List.{List}
+use Prim.Native.Nat.{ℕ, _<_}
+use native.Mathlib.Omega.{arith}
+use lib.ListN.{length, set, length-set}
+use borrow.Author.Needs.{needs}
+use Rattle.step.specs.Run.{shown}
+use Rattle.step.proofs.Riding.{moves-to, rides, set-two, two-parts}
+use Rattle.step.proofs.Copies.{turn-next}
+use Rattle.step.proofs.batch.onward.Statement.{statement}
+use Rattle.step.proofs.batch.onward.Tie as tie
+
+returns : tie.Need-returns
+returns c =
+    let start = c .before .before .before .before .before in
+    let a = start .args in
+    let more = c .before .if1 .taken in
+    rw (c .moved .ensures)
+    (record {
+      running = moves-to (a .upper .now) (a .total) (a .run) (start .pre .4) more .running;
+      next = λ k some l is. rides (a .upper .now) (a .total) k (a .run) (a .parts .now) (start .pre .0) some l is (start .pre .4) more;
+    })
+
+-- the parts that are lent to the turn
+size-at : (c : tie.Else1) →
+    let a = c .before .before .before .before .args in
+    length (set (set (a .parts .now) 0 (a .run .first)) 1 (a .run .second)) ≡ length (a .upper .now)
+size-at c = let start = c .before .before .before .before in simp length-set (start .pre .3)
+
+left-at : (c : tie.After-turn) → length (c .turn .last .1 .1 .0) ≡ length (c .before .before .before .before .before .before .args .upper .now)
+left-at c = c .turn .kept .1 .1 .0 ∙ size-at (c .before .before)
+
+returns-2 : tie.Need-returns-2
+returns-2 c =
+    let t = c .before .before .before .before in
+    let start = t .before .before .before .before .before .before in
+    let a = start .args in
+    let h : List ℕ = t .turn .last .1 .1 .0 in
+    let new = c .run-of .ensures in
+    let wide : 1 < length h = omega (arith, left-at t, start .pre .0) in
+    record {
+      running = new .2;
+      next = λ k some l is.
+          rw (new .0, new .1) (two-parts h wide)
+          ∙ turn-next (a .upper .now) (a .total) k some l (set-two (a .parts .now) (a .run .first) (a .run .second) (omega (arith, start .pre .3, start .pre .0)) ∙ is) (t .turn .ensures);
+    }
+
+pub onward-spec : {M : Type 1} → statement M
+onward-spec =
+    tie.close
+    (tie.spec
+    (λ c κs. let start = c .before .before .before .before in moves-to (start .args .upper .now) (start .args .total) (start .args .run) (start .pre .4) (c .if1 .taken) .can)
+    returns
+    (λ c. search needs)
+    (λ c. search needs)
+    (λ c κs. let start = c .before .before .before .before .before in (omega (arith, start .pre .0), start .pre .1, size-at (c .before), omega (arith, start .pre .2)))
+    (λ c κs. let start = c .before .before .before .before .before .before .before .before .before in (start .pre .0, omega (arith, left-at (c .before .before .before), start .pre .0)))
+    (λ c. left-at (c .before .before .before .before) ∙ sym (c .before .before .before .before .before .before .before .before .before .before .pre .3))
+    returns-2)

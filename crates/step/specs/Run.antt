@@ -1,0 +1,59 @@
+-- What the functions inside the batch promise. A run is a composition whose first two parts are kept apart: the second moves on while it can.
+use mathlib.Core.Path.{_≡_}
+use mathlib.Core.Bool.{Bool, true, false, cond}
+use mathlib.Core.List.{List, _∷_}
+use Prim.Native.Nat.{ℕ, _+_, _-_, _*_, _≤_, _<_, min}
+use lib.ListN.{length, getD, take, drop}
+use Rattle.walsh.specs.Order.{Composition, isOdd, countOf}
+use Rattle.walsh.specs.Serial.{serialOf, compositionOf}
+use Rattle.step.specs.Batch.{copiesOf}
+use Rattle.step.specs.declared.batch.Run.{Run}
+
+-- how many of the values lo..hi come after v
+abbrev pub valuesLeft : ℕ → ℕ → Bool → ℕ → ℕ
+valuesLeft lo hi falling v = cond falling (v - lo) (hi - v)
+
+abbrev pub sumOf : Run → ℕ
+sumOf x = x .first + x .second
+
+-- the way is that of part 1, and it can move at least `more` times
+pub record Running (ms : List ℕ) (r : ℕ) (x : Run) : Type 0 where
+  pub way : x .falling ≡ isOdd (r - sumOf x)
+  pub bytes : (getD ms 0 0 ≤ 255) × (getD ms 1 0 ≤ 255)
+  pub left : x .more ≤ valuesLeft (sumOf x - getD ms 0 0) (min (getD ms 1 0) (sumOf x)) (x .falling) (x .second)
+
+-- the composition of a run, over the other parts
+abbrev pub shown : Run → List ℕ → List ℕ
+shown x parts = x .first ∷ x .second ∷ drop 2 parts
+
+-- x after a move of part 1
+abbrev pub movedOf : Run → Run
+movedOf x =
+    cond (x .falling)
+    (record { first = x .first + 1; second = x .second - 1; falling = true; more = x .more - 1 })
+    (record { first = x .first - 1; second = x .second + 1; falling = false; more = x .more - 1 })
+
+-- the move stays within bytes
+pub record CanMove (x : Run) : Type 0 where
+  pub more : 0 < x .more
+  pub down : x .falling ≡ true → (x .first < 255) × (0 < x .second)
+  pub up : x .falling ≡ false → (0 < x .first) × (x .second < 255)
+
+-- y and the parts show the composition after g
+pub record Onward (ms : List ℕ) (r : ℕ) (g : List ℕ) (y : Run) (parts : List ℕ) : Type 0 where
+  pub running : Running ms r y
+  pub next : (k : ℕ) → 0 < k → k < countOf ms r → g ≡ compositionOf ms r k → shown y parts ≡ compositionOf ms r (k + 1)
+
+-- ---- a batch that begins with the composition in the cells `first`
+
+abbrev pub copiesFrom : List ℕ → ℕ → List ℕ → ℕ → List ℕ
+copiesFrom ms r first c = copiesOf ms r (serialOf ms r (take (length ms) first)) c
+
+-- there are c of them, and `have` bytes for them
+pub record Asked (ms : List ℕ) (r : ℕ) (first : List ℕ) (c have : ℕ) : Type 0 where
+  pub some : 0 < length ms
+  pub few : length ms ≤ 24
+  pub small : r ≤ 255
+  pub valid : Composition ms r (take (length ms) first)
+  pub within : serialOf ms r (take (length ms) first) + c ≤ countOf ms r + 1
+  pub room : have ≡ c * length ms
