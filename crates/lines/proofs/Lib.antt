@@ -1,0 +1,4 @@
+pub mod Appends
+pub mod Lengths
+pub mod Lined
+pub mod Refuses
