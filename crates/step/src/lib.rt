@@ -1,0 +1,125 @@
+// Forward and backward step (document 01, "Serial and mix"). The first part that is not at its last value takes its next value, and the parts
+// to its left start anew (source document 000, section 2). Backward is the same with one more than the total: every sum to the right is then
+// one more, so every part runs the other way.
+use walsh::first_value;
+use walsh::is_odd;
+use walsh::lesser;
+use walsh::next_value;
+use walsh::over;
+use walsh::wide;
+ghost use mathlib.Core.Path.{_≡_};
+ghost use mathlib.Core.Bool.{cond};
+ghost use mathlib.Core.List.{_++_};
+ghost use Prim.Native.Nat.{ℕ, _≤_, _<_};
+ghost use lib.Dec.{ltb};
+ghost use lib.ListN.{length, drop};
+ghost use Rattle.walsh.specs.Sums.{sumTo};
+ghost use Rattle.walsh.specs.Step.{firstOf};
+ghost use Rattle.step.specs.Advance.{Advances};
+ghost use Rattle.step.specs.Turn.{Moving, Found-at, Turned};
+
+// Part `at`, the sum of the bounds to its left, that of the parts up to it, itself included, and that of the parts to its right.
+struct Found {
+    at: usize,
+    left: usize,
+    sum: usize,
+    right: usize,
+}
+
+// v is not the last of the values lo..hi.
+fn moves(v: usize, lo: usize, hi: usize, falling: bool) -> bool
+    ensures { λ r. ⌜ r ≡ cond falling (ltb lo v) (ltb v hi) ⌝ }
+{
+    if falling { lo < v } else { v < hi }
+}
+
+// The first part that is not at its last value, or their number. Part 0 has one value only, what the others leave.
+fn pivot(upper: &[u8], total: usize, parts: &[u8]) -> Found
+    requires { ⌜ (0 < length (now upper)) × (length (now upper) ≤ 24) × (length (now parts) ≡ length (now upper)) ⌝ }
+    ensures { λ r. ⌜ Found-at (now (upper .entry)) total (now (parts .entry)) r ⌝ }
+{
+    let mut left = wide(upper[0]);
+    let mut sum = wide(parts[0]);
+    let mut i = 1;
+    while i < parts.len() {
+        let m = wide(upper[i]);
+        let v = wide(parts[i]);
+        sum += v;
+        let right = over(total, sum);
+        if moves(v, over(sum, left), lesser(m, sum), is_odd(right)) {
+            return Found {
+                at: i,
+                left,
+                sum,
+                right,
+            };
+        }
+        left += m;
+        i += 1;
+    }
+    Found {
+        at: i,
+        left,
+        sum,
+        right: 0,
+    }
+}
+
+// Fills the first k parts with the first composition of `rest`; the parts to the right sum to `right`, the k bounds to `left`.
+fn refill(upper: &[u8], k: usize, left: usize, rest: usize, right: usize, parts: &mut [u8])
+    requires { ⌜ (0 < k) × (k ≤ length (now upper)) × (k ≤ length (now parts)) × (left ≡ sumTo (now upper) k) × (rest ≤ left) × (left < 65536) × (right < 8589934592) ⌝ }
+    ensures { λ _. ⌜ now (parts .exit) ≡ firstOf (now (upper .entry)) k rest right ++ drop k (now (parts .entry)) ⌝ }
+{
+    let mut under = left;
+    let mut rem = rest;
+    let mut t = right;
+    let mut i = k;
+    while 1 < i {
+        i -= 1;
+        let m = wide(upper[i]);
+        under -= m;
+        let v = first_value(over(rem, under), lesser(m, rem), is_odd(t));
+        parts[i] = v as u8;
+        rem -= v;
+        t += v;
+    }
+    parts[0] = rem as u8;
+}
+
+// The step in place, or false where every part is at its last value. Where the parts are no composition, the rest may not fit: then false too.
+fn turn(upper: &[u8], total: usize, parts: &mut [u8]) -> bool
+    requires { ⌜ (0 < length (now upper)) × (length (now upper) ≤ 24) × (length (now parts) ≡ length (now upper)) × (total ≤ 4294967296) ⌝ }
+    ensures { λ r. ⌜ Turned (now (upper .entry)) total (now (parts .entry)) r (now (parts .exit)) ⌝ }
+{
+    let found = pivot(upper, total, parts);
+    let i = found.at;
+    if i == parts.len() {
+        return false;
+    }
+    let u = next_value(parts[i], is_odd(found.right));
+    let rest = found.sum - u;
+    if found.left < rest {
+        return false;
+    }
+    parts[i] = u as u8;
+    refill(upper, i, found.left, rest, found.right + u, parts);
+    true
+}
+
+// The next composition, in place of the one that is lent, or false and nothing changed where that is the last. Parts that are no composition are
+// left as they are or get some other values.
+pub fn advance(upper: &[u8], total: u32, parts: &mut [u8]) -> bool
+    ensures { λ r. ⌜ Advances (now (upper .entry)) total (now (parts .entry)) r (now (parts .exit)) ⌝ }
+{
+    let n = upper.len();
+    if n == 0 {
+        return false;
+    }
+    if 24 < n {
+        return false;
+    }
+    if parts.len() != n {
+        return false;
+    }
+    turn(upper, total as usize, parts)
+}
