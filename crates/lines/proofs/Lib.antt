@@ -2,3 +2,4 @@ pub mod Appends
 pub mod Lengths
 pub mod Lined
 pub mod Refuses
+pub mod Pieces

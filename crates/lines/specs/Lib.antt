@@ -1,2 +1,4 @@
-pub mod Append
+pub mod Lines
+pub mod Chunk
 pub mod Refuse
+pub mod Append

@@ -7,6 +7,23 @@ ghost use lib.ListN.{length};
 ghost use Rattle.request.specs.Text.{decimal, line};
 ghost use Rattle.lines.specs.Append.{Appended, pairOf};
 ghost use Rattle.lines.specs.Refuse.{refusalOf};
+ghost use Rattle.lines.specs.Chunk.{Ready, Filled};
+
+// What a call put into a buffer: N, the serial of the next line, and where the lines end; or a refusal's number and detail, with all else 0.
+#[repr(C)]
+pub struct Chunk {
+    pub number: u32,
+    pub detail: u64,
+    pub count: u64,
+    pub next: u64,
+    pub end: usize,
+}
+
+// The serial of the next line, and where those before it end.
+struct Piece {
+    next: u64,
+    end: usize,
+}
 
 fn long(x: u8) -> u64
     ensures { λ r. ⌜ r ≡ x ⌝ }
@@ -111,6 +128,24 @@ fn fits(serial: u64, parts: &[u8], room: usize) -> bool
         return true;
     }
     line_len(serial, parts) <= room
+}
+
+// The lines from a serial on, as many as have room. The parts are its composition, and go on with the lines.
+fn put_lines(upper: &[u8], total: u32, serial: u64, count: u64, parts: &mut [u8], out: &mut [u8]) -> Piece
+    requires { ⌜ Ready (now upper) total serial count (now parts) ⌝ }
+    ensures { λ p. ⌜ Filled (now (upper .entry)) total serial (now (out .entry)) (now (out .exit)) p ⌝ }
+{
+    let mut s = serial;
+    let mut end = 0;
+    while s <= count {
+        if !fits(s, parts, out.len() - end) {
+            return Piece { next: s, end };
+        }
+        end = put_line(s, parts, out, end);
+        step::advance(upper, total, parts);
+        s += 1;
+    }
+    Piece { next: s, end }
 }
 
 // Puts a text at the beginning of out.
