@@ -3,3 +3,4 @@ pub mod Lengths
 pub mod Lined
 pub mod Refuses
 pub mod Pieces
+pub mod Fills

@@ -7,7 +7,7 @@ ghost use lib.ListN.{length};
 ghost use Rattle.request.specs.Text.{decimal, line};
 ghost use Rattle.lines.specs.Append.{Appended, pairOf};
 ghost use Rattle.lines.specs.Refuse.{refusalOf};
-ghost use Rattle.lines.specs.Chunk.{Ready, Filled};
+ghost use Rattle.lines.specs.Chunk.{refusedChunk, fillOf, Ready, Filled};
 
 // What a call put into a buffer: N, the serial of the next line, and where the lines end; or a refusal's number and detail, with all else 0.
 #[repr(C)]
@@ -146,6 +146,47 @@ fn put_lines(upper: &[u8], total: u32, serial: u64, count: u64, parts: &mut [u8]
         s += 1;
     }
     Piece { next: s, end }
+}
+
+fn refused(number: u32, detail: u64) -> Chunk
+    ensures { λ r. ⌜ r ≡ refusedChunk (record { number = number; detail = detail }) ⌝ }
+{
+    Chunk {
+        number,
+        detail,
+        count: 0,
+        next: 0,
+        end: 0,
+    }
+}
+
+// Fills the beginning of out with the lines from that of a serial on, as many whole ones as have room.
+pub fn fill(upper: &[u8], total: u32, serial: u64, out: &mut [u8]) -> Chunk
+    ensures { λ c. ⌜ (c, now (out .exit)) ≡ fillOf (now (upper .entry)) total serial (now (out .entry)) ⌝ }
+{
+    let l = rank::locate(upper, total, serial);
+    if 0 < l.number {
+        return refused(l.number, l.detail);
+    }
+    if 1000000 < l.count {
+        return refused(14, 0);
+    }
+    if serial == 0 {
+        return refused(6, 0);
+    }
+    if l.count < serial {
+        return refused(6, 0);
+    }
+    let n = upper.len();
+    let mut cells = l.composition;
+    let p = put_lines(upper, total, serial, l.count, &mut cells[..n], out);
+    Chunk {
+        number: 0,
+        detail: 0,
+        count: l.count,
+        next: p.next,
+        end: p.end,
+    }
 }
 
 // Puts a text at the beginning of out.
