@@ -156,3 +156,12 @@ size-small ms r reach s few =
   where
     go : {w b n : ℕ} → w ≡ 1 → b ≤ 256 * n → n ≤ 24 → b + w ≤ 6145
     go e l f = omega arith
+-- the last row, from the table's size and the sum of the bounds
+pub last-row : (ms : List ℕ) (r : ℕ) (row : Row) → r ≤ whole ms → row .start + 1 ≡ bandSize ms r → row .left ≡ whole ms → row .all ≡ whole ms
+    → row .low ≡ r → row .high ≡ r → IsRow ms r (length ms) row
+last-row ms r row reach e1 e2 e3 e4 e5 =
+    let one : width ms r (length ms) ≡ 1 = omega arith in
+    record { start = go one e1; left = e2; all = e3; low = e4 ∙ omega arith; high = e5 ∙ omega arith }
+  where
+    go : {s b w : ℕ} → w ≡ 1 → s + 1 ≡ b + w → s ≡ b
+    go e q = omega arith

@@ -1,0 +1,4 @@
+pub mod Runs
+pub mod Picks
+pub mod Parts
+pub mod Finds
