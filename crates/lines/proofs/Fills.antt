@@ -5,7 +5,7 @@ use mathlib.Core.List.{List, [], _∷_, _++_}
 use Prim.Native.Nat.{ℕ, suc, _+_, _-_, _≤_, _<_}
 use native.Mathlib.Omega.{arith}
 use lib.Dec.{eqb, ltb}
-use lib.ListN.{length, take, replicate}
+use lib.ListN.{length, take, replicate, length-append}
 use lib.Seq.{take-at}
 use borrow.Author.Tests.{lt-ltb, le-ltb, eq-eqb, ne-eqb}
 use Rattle.walsh.specs.Tests.{either}
@@ -17,6 +17,7 @@ use Rattle.bounds.specs.Edition.{shapeChecks, editionChecks, cellsOf}
 use Rattle.bounds.specs.Places.{serialChecks}
 use Rattle.bounds.proofs.Refusals.{refusal-here, refusal-next, refusal-first, refusal-later, by-refusal, by-acceptance}
 use Rattle.bounds.proofs.Editions.{Shapely, shapely}
+use Rattle.bounds.proofs.Chains.{accepts-split}
 use Rattle.bounds.specs.declared.Refusal.{Refusal}
 use Rattle.rank.specs.Locate.{nearest, locateOf}
 use Rattle.rank.specs.declared.Located.{Located}
@@ -85,13 +86,37 @@ module _ (ms : List ℕ) (r s : ℕ) where
         fill-over c out ne l ec = outside c out (rw (ne-eqb s 0 ne, ← told .1) (lt-ltb (x .count) s l)) ec
 
         module _ (low : (s ≡ 0 → ⊥)) (high : s ≤ x .count) where
-          pub fill-few : length ms ≤ 24
-          fill-few = ?
+          pos : 0 < s
+          pos = omega (arith, low)
+
+          top : s ≤ countOf ms r
+          top = omega (arith, told .1)
+
+          size : length (compositionOf ms r s) ≡ length ms
+          size = composition-is ms r s pos top .size
+
+          cells : x .composition ≡ cellsOf (compositionOf ms r s)
+          cells = rw (told .2, clamp-in (countOf ms r) s pos top)
+
+          pub fill-cells : length ms ≤ length (x .composition)
+          unfolding cellsOf
+          fill-cells = rw cells (omega (arith, size, length-append (compositionOf ms r s) (replicate (24 - length (compositionOf ms r s)) 0)))
 
           pub fill-ready : Ready ms r s (x .count) (take (length ms) (x .composition))
-          fill-ready = ?
+          unfolding cellsOf
+          fill-ready =
+              record {
+                few = shapely ms r (accepts-split (shapeChecks ms r) _ refl (told .0) .0) .few;
+                small = h;
+                all = told .1;
+                low = pos;
+                high = high;
+                here = rw cells (take-at (compositionOf ms r s) _ (length ms) size);
+              }
 
           pub fill-all : (p : Piece) (before after : List ℕ) → Filled ms r s before after p
               → (record { number = 0; detail = 0; count = x .count; next = p .next; end = p .end }, after) ≡ fillOf ms r s before
           unfolding fillOf
-          fill-all p before after f = ?
+          fill-all p before after f =
+              let ends : p .end ≡ length (text ms r s (length before)) = omega (arith, f .put .ends) in
+              sym (by-acceptance first _ _ (none (told .0) (omega (arith, told .1)) pos top) ∙ rw (told .1, f .next, ← ends, ← whole (f .put)))

@@ -1,83 +1,34 @@
+-- `lines::fill` meets its contract.
+use mathlib.Core.Path.{sym}
+use Prim.Native.Nat.{_≤_}
+use native.Mathlib.Omega.{arith}
+use denote.Ref.{now}
+use lib.ListN.{length}
+use lib.Seq.{length-take-le}
 use borrow.Author.Needs.{needs}
+use Rattle.lines.proofs.Fills.{fill-edition, fill-many, fill-zero, fill-over, fill-cells, fill-ready, fill-all}
 use Rattle.lines.proofs.fill.Statement.{statement}
 use Rattle.lines.proofs.fill.Tie as tie
-use Rattle.lines.proofs.fill.Reads as reads
-use Rattle.lines.proofs.fill.Lts as lts
-use Rattle.lines.proofs.put_lines.Reads as put-lines-reads
-use Rattle.lines.proofs.refused.Reads as refused-reads
-use Rattle.rank.proofs.locate.Reads as locate-reads
 
--- src/lib.rt:167:9
-locate-requires : tie.Need-locate-requires
-locate-requires c κs = search needs
-
--- src/lib.rt:169:9
-refused-requires : tie.Need-refused-requires
-refused-requires c κs = search needs
-
--- src/lib.rt:169:9
-returns : tie.Need-returns
-returns c = search needs
-
--- src/lib.rt:172:9
-refused-requires-2 : tie.Need-refused-requires-2
-refused-requires-2 c κs = search needs
-
--- src/lib.rt:172:9
-returns-2 : tie.Need-returns-2
-returns-2 c = search needs
-
--- src/lib.rt:175:9
-refused-requires-3 : tie.Need-refused-requires-3
-refused-requires-3 c κs = search needs
-
--- src/lib.rt:175:9
-returns-3 : tie.Need-returns-3
-returns-3 c = search needs
-
--- src/lib.rt:178:9
-refused-requires-4 : tie.Need-refused-requires-4
-refused-requires-4 c κs = search needs
-
--- src/lib.rt:178:9
-returns-4 : tie.Need-returns-4
-returns-4 c = search needs
-
--- src/lib.rt:182:54
-array-borrow-prefix-cells : tie.Need-array-borrow-prefix-cells
-array-borrow-prefix-cells c = search needs
-
--- src/lib.rt:182:54
-slice-aggregate-put-lines : tie.Need-slice-aggregate-put-lines
-slice-aggregate-put-lines c = search needs
-
--- src/lib.rt:182:9
-put-lines-requires : tie.Need-put-lines-requires
-put-lines-requires c κs = search needs
-
--- src/lib.rt:164:1
-same-length : tie.Need-same-length
-same-length c = search needs
-
--- src/lib.rt:164:1
-returns-5 : tie.Need-returns-5
-returns-5 c = search needs
+-- the cells hold the composition
+cells : (c : tie.After-cells) → length (now (c .before .before .before .before .before .before .before .before .before .before .before .args .upper)) ≤ length (c .before .before .before .before .before .before .before .before .locate .result .composition)
+cells c = fill-cells _ _ _ _ (c .before .before .before .before .before .before .before .before .locate .ensures) (omega arith) (omega arith) (c .before .before .before .if3 .left) (omega arith)
 
 pub fill-spec : {M : Type 1} → statement M
 fill-spec =
     tie.close
     (tie.spec
-    locate-requires
-    refused-requires
-    returns
-    refused-requires-2
-    returns-2
-    refused-requires-3
-    returns-3
-    refused-requires-4
-    returns-4
-    array-borrow-prefix-cells
-    slice-aggregate-put-lines
-    put-lines-requires
-    same-length
-    returns-5)
+    (λ c κs. search needs)
+    (λ c κs. search needs)
+    (λ c. fill-edition _ _ _ _ (c .before .before .before .locate .ensures) _ _ (c .before .if1 .taken) (c .refused .ensures))
+    (λ c κs. search needs)
+    (λ c. fill-many _ _ _ _ (c .before .before .before .before .before .locate .ensures) (omega arith) _ _ (c .before .if2 .taken) (c .refused2 .ensures))
+    (λ c κs. search needs)
+    (λ c. fill-zero _ _ _ _ (c .before .before .before .before .before .before .locate .ensures) (omega arith) (omega arith) _ _ (c .before .if3 .taken) (c .refused3 .ensures))
+    (λ c κs. search needs)
+    (λ c. fill-over _ _ _ _ (c .before .before .before .before .before .before .before .before .locate .ensures) (omega arith) (omega arith) _ _ (c .before .before .before .if3 .left) (c .before .if4 .taken) (c .refused4 .ensures))
+    (λ c. cells c)
+    (λ c. sym (length-take-le (length (now (c .before .before .before .before .before .before .before .before .before .before .before .before .args .upper))) (c .before .before .before .before .before .before .before .before .before .locate .result .composition) (cells (c .before))))
+    (λ c κs. fill-ready _ _ _ _ (c .before .before .before .before .before .before .before .before .before .before .locate .ensures) (omega arith) (omega arith) (c .before .before .before .before .before .if3 .left) (omega arith))
+    (λ c. c .before .before .before .put-lines .kept .1 .1 .1 .1 .1 .0)
+    (λ c. fill-all _ _ _ _ (c .before .before .before .before .before .before .before .before .before .before .before .before .before .before .locate .ensures) (omega arith) (omega arith) (c .before .before .before .before .before .before .before .before .before .if3 .left) (omega arith) _ _ _ (c .before .before .before .put-lines .ensures)))
