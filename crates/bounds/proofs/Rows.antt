@@ -156,6 +156,7 @@ size-small ms r reach s few =
   where
     go : {w b n : ℕ} → w ≡ 1 → b ≤ 256 * n → n ≤ 24 → b + w ≤ 6145
     go e l f = omega arith
+
 -- the last row, from the table's size and the sum of the bounds
 pub last-row : (ms : List ℕ) (r : ℕ) (row : Row) → r ≤ whole ms → row .start + 1 ≡ bandSize ms r → row .left ≡ whole ms → row .all ≡ whole ms
     → row .low ≡ r → row .high ≡ r → IsRow ms r (length ms) row

@@ -80,7 +80,15 @@ fn down(upper: &[u8], total: usize, k: usize, from: band::Row) -> band::Row
 }
 
 // The value of part `k` at which `rank` falls.
-fn pick_value(upper: &[u8], k: usize, row: band::Row, cells: &[u64], rem: usize, t: usize, rank: u64) -> Pick
+fn pick_value(
+    upper: &[u8],
+    k: usize,
+    row: band::Row,
+    cells: &[u64],
+    rem: usize,
+    t: usize,
+    rank: u64,
+) -> Pick
     requires { ⌜ Here (now upper) k rem t row (now cells) × (rank < count (now upper) (suc k) rem) ⌝ }
     ensures { λ r. ⌜ Picked (now (upper .entry)) k rem t rank (r .value) (r .rank) ⌝ }
 {
@@ -122,7 +130,15 @@ fn write(upper: &[u8], total: usize, last: band::Row, cells: &[u64], rank: u64, 
 }
 
 // How many compositions have an earlier value of part `k` than `v`.
-fn earlier(upper: &[u8], k: usize, row: band::Row, cells: &[u64], rem: usize, t: usize, v: usize) -> u64
+fn earlier(
+    upper: &[u8],
+    k: usize,
+    row: band::Row,
+    cells: &[u64],
+    rem: usize,
+    t: usize,
+    v: usize,
+) -> u64
     requires { ⌜ Here (now upper) k rem t row (now cells) × (least (now upper) k rem ≤ v) × (v ≤ most (now upper) k rem) ⌝ }
     ensures { λ r. ⌜ r ≡ sum (blockSize (now (upper .entry)) k rem t) (partIndex (now (upper .entry)) k rem t v) ⌝ }
 {

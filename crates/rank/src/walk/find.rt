@@ -52,7 +52,14 @@ fn nearest(n: u64, s: u64) -> u64
     if n < 1 { 1 } else { n }
 }
 
-fn rank_in(upper: &[u8], total: u32, last: band::Row, cells: &[u64], count: u64, given: &[u8]) -> Found
+fn rank_in(
+    upper: &[u8],
+    total: u32,
+    last: band::Row,
+    cells: &[u64],
+    count: u64,
+    given: &[u8],
+) -> Found
     requires { ⌜ (firstRefusal (editionChecks (now upper) total) .number ≡ 0) × Filled (now upper) total last (now cells) × (count ≡ countOf (now upper) total) ⌝ }
     ensures { λ r. ⌜ r ≡ foundOf Rank (now (upper .entry)) total (now (given .entry)) ⌝ }
 {
@@ -70,7 +77,15 @@ fn rank_in(upper: &[u8], total: u32, last: band::Row, cells: &[u64], count: u64,
     }
 }
 
-fn unrank_in(upper: &[u8], total: u32, last: band::Row, cells: &[u64], count: u64, serial: u64, given: &[u8]) -> Found
+fn unrank_in(
+    upper: &[u8],
+    total: u32,
+    last: band::Row,
+    cells: &[u64],
+    count: u64,
+    serial: u64,
+    given: &[u8],
+) -> Found
     requires { ⌜ (firstRefusal (editionChecks (now upper) total) .number ≡ 0) × Filled (now upper) total last (now cells) × (count ≡ countOf (now upper) total) ⌝ }
     ensures { λ r. ⌜ r ≡ foundOf (Unrank serial) (now (upper .entry)) total (now (given .entry)) ⌝ }
 {
@@ -95,7 +110,14 @@ fn unrank_in(upper: &[u8], total: u32, last: band::Row, cells: &[u64], count: u6
 }
 
 // `find` of a shape that is accepted, with room for its table.
-fn find_in(upper: &[u8], total: u32, last: band::Row, cells: &mut [u64], task: Task, given: &[u8]) -> Found
+fn find_in(
+    upper: &[u8],
+    total: u32,
+    last: band::Row,
+    cells: &mut [u64],
+    task: Task,
+    given: &[u8],
+) -> Found
     requires { ⌜ (firstRefusal (shapeChecks (now upper) total) .number ≡ 0) × (bandSize (now upper) total ≤ length (now cells)) × IsRow (now upper) total (length (now upper)) last ⌝ }
     ensures { λ r. ⌜ r ≡ foundOf task (now (upper .entry)) total (now (given .entry)) ⌝ }
 {

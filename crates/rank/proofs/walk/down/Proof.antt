@@ -26,7 +26,7 @@ row-at : (c : tie.After-lesser)
     let low = c .before .over .result in
     let high = c .lesser .result in
     (a .from .left - c .before .before .before .before .wide .result ≡ sumTo ms (a .k)) × (a .from .all ≡ whole ms) × (low ≡ lowest ms (a .total) (a .k)) × (high ≡ highest ms (a .total) (a .k)) × (low ≤ high) × (high ≤ a .total)
-        × (high + 1 - low + rowStart ms (a .total) (a .k) ≡ a .from .start)
+    × (high + 1 - low + rowStart ms (a .total) (a .k) ≡ a .from .start)
 row-at c =
     let s = c .before .before .before .before .before .before .before in
     let f = s .args .from in

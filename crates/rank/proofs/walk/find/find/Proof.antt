@@ -63,7 +63,7 @@ asks-at : (c : tie.Else1) (m : ℕ) → c .before .before .survey .result .size 
     let ms = now (a .upper) in
     let s = c .before .before .survey .result in
     (firstRefusal (shapeChecks ms (a .total)) .number ≡ 0) × (bandSize ms (a .total) ≤ length (take {A = ℕ} (s .size) (replicate m 0)))
-        × IsRow ms (a .total) (length ms) (record { start = s .size - 1; left = s .all; all = s .all; low = a .total; high = a .total })
+    × IsRow ms (a .total) (length ms) (record { start = s .size - 1; left = s .all; all = s .all; low = a .total; high = a .total })
 asks-at c m l = let k = survey-at c in (k .0, room (k .2) (prefix-length _ m l), last-at c)
   where
     room : {x b y : ℕ} → x ≡ b → y ≡ x → b ≤ y
