@@ -16,12 +16,11 @@ use Rattle.bounds.specs.Refusal.{Check, check, refused, firstRefusal}
 use Rattle.bounds.specs.Edition.{shapeChecks, editionChecks, cellsOf}
 use Rattle.bounds.specs.Places.{serialChecks}
 use Rattle.bounds.proofs.Refusals.{refusal-here, refusal-next, refusal-first, refusal-later, by-refusal, by-acceptance}
-use Rattle.bounds.proofs.Editions.{Shapely, shapely}
-use Rattle.bounds.proofs.Chains.{accepts-split}
 use Rattle.bounds.specs.declared.Refusal.{Refusal}
 use Rattle.rank.specs.Locate.{nearest, locateOf}
 use Rattle.rank.specs.declared.Located.{Located}
-use Rattle.rank.proofs.Locates.{located-refused, located-accepted, clamp-in}
+use Rattle.rank.proofs.Calls.{edition-shapely, clamp-in}
+use Rattle.step.proofs.Located.{located-refused, located-accepted}
 use Rattle.lines.specs.Append.{Appended}
 use Rattle.lines.specs.Lines.{linesOf}
 use Rattle.lines.specs.Chunk.{listChecks, taken, text, chunkOf, refusedChunk, fillOf, Ready, Filled}
@@ -106,7 +105,7 @@ module _ (ms : List ℕ) (r s : ℕ) where
           unfolding cellsOf
           fill-ready =
               record {
-                few = shapely ms r (accepts-split (shapeChecks ms r) _ refl (told .0) .0) .few;
+                few = edition-shapely ms r (told .0) .few;
                 small = h;
                 all = told .1;
                 low = pos;

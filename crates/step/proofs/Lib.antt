@@ -1,3 +1,4 @@
 pub mod Turns
 pub mod Refills
 pub mod Forward
+pub mod Located
