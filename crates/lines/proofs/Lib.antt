@@ -4,3 +4,6 @@ pub mod Lined
 pub mod Refuses
 pub mod Pieces
 pub mod Fills
+pub mod Chunks
+pub mod Held
+pub mod Whole

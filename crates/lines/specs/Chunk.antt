@@ -1,8 +1,8 @@
 -- What a call answers that fills a buffer with lines (document 01, "Listing program" and "Refusals by place of checking").
 use mathlib.Core.Path.{_≡_}
 use mathlib.Core.Bool.{cond}
-use mathlib.Core.List.{List, _∷_, _++_}
-use Prim.Native.Nat.{ℕ, suc, _+_, _-_, _≤_, _<_}
+use mathlib.Core.List.{List, [], _∷_, _++_}
+use Prim.Native.Nat.{ℕ, zero, suc, _+_, _-_, _≤_, _<_}
 use lib.Dec.{eqb, ltb}
 use lib.ListN.{length, drop}
 use Rattle.walsh.specs.Order.{countOf}
@@ -45,6 +45,12 @@ filledBy v ms r s out =
 -- the answer and the buffer of a call
 unfoldable pub fillOf : List ℕ → ℕ → ℕ → List ℕ → Chunk × List ℕ
 fillOf ms r s out = filledBy (firstRefusal (listChecks ms r s)) ms r s out
+
+-- what so many calls write, one behind the other, with a buffer of so many bytes: each goes on at the serial that the one before it answered.
+-- That this is the whole listing is proved in proofs/Whole.antt.
+unfoldable pub piecesOf : List ℕ → ℕ → ℕ → ℕ → ℕ → List ℕ
+piecesOf ms r size zero s = []
+piecesOf ms r size (suc calls) s = text ms r s size ++ piecesOf ms r size calls (s + taken ms r s size)
 
 -- ---- for the code: where the listing goes on, and what it has done then
 
