@@ -1,10 +1,12 @@
 -- A text put at the beginning of a buffer, and the line of a refusal.
 use mathlib.Core.Path.{_≡_, ap}
 use mathlib.Core.List.{List, [], _∷_}
-use Prim.Native.Nat.{ℕ, _+_, _<_}
+use Prim.Native.Nat.{ℕ, _+_, _≤_, _<_}
 use native.Mathlib.Omega.{arith}
+use lib.Dec.{leb}
 use lib.ListN.{length, length-append}
-use borrow.Author.Tests.{le-leb, lt-leb}
+use borrow.Author.Tests.{le-leb, lt-leb, leb-true}
+use Rattle.walsh.proofs.Cases.{on-test}
 use Rattle.request.specs.Text.{decimal, lineEnd, line, refusalLine}
 use Rattle.lines.specs.Append.{Appended}
 use Rattle.lines.specs.Refuse.{putOf, refusalOf}
@@ -31,3 +33,11 @@ module _ (n : ℕ) where
       → (e + 1, d) ≡ refusalOf n a
   unfolding refusalOf refusalLine line lineEnd
   refusal-all p q r = put-all (joined p (joined q r))
+
+  -- the end is in the buffer
+  pub refusal-end : (e : ℕ) (a b : List ℕ) → (e, b) ≡ refusalOf n a → e ≤ length a
+  unfolding refusalOf
+  refusal-end e a b eq =
+      on-test (leb (length (refusalLine n)) (length a))
+      (λ t. omega (arith, leb-true (length (refusalLine n)) (length a) t, ap (λ (p : ℕ × List ℕ). p .0) (rw t at eq)))
+      (λ t. omega (arith, ap (λ (p : ℕ × List ℕ). p .0) (rw t at eq)))

@@ -1,12 +1,12 @@
 -- What is read of a text is what it asks for, and no text asks for two listings.
 use mathlib.Core.Path.{_≡_, refl, sym, ap, _∙_}
-use mathlib.Core.List.{List, [], _∷_, _++_, append-assoc, append-nil}
+use mathlib.Core.List.{List, [], _∷_, _++_, map, append-assoc, append-nil}
 use Prim.Native.Nat.{ℕ, _-_, _≤_, _<_}
 use native.Mathlib.Omega.{arith}
-use lib.ListN.{length, getD, take, drop, length-append, take-append-drop}
+use lib.ListN.{length, getD, take, drop, replicate, length-append, length-map, take-append-drop}
 use lib.Seq.{drop-at}
 use Rattle.request.specs.Text.{line}
-use Rattle.request.specs.Request.{title, Asks, refused, Parsed, asks, other}
+use Rattle.request.specs.Request.{title, Asks, held, cellsOf, refused, Parsed, asks, other}
 use Rattle.request.specs.Scan.{Scanned, found, none, scan, lineOf}
 use Rattle.request.specs.declared.Request.{Request}
 use Rattle.request.specs.declared.Line.{Line}
@@ -149,3 +149,9 @@ module _ (s : List ℕ) (size : length s ≤ 256) (long : 6 ≤ length s) (first
   taken x e =
       rw (e ∙ ap (λ (l : Line). record { number = 0; parts = l .parts; upper = l .upper; total = t .last }) (bounds .line-is))
       (asks (bounds .ns) (t .last) asked)
+
+-- the bounds are cells
+pub parsed-few : {s : List ℕ} {x : Request} → Parsed s x → x .parts ≤ length (x .upper)
+unfolding cellsOf
+parsed-few (asks ms r q) = omega (arith, length-map ms held, length-append (map held ms) (replicate (128 - length (map held ms)) 0))
+parsed-few (other h) = omega arith

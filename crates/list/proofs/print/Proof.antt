@@ -1,70 +1,32 @@
+-- `list::print` meets its contract. Every call goes on to a later serial, and there are at most 1,000,000.
+use mathlib.Core.Path.{_≡_, refl, sym, ap, _∙_}
+use Prim.Native.Nat.{_-_, _≤_, _<_}
+use native.Mathlib.Omega.{arith}
+use denote.Ref.{now}
+use lib.ListN.{length}
+use lib.Seq.{length-take-le}
 use borrow.Author.Needs.{needs}
+use Rattle.lines.specs.declared.Chunk.{Chunk}
+use Rattle.lines.proofs.Chunks.{chunk-accepted, chunk-end, taken-some}
 use Rattle.list.proofs.print.Statement.{statement}
 use Rattle.list.proofs.print.Tie as tie
-use Rattle.list.proofs.print.Reads as reads
-use Rattle.list.proofs.print.Lts as lts
-use Rattle.io.proofs.large_buffer.Reads as large-buffer-reads
-use Rattle.io.proofs.write_all.Reads as write-all-reads
-use Rattle.lines.proofs.fill.Reads as fill-reads
-use Rattle.list.proofs.refuse.Reads as refuse-reads
 
 abbrev Inv-loop : tie.InvT-loop
-Inv-loop upper total buffer₀ serial₀ buffer serial = ?
+Inv-loop upper total buffer₀ serial₀ buffer serial = length buffer ≡ 65536
 
 abbrev μ-loop : tie.MeasureT-loop
-μ-loop upper total buffer₀ serial₀ buffer serial = ?
+μ-loop upper total buffer₀ serial₀ buffer serial = 1000001 - serial
 
--- src/main.rt:14:21
-large-buffer-requires : tie.Need-large-buffer-requires Inv-loop μ-loop
-large-buffer-requires c κs = search needs
+-- the lines end in the buffer
+inside : (c : tie.Else1 Inv-loop μ-loop) → c .before .before .before .before .fill .result .end ≤ length (c .before .before .before .before .fill .last .1 .1 .1 .0)
+inside c = omega (arith, chunk-end _ _ _ _ _ _ (c .before .before .before .before .fill .ensures) (omega arith), c .before .before .before .before .fill .kept .1 .1 .1 .0)
 
--- src/main.rt:15:9
-slice-aggregate-buffer : tie.Need-slice-aggregate-buffer Inv-loop μ-loop
-slice-aggregate-buffer c = search needs
-
--- src/main.rt:17:5
-loop-holds : tie.Need-loop-holds Inv-loop μ-loop
-loop-holds c = search needs
-
--- src/main.rt:18:13
-fill-requires : tie.Need-fill-requires Inv-loop μ-loop
-fill-requires c κs = search needs
-
--- src/main.rt:20:13
-refuse-requires : tie.Need-refuse-requires Inv-loop μ-loop
-refuse-requires c κs = search needs
-
--- src/main.rt:21:13
-returns : tie.Need-returns Inv-loop μ-loop
-returns c = search needs
-
--- src/main.rt:24:42
-slice-reshare-prefix-write-all : tie.Need-slice-reshare-prefix-write-all Inv-loop μ-loop
-slice-reshare-prefix-write-all c = search needs
-
--- src/main.rt:24:42
-slice-aggregate-write-all : tie.Need-slice-aggregate-write-all Inv-loop μ-loop
-slice-aggregate-write-all c = search needs
-
--- src/main.rt:24:13
-write-all-requires : tie.Need-write-all-requires Inv-loop μ-loop
-write-all-requires c κs = search needs
-
--- src/main.rt:25:13
-returns-2 : tie.Need-returns-2 Inv-loop μ-loop
-returns-2 c = search needs
-
--- src/main.rt:28:13
-returns-3 : tie.Need-returns-3 Inv-loop μ-loop
-returns-3 c = search needs
-
--- src/main.rt:17:5
 loop-less : tie.Need-loop-less Inv-loop μ-loop
-loop-less c = search needs
-
--- src/main.rt:17:5
-loop-again : tie.Need-loop-again Inv-loop μ-loop
-loop-again c = search needs
+loop-less c =
+    let l = c .before .before .before .before .before .before .before .before .before .before .before .loop in
+    let a = chunk-accepted _ _ _ _ _ _ (c .before .before .before .before .before .before .before .before .before .fill .ensures) (omega arith) in
+    let some = taken-some _ _ _ (λ i. omega (arith, c .before .before .before .before .before .before .before .before .before .before .before .before .before .before .shared-slice-known .given i)) (a .0) (length (l .buffer)) (omega arith) in
+    omega (arith, some, a .0 .small, a .0 .high, ap (λ (x : Chunk). x .next) (a .1), ap (λ (x : Chunk). x .count) (a .1))
 
 pub print-spec : {M : Type 1} → statement M
 print-spec =
@@ -72,16 +34,16 @@ print-spec =
     (tie.spec
     Inv-loop
     μ-loop
-    large-buffer-requires
-    slice-aggregate-buffer
-    loop-holds
-    fill-requires
-    refuse-requires
-    returns
-    slice-reshare-prefix-write-all
-    slice-aggregate-write-all
-    write-all-requires
-    returns-2
-    returns-3
+    (λ c κs. search needs)
+    (λ c. c .before .large-buffer .ensures)
+    (λ c. sym (c .before .large-buffer .ensures))
+    (λ c κs. search needs)
+    (λ c κs. search needs)
+    (λ c. search needs)
+    (λ c. inside c)
+    (λ c. sym (length-take-le (c .before .before .before .before .before .fill .result .end) (c .before .before .before .before .before .fill .last .1 .1 .1 .0) (inside (c .before))))
+    (λ c κs. search needs)
+    (λ c. search needs)
+    (λ c. search needs)
     loop-less
-    loop-again)
+    (λ c. c .before .before .before .before .before .before .before .before .before .fill .kept .1 .1 .1 .0 ∙ c .before .before .before .before .before .before .before .before .before .before .before .loop .inv))

@@ -1,42 +1,25 @@
+-- `list::refuse` meets its contract.
+use mathlib.Core.Path.{sym}
+use Prim.Native.Nat.{_≤_}
+use native.Mathlib.Omega.{arith}
+use lib.ListN.{length}
+use lib.Seq.{length-take-le}
 use borrow.Author.Needs.{needs}
+use Rattle.lines.proofs.Refuses.{refusal-end}
 use Rattle.list.proofs.refuse.Statement.{statement}
 use Rattle.list.proofs.refuse.Tie as tie
-use Rattle.list.proofs.refuse.Reads as reads
-use Rattle.list.proofs.refuse.Lts as lts
-use Rattle.io.proofs.write_all.Reads as write-all-reads
-use Rattle.lines.proofs.refusal.Reads as refusal-reads
 
--- src/main.rt:8:38
-slice-aggregate-refusal : tie.Need-slice-aggregate-refusal
-slice-aggregate-refusal c = search needs
-
--- src/main.rt:8:9
-refusal-requires : tie.Need-refusal-requires
-refusal-requires c κs = search needs
-
--- src/main.rt:9:34
-array-share-prefix-text : tie.Need-array-share-prefix-text
-array-share-prefix-text c = search needs
-
--- src/main.rt:9:34
-slice-aggregate-write-all : tie.Need-slice-aggregate-write-all
-slice-aggregate-write-all c = search needs
-
--- src/main.rt:9:5
-write-all-requires : tie.Need-write-all-requires
-write-all-requires c κs = search needs
-
--- src/main.rt:6:1
-returns : tie.Need-returns
-returns c = search needs
+-- the line ends in the buffer
+inside : (c : tie.After-text2) → c .before .refusal .result ≤ length (c .before .refusal .last .1 .0)
+inside c = omega (arith, refusal-end _ _ _ _ (c .before .refusal .ensures), c .before .refusal .kept .1 .0)
 
 pub refuse-spec : {M : Type 1} → statement M
 refuse-spec =
     tie.close
     (tie.spec
-    slice-aggregate-refusal
-    refusal-requires
-    array-share-prefix-text
-    slice-aggregate-write-all
-    write-all-requires
-    returns)
+    (λ c. search needs)
+    (λ c κs. search needs)
+    (λ c. inside c)
+    (λ c. sym (length-take-le (c .before .before .refusal .result) (c .before .before .refusal .last .1 .0) (inside (c .before))))
+    (λ c κs. search needs)
+    (λ c. search needs))
