@@ -1,13 +1,12 @@
 -- What a caller of `fill` may rely on: the lines fit and are as many as fit, every call goes on, and one behind the other the pieces are the listing.
-use mathlib.Core.Path.{_≡_, refl, sym, ap, _∙_}
-use mathlib.Core.Bool.{true, false}
-use mathlib.Core.List.{List, [], _∷_, _++_}
-use Prim.Native.Nat.{ℕ, zero, suc, _+_, _-_, _*_, _≤_, _<_}
+use mathlib.Core.Path.{_≡_, refl, ap}
+use mathlib.Core.List.{List}
+use Prim.Native.Nat.{ℕ, zero, suc, _-_, _≤_, _<_}
 use native.Mathlib.Nat.{not-suc-le-zero, le-of-suc-le-suc}
 use native.Mathlib.Omega.{arith}
 use lib.Dec.{eqb, leb, ltb}
 use lib.ListN.{length, getD, length-append}
-use borrow.Author.Tests.{eqb-true, leb-true, leb-false, ltb-false, eqb-false}
+use borrow.Author.Tests.{leb-true, leb-false, ltb-false, eqb-false}
 use Rattle.walsh.specs.Order.{countOf}
 use Rattle.walsh.specs.Serial.{compositionOf}
 use Rattle.walsh.proofs.Cases.{on-test}
@@ -19,10 +18,10 @@ use Rattle.bounds.proofs.Chains.{accepts-split}
 use Rattle.bounds.proofs.Editions.{neither}
 use Rattle.rank.proofs.Calls.{edition-shapely}
 use Rattle.lines.specs.Lines.{lineAt, linesOf, fitting}
-use Rattle.lines.specs.Chunk.{listChecks, taken, text, chunkOf, fillOf}
+use Rattle.lines.specs.Chunk.{listChecks, taken, chunkOf, fillOf}
 use Rattle.lines.specs.declared.Chunk.{Chunk}
 use Rattle.lines.proofs.Lined.{line-short}
-use Rattle.lines.proofs.Pieces.{lines-append, fitting-here, fitting-none}
+use Rattle.lines.proofs.Pieces.{fitting-here}
 
 module _ (ms : List ℕ) (r : ℕ) where
   -- ---- how many fit

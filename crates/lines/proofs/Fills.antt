@@ -1,8 +1,8 @@
 -- The answer of `fill`, case by case.
-use mathlib.Core.Path.{_≡_, refl, sym, ap, _∙_}
-use mathlib.Core.Bool.{true, false}
-use mathlib.Core.List.{List, [], _∷_, _++_}
-use Prim.Native.Nat.{ℕ, suc, _+_, _-_, _≤_, _<_}
+use mathlib.Core.Path.{_≡_, refl, sym, _∙_}
+use mathlib.Core.Bool.{true}
+use mathlib.Core.List.{List, _∷_}
+use Prim.Native.Nat.{ℕ, _-_, _≤_, _<_}
 use native.Mathlib.Omega.{arith}
 use lib.Dec.{eqb, ltb}
 use lib.ListN.{length, take, replicate, length-append}
@@ -13,7 +13,7 @@ use Rattle.walsh.specs.Order.{countOf}
 use Rattle.walsh.specs.Serial.{compositionOf}
 use Rattle.walsh.proofs.Serials.{composition-is}
 use Rattle.bounds.specs.Refusal.{Check, check, refused, firstRefusal}
-use Rattle.bounds.specs.Edition.{shapeChecks, editionChecks, cellsOf}
+use Rattle.bounds.specs.Edition.{editionChecks, cellsOf}
 use Rattle.bounds.specs.Places.{serialChecks}
 use Rattle.bounds.proofs.Refusals.{refusal-here, refusal-next, refusal-first, refusal-later, by-refusal, by-acceptance}
 use Rattle.bounds.specs.declared.Refusal.{Refusal}
@@ -21,9 +21,7 @@ use Rattle.rank.specs.Locate.{nearest, locateOf}
 use Rattle.rank.specs.declared.Located.{Located}
 use Rattle.rank.proofs.Calls.{edition-shapely, clamp-in}
 use Rattle.step.proofs.Located.{located-refused, located-accepted}
-use Rattle.lines.specs.Append.{Appended}
-use Rattle.lines.specs.Lines.{linesOf}
-use Rattle.lines.specs.Chunk.{listChecks, taken, text, chunkOf, refusedChunk, fillOf, Ready, Filled}
+use Rattle.lines.specs.Chunk.{listChecks, text, refusedChunk, fillOf, Ready, Filled}
 use Rattle.lines.specs.declared.Chunk.{Chunk}
 use Rattle.lines.specs.declared.Piece.{Piece}
 use Rattle.lines.proofs.Appends.{whole}

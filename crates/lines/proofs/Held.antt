@@ -2,10 +2,9 @@
 use mathlib.Core.Path.{_≡_, refl, sym, ap, _∙_}
 use mathlib.Core.Bool.{true, false, false≢true}
 use mathlib.Core.List.{List, [], _∷_, map}
-use Prim.Native.Nat.{ℕ, _+_, _≤_, _<_}
+use Prim.Native.Nat.{ℕ, _+_, _<_}
 use native.Mathlib.Decide.{ℕ-discrete}
 use native.Mathlib.Omega.{arith}
-use lib.Dec.{ltb}
 use lib.ListN.{length-map}
 use borrow.Author.Tests.{lt-ltb, le-ltb, ne-eqb}
 use Rattle.walsh.proofs.Cases.{on-test, on-less}
@@ -38,8 +37,8 @@ same-held (m ∷ ms) i e =
     on-test (outside m)
     (λ t. let z : i + 1 ≡ 0 = rw t at e in absurd (omega arith))
     (λ t.
-        let h : held m ≡ m = on-less 60 m (λ l _. absurd (false≢true (sym t ∙ over m l))) (λ l _. omega arith) in
-        rw (h, same-held ms (i + 1) (rw t at e)))
+    let h : held m ≡ m = on-less 60 m (λ l _. absurd (false≢true (sym t ∙ over m l))) (λ l _. omega arith) in
+    rw (h, same-held ms (i + 1) (rw t at e)))
 
 module _ (ms : List ℕ) (r s : ℕ) where
   first-same : (firstOutside ms 0 ≡ 0 → ⊥) → firstRefusal (listChecks (map held ms) r s) ≡ firstRefusal (listChecks ms r s)

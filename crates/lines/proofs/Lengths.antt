@@ -12,13 +12,19 @@ use Rattle.lines.specs.Append.{pairOf}
 pub decimal-pair : (n : ℕ) → 10 ≤ n → n < 100 → decimal n ≡ pairOf n
 decimal-pair n h l = decimal-more n h ∙ rw (decimal-small (n / 10) (omega arith))
 
-pub decimal-hundred : (n : ℕ) → 100 ≤ n → decimal n ≡ decimal (n / 100) ++ pairOf (n % 100)
+decimal-hundred : (n : ℕ) → 100 ≤ n → decimal n ≡ decimal (n / 100) ++ pairOf (n % 100)
 decimal-hundred n h =
     let q : n / 10 / 10 ≡ n / 100 = omega arith in
     let d : n / 10 % 10 ≡ n % 100 / 10 = omega arith in
     let m : n % 10 ≡ n % 100 % 10 = omega arith in
     decimal-more n (omega arith)
     ∙ rw (decimal-more (n / 10) (omega arith), q, d, m) (append-assoc (decimal (n / 100)) ((48 + n % 100 / 10) ∷ []) ((48 + n % 100 % 10) ∷ []))
+
+pub decimal-myriad : (n : ℕ) → 10000 ≤ n → decimal n ≡ decimal (n / 10000) ++ (pairOf (n / 100 % 100) ++ pairOf (n % 100))
+decimal-myriad n h =
+    let q : n / 100 / 100 ≡ n / 10000 = omega arith in
+    decimal-hundred n (omega arith)
+    ∙ rw (decimal-hundred (n / 100) (omega arith), q) (append-assoc (decimal (n / 10000)) (pairOf (n / 100 % 100)) (pairOf (n % 100)))
 
 -- ---- how long a decimal is
 
@@ -31,8 +37,9 @@ length-more n h = ap length (decimal-more n h) ∙ length-append (decimal (n / 1
 pub length-pair : (n : ℕ) → 10 ≤ n → n < 100 → length (decimal n) ≡ 2
 length-pair n h l = ap length (decimal-pair n h l)
 
-pub length-hundred : (n : ℕ) → 100 ≤ n → length (decimal n) ≡ length (decimal (n / 100)) + 2
-length-hundred n h = ap length (decimal-hundred n h) ∙ length-append (decimal (n / 100)) (pairOf (n % 100))
+pub length-myriad : (n : ℕ) → 10000 ≤ n → length (decimal n) ≡ length (decimal (n / 10000)) + 4
+length-myriad n h =
+    ap length (decimal-myriad n h) ∙ length-append (decimal (n / 10000)) (pairOf (n / 100 % 100) ++ pairOf (n % 100))
 
 -- a number below 10 * 10^k has at most k + 1 digits
 length-decimal : (k n : ℕ) → n < 10 * 10 ^ k → length (decimal n) ≤ suc k

@@ -1,14 +1,13 @@
 -- Laws of the lines, and of how many fit.
 use mathlib.Core.Path.{_≡_, refl, sym, ap, _∙_}
-use mathlib.Core.Bool.{Bool, true, false, cond}
-use mathlib.Core.List.{List, [], _∷_, _++_, append-assoc, append-nil}
+use mathlib.Core.Bool.{Bool}
+use mathlib.Core.List.{List, _∷_, _++_, append-assoc, append-nil}
 use Prim.Native.Nat.{ℕ, zero, suc, _+_, _-_, _≤_, _<_}
 use native.Mathlib.Nat.{zero-add, add-zero, add-suc, suc-add}
 use native.Mathlib.Numerals.{add-one}
 use native.Mathlib.Omega.{arith}
-use lib.Dec.{leb, eqb}
 use lib.ListN.{length}
-use borrow.Author.Tests.{le-leb, lt-leb, ne-eqb, leb-true, leb-false}
+use borrow.Author.Tests.{le-leb, lt-leb, ne-eqb}
 use Rattle.walsh.specs.Order.{Composition, countOf}
 use Rattle.walsh.specs.Serial.{serialOf, compositionOf}
 use Rattle.walsh.proofs.Serials.{composition-is, serial-composition}
@@ -16,8 +15,7 @@ use Rattle.request.specs.Text.{line}
 use Rattle.step.specs.Advance.{advanceOf}
 use Rattle.lines.specs.Append.{Appended}
 use Rattle.lines.specs.Lines.{lineAt, linesOf, fitting}
-use Rattle.lines.specs.Chunk.{taken, text, Ready, Filled}
-use Rattle.lines.specs.declared.Piece.{Piece}
+use Rattle.lines.specs.Chunk.{taken, Ready, Filled}
 use Rattle.lines.proofs.Appends.{nothing, joined, retold, within}
 
 module _ (ms : List ℕ) (r : ℕ) where
@@ -100,7 +98,7 @@ module _ {ms : List ℕ} {r first count : ℕ} {before start : List ℕ} (ready 
           let size : length before - end - length (lineAt ms r s) ≡ length before - e = omega (arith, p .ends, ap length line-here) in
           let fits : length (lineAt ms r s) ≤ length before - end = omega (arith, ap length line-here, f .put .size) in
           let one : taken ms r s (length before - end) ≡ suc (taken ms r (s + 1) (length before - e)) =
-              rw more-lines (fitting-here ms r s (suc (countOf ms r) - (s + 1)) (length before - end) fits ∙ rw (size, add-one s)) in
+          rw more-lines (fitting-here ms r s (suc (countOf ms r) - (s + 1)) (length before - end) fits ∙ rw (size, add-one s)) in
           let at : first + (s - first) ≡ s = omega (arith, f .low) in
           let next : s - first + 1 ≡ s + 1 - first = omega (arith, f .low) in
           record {

@@ -41,39 +41,46 @@ fn put_pair(n: u64, out: &mut [u8], at: usize) -> usize
     at + 2
 }
 
-// A number of one or two digits.
-fn put_short(n: u64, out: &mut [u8], at: usize) -> usize
-    requires { ⌜ (n < 100) × (at + length (decimal n) ≤ length (now out)) ⌝ }
+// Any number.
+fn put_decimal(n: u64, out: &mut [u8], at: usize) -> usize
+    requires { ⌜ at + length (decimal n) ≤ length (now out) ⌝ }
     ensures { λ e. ⌜ Appended (now (out .entry)) (now (out .exit)) at e (decimal n) ⌝ }
 {
     if n < 10 {
         out[at] = 48 + n as u8;
         return at + 1;
     }
-    put_pair(n, out, at)
+    let end = put_decimal(n / 10, out, at);
+    out[end] = 48 + (n % 10) as u8;
+    end + 1
 }
 
-// Any number, two digits at a time.
-fn put_decimal(n: u64, out: &mut [u8], at: usize) -> usize
-    requires { ⌜ at + length (decimal n) ≤ length (now out) ⌝ }
-    ensures { λ e. ⌜ Appended (now (out .entry)) (now (out .exit)) at e (decimal n) ⌝ }
-{
-    if n < 100 {
-        return put_short(n, out, at);
-    }
-    let end = put_decimal(n / 100, out, at);
-    put_pair(n % 100, out, end)
-}
-
-// The same, with no call for a number of one or two digits.
+// The same, fast for a number of one or two digits.
 fn put_number(n: u64, out: &mut [u8], at: usize) -> usize
     requires { ⌜ at + length (decimal n) ≤ length (now out) ⌝ }
     ensures { λ e. ⌜ Appended (now (out .entry)) (now (out .exit)) at e (decimal n) ⌝ }
 {
+    if n < 10 {
+        out[at] = 48 + n as u8;
+        return at + 1;
+    }
     if n < 100 {
-        return put_short(n, out, at);
+        return put_pair(n, out, at);
     }
     put_decimal(n, out, at)
+}
+
+// The same, fast for a number of five or six digits.
+fn put_serial(n: u64, out: &mut [u8], at: usize) -> usize
+    requires { ⌜ at + length (decimal n) ≤ length (now out) ⌝ }
+    ensures { λ e. ⌜ Appended (now (out .entry)) (now (out .exit)) at e (decimal n) ⌝ }
+{
+    if n < 10000 {
+        return put_decimal(n, out, at);
+    }
+    let high = put_number(n / 10000, out, at);
+    let middle = put_pair(n / 100 % 100, out, high);
+    put_pair(n % 100, out, middle)
 }
 
 // The line of a serial and its composition.
@@ -81,7 +88,7 @@ fn put_line(serial: u64, parts: &[u8], out: &mut [u8], at: usize) -> usize
     requires { ⌜ at + length (line (serial ∷ now parts)) ≤ length (now out) ⌝ }
     ensures { λ e. ⌜ Appended (now (out .entry)) (now (out .exit)) at e (line (serial ∷ now (parts .entry))) ⌝ }
 {
-    let mut end = put_decimal(serial, out, at);
+    let mut end = put_serial(serial, out, at);
     let mut i = 0;
     while i < parts.len() {
         out[end] = 32;
@@ -131,7 +138,14 @@ fn fits(serial: u64, parts: &[u8], room: usize) -> bool
 }
 
 // The lines from a serial on, as many as have room. The parts are its composition, and go on with the lines.
-fn put_lines(upper: &[u8], total: u32, serial: u64, count: u64, parts: &mut [u8], out: &mut [u8]) -> Piece
+fn put_lines(
+    upper: &[u8],
+    total: u32,
+    serial: u64,
+    count: u64,
+    parts: &mut [u8],
+    out: &mut [u8],
+) -> Piece
     requires { ⌜ Ready (now upper) total serial count (now parts) ⌝ }
     ensures { λ p. ⌜ Filled (now (upper .entry)) total serial (now (out .entry)) (now (out .exit)) p ⌝ }
 {

@@ -1,17 +1,17 @@
 -- `lines::put_decimal` meets its contract. The measure is the number.
 use mathlib.Core.Path.{sym, _∙_}
-use Prim.Native.Nat.{ℕ, _<_}
+use Prim.Native.Nat.{ℕ, _+_, _%_, _<_}
 use native.Mathlib.Omega.{arith}
+use lib.ListN.{length, length-set}
 use borrow.Author.Needs.{needs}
 use borrow.Fn.Kinds.{In}
 use borrow.Fn.PlainCycle.{Measures, is, falls, and}
-use Rattle.lines.proofs.Appends.{joined, retold}
-use Rattle.lines.proofs.Lengths.{decimal-hundred, length-hundred}
+use Rattle.request.proofs.Decimals.{decimal-small, decimal-more}
+use Rattle.lines.proofs.Appends.{one, joined, retold}
+use Rattle.lines.proofs.Lengths.{length-small, length-more}
 use Rattle.lines.proofs.put_decimal.Reads as put-decimal
 use Rattle.lines.proofs.put_decimal.Kinds as put-decimal-kinds
 use Rattle.lines.proofs.+put_decimal.Lts-put_decimal as put-decimal-lts
-use Rattle.lines.proofs.put_pair.Reads as put-pair-reads
-use Rattle.lines.proofs.put_short.Reads as put-short-reads
 use Rattle.lines.proofs.+put_decimal.{statement}
 use Rattle.lines.proofs.+put_decimal.Tie.{close}
 
@@ -26,23 +26,32 @@ abbrev put-decimal-below : ℕ → In 1 put-decimal-kinds.ps
 put-decimal-below t =
     and 1 put-decimal-kinds.ps (falls 1 put-decimal-kinds.ps _<_ μ-put-decimal t) put-decimal.Pre
 
+-- the last digit has room
+room : (t : ℕ) (c : put-decimal-lts.After-slice-known2 (put-decimal-below t, put-decimal.Post) (put-decimal-at t) put-decimal.Post)
+    → c .before .before .put-decimal .result < length (c .before .before .put-decimal .last .1 .0)
+room t c =
+    let p = c .before .before .put-decimal .ensures in
+    omega (arith, p .ends, p .size, length-more (c .before .before .before .before .before .before .args .n) (omega arith), c .before .before .before .before .before .before .pre .1)
+
 pub +put-decimal-spec : {M : Type 1} → statement M
 +put-decimal-spec = close μ-put-decimal λ t. put-decimal-lts.spec (
-  put-short-reads.Asked,
-  put-short-reads.Learnt,
   put-decimal-below t,
   put-decimal.Post,
-  put-pair-reads.Asked,
-  put-pair-reads.Learnt,
 )
     (put-decimal-at t)
     put-decimal.Post
-    (λ c κs. (omega arith, c .before .before .before .pre .1))
     (λ c. search needs)
-    (λ c. c .before .before .put-short .ensures)
-    (λ c κs. (omega (arith, c .before .before .before .pre .0), omega (arith, c .before .before .before .pre .1, length-hundred (c .before .before .before .args .n) (omega arith))))
-    (λ c κs.
-    let p = c .before .before .before .put-decimal .ensures in
-    (omega arith, omega (arith, p .ends, p .size, c .before .before .before .before .before .before .before .pre .1, length-hundred (c .before .before .before .before .before .before .before .args .n) (omega arith))))
-    (λ c. c .before .before .put-pair .kept .1 .0 ∙ c .before .before .before .before .before .before .put-decimal .kept .1 .0)
-    (λ c. retold (sym (decimal-hundred (c .before .before .before .before .before .before .before .before .before .before .args .n) (omega arith))) (joined (c .before .before .before .before .before .before .put-decimal .ensures) (c .before .before .put-pair .ensures)))
+    (λ c. search needs)
+    (λ c. omega (arith, length-small (c .before .before .args .n) (omega arith), c .before .before .pre .1))
+    (λ c. search needs)
+    (λ c. search needs)
+    (λ c.
+    let x = c .before .before .args in
+    retold (sym (decimal-small (x .n) (omega arith))) (one _ (x .at) (48 + x .n) (omega (arith, length-small (x .n) (omega arith), c .before .before .pre .1))))
+    (λ c κs. (omega (arith, c .before .before .before .pre .0), omega (arith, c .before .before .before .pre .1, length-more (c .before .before .before .args .n) (omega arith))))
+    (λ c. search needs)
+    (λ c. search needs)
+    (λ c. room t c)
+    (λ c. omega (arith, room t c))
+    (λ c. length-set (c .before .before .put-decimal .last .1 .0) (c .before .before .put-decimal .result) (48 + c .before .before .before .before .before .before .args .n % 10) ∙ c .before .before .put-decimal .kept .1 .0)
+    (λ c. retold (sym (decimal-more (c .before .before .before .before .before .before .args .n) (omega arith))) (joined (c .before .before .put-decimal .ensures) (one _ _ (48 + c .before .before .before .before .before .before .args .n % 10) (room t c))))

@@ -20,11 +20,11 @@ abbrev μ-loop : tie.MeasureT-loop
 
 -- the buffer keeps its length
 sizes : (c : tie.At-loop Inv-loop μ-loop) → length (c .loop .out) ≡ length (now (c .before .before .before .before .before .before .before .args .out))
-sizes c = c .loop .inv .2 .put .size ∙ c .before .before .before .put-decimal .ensures .size
+sizes c = c .loop .inv .2 .put .size ∙ c .before .before .before .put-serial .ensures .size
 
 loop-holds : tie.Need-loop-holds Inv-loop μ-loop
 loop-holds c =
-    let p = c .before .before .put-decimal in
+    let p = c .before .before .put-serial in
     let x = c .before .before .before .before .before .before .args in
     (omega arith, omega (arith, p .ensures .ends, p .ensures .size, length-line (x .serial) (now (x .parts)), c .before .before .before .before .before .before .pre), lined-none _ _ _)
 
@@ -66,4 +66,4 @@ put-line-spec =
     (λ c. room c)
     (λ c. omega (arith, room c, sizes (c .before)))
     (λ c. length-set (c .before .loop .out) (c .before .loop .end) 10 ∙ sizes (c .before))
-    (λ c. lined-end (c .before .before .before .before .before .before .before .before .args .serial) (c .before .before .before .before .put-decimal .ensures) (c .before .loop .inv .2) (omega arith) (one _ _ 10 (room c))))
+    (λ c. lined-end (c .before .before .before .before .before .before .before .before .args .serial) (c .before .before .before .before .put-serial .ensures) (c .before .loop .inv .2) (omega arith) (one _ _ 10 (room c))))
