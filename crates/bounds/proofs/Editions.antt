@@ -1,5 +1,5 @@
 -- Laws of the definitions in specs/Edition.antt.
-use mathlib.Core.Path.{_≡_, refl, sym, ap, _∙_}
+use mathlib.Core.Path.{_≡_, refl, sym, ap}
 use mathlib.Core.Bool.{Bool, true, false, false≢true}
 use mathlib.Core.List.{List, [], _∷_, _++_}
 use Prim.Native.Nat.{ℕ, zero, suc, _+_, _-_, _≤_, _<_}
@@ -9,11 +9,12 @@ use native.Mathlib.Numerals.{add-one}
 use lib.Dec.{eqb, ltb}
 use lib.ListN.{length, getD, drop, drop-of-length-le, set, take, replicate}
 use lib.Seq.{drop-cons, take-length}
-use borrow.Author.Tests.{eqb-false, ltb-false, ne-eqb, le-ltb}
+use borrow.Author.Tests.{eqb-true, eqb-false, ltb-false}
 use Rattle.walsh.specs.Tests.{either}
-use Rattle.bounds.specs.Refusal.{refused, firstRefusal}
-use Rattle.bounds.specs.Edition.{whole, outside, firstOutside, cellsOf, shapeChecks}
-use Rattle.bounds.proofs.Refusals.{passed}
+use Rattle.walsh.proofs.Cases.{on-test}
+use Rattle.bounds.specs.Refusal.{firstRefusal}
+use Rattle.bounds.specs.Edition.{whole, outside, firstOutside, cellsOf, shapeChecks, editionChecks}
+use Rattle.bounds.proofs.Refusals.{passed, refusal-first}
 
 -- ---- the search for a bound outside 1..60
 
@@ -58,6 +59,12 @@ shapely ms r e =
       small = ltb-false _ _ (p3 .0);
       reached = ltb-false _ _ (p4 .0);
     }
+
+pub edition-shape : (ms : List ℕ) (r : ℕ) → firstRefusal (editionChecks ms r) .number ≡ 0 → firstRefusal (shapeChecks ms r) .number ≡ 0
+edition-shape ms r e =
+    on-test (eqb (firstRefusal (shapeChecks ms r) .number) 0)
+    (λ t. eqb-true (firstRefusal (shapeChecks ms r) .number) 0 t)
+    (λ t. let z = eqb-false (firstRefusal (shapeChecks ms r) .number) 0 t in absurd (z (rw (refusal-first (shapeChecks ms r) _ z) at e)))
 
 -- ---- the 24 cells
 

@@ -9,7 +9,7 @@ use lib.ListN.{length, getD}
 use Rattle.walsh.specs.Sums.{sum, sumTo}
 use Rattle.walsh.specs.Order.{count, countOf}
 use Rattle.bounds.specs.Refusal.{Check, check, firstRefusal}
-use Rattle.bounds.specs.Edition.{whole, shapeChecks}
+use Rattle.bounds.specs.Edition.{whole, shapeChecks, editionChecks}
 use Rattle.bounds.specs.declared.Refusal.{Refusal}
 use Rattle.bounds.specs.declared.band.Surveyed.{Surveyed}
 use Rattle.bounds.specs.declared.band.Counted.{Counted}
@@ -96,5 +96,14 @@ countedBy v ms r =
     (record { number = 0; detail = 0; count = countOf ms r })
     (record { number = v .number; detail = v .detail; count = 0 })
 
+-- N of an edition whose shape is accepted
+abbrev pub limited : ℕ → Counted
+limited n = cond (ltb 9223372036854775807 n) (record { number = 5; detail = 0; count = 0 }) (record { number = 0; detail = 0; count = n })
+
+-- N, or the refusal of the edition
+unfoldable pub numberOf : List ℕ → ℕ → Counted
+numberOf ms r = countedBy (firstRefusal (editionChecks ms r)) ms r
+
+-- the same, with a lent table
 unfoldable pub countedOf : List ℕ → ℕ → ℕ → Counted
 countedOf ms r size = countedBy (firstRefusal (tableChecks ms r size)) ms r

@@ -1,10 +1,12 @@
 // Editions (document 01, "Editions and their number"): the checks 1 to 5, and N.
 ghost use mathlib.Core.Path.{_≡_};
+ghost use mathlib.Core.List.{[]};
 ghost use Prim.Native.Nat.{ℕ, _≤_};
 ghost use lib.ListN.{length};
-ghost use Rattle.bounds.specs.Edition.{whole, outside, firstOutside, shapedOf};
+ghost use Rattle.bounds.specs.Edition.{whole, outside, firstOutside, shapedOf, cellsOf, boundsOf, checkOf, recordOf};
 
 pub mod band;
+pub mod limit;
 
 // A refusal's number and detail; 0 and 0 where nothing is refused.
 #[repr(C)]
@@ -105,4 +107,65 @@ fn unshaped(number: u32, detail: u64) -> Shaped
         detail,
         all: 0,
     }
+}
+
+// The bounds in 24 cells, with zeros behind them.
+fn pack(upper: &[u8]) -> [u8; 24]
+    requires { ⌜ length (now upper) ≤ 24 ⌝ }
+    ensures { λ r. ⌜ r ≡ cellsOf (now (upper .entry)) ⌝ }
+{
+    let mut cells = [0u8; 24];
+    let mut i = 0;
+    while i < upper.len() {
+        cells[i] = upper[i];
+        i += 1;
+    }
+    cells
+}
+
+fn refuse(number: u32, detail: u64) -> Checked
+    ensures { λ r. ⌜ r ≡ record { number = number; detail = detail; bounds = boundsOf [] 0; count = 0 } ⌝ }
+{
+    Checked {
+        number,
+        detail,
+        bounds: Bounds {
+            parts: 0,
+            upper: [0; 24],
+            total: 0,
+        },
+        count: 0,
+    }
+}
+
+// The edition's record and N, or the first of the refusals 1 to 5 that holds.
+pub fn check(upper: &[u8], total: u32) -> Checked
+    ensures { λ r. ⌜ r ≡ checkOf (now (upper .entry)) total ⌝ }
+{
+    let n = band::count(upper, total);
+    if 0 < n.number {
+        return refuse(n.number, n.detail);
+    }
+    Checked {
+        number: 0,
+        detail: 0,
+        bounds: Bounds {
+            parts: upper.len(),
+            upper: pack(upper),
+            total,
+        },
+        count: n.count,
+    }
+}
+
+// The same of a record that nobody has checked. Where it is accepted, the cells past n are 0 in the answer.
+pub fn check_record(bounds: Bounds) -> Checked
+    ensures { λ r. ⌜ r ≡ recordOf bounds ⌝ }
+{
+    let n = bounds.parts;
+    if 24 < n {
+        return refuse(1, 0);
+    }
+    let upper = bounds.upper;
+    check(&upper[..n], bounds.total)
 }

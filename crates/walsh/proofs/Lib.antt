@@ -4,6 +4,7 @@ pub mod Lists
 pub mod Listing
 pub mod Peel
 pub mod Window
+pub mod Product
 pub mod Complete
 pub mod Serials
 pub mod Compare

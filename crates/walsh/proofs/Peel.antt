@@ -31,7 +31,7 @@ sum-add : (f g : ℕ → ℕ) (n : ℕ) → sum (λ i. f i + g i) n ≡ sum f n 
 sum-add f g zero = refl
 sum-add f g (suc n) = omega (arith, sum-add f g n)
 
-sum-swap : (f : ℕ → ℕ → ℕ) (m n : ℕ) → sum (λ i. sum (f i) m) n ≡ sum (λ j. sum (λ i. f i j) n) m
+pub sum-swap : (f : ℕ → ℕ → ℕ) (m n : ℕ) → sum (λ i. sum (f i) m) n ≡ sum (λ j. sum (λ i. f i j) n) m
 sum-swap f m zero = sym (sum-none (λ j. 0) m (λ i l. refl))
 sum-swap f m (suc n) = omega (arith, sum-swap f m n, sum-add (λ j. sum (λ i. f i j) n) (f n) m)
 
@@ -41,17 +41,17 @@ sum-swap f m (suc n) = omega (arith, sum-swap f m n, sum-add (λ j. sum (λ i. f
 abbrev pub after : (ℕ → ℕ) → ℕ → ℕ → ℕ
 after f r v = cond (leb v r) (f (r - v)) 0
 
-after-le : (f : ℕ → ℕ) (r v : ℕ) → v ≤ r → after f r v ≡ f (r - v)
+pub after-le : (f : ℕ → ℕ) (r v : ℕ) → v ≤ r → after f r v ≡ f (r - v)
 after-le f r v h = rw (le-leb v r h)
 
-after-lt : (f : ℕ → ℕ) (r v : ℕ) → r < v → after f r v ≡ 0
+pub after-lt : (f : ℕ → ℕ) (r v : ℕ) → r < v → after f r v ≡ 0
 after-lt f r v h = rw (lt-leb v r h)
 
 pub after-same : (f g : ℕ → ℕ) (r v : ℕ) → ((x : ℕ) → f x ≡ g x) → after f r v ≡ after g r v
 after-same f g r v e = ap (λ (x : ℕ). cond (leb v r) x 0) (e (r - v))
 
 -- values above r add nothing
-sum-after : (f : ℕ → ℕ) (m r : ℕ) → sum (λ v. f (r - v)) (suc (min m r)) ≡ sum (after f r) (suc m)
+pub sum-after : (f : ℕ → ℕ) (m r : ℕ) → sum (λ v. f (r - v)) (suc (min m r)) ≡ sum (after f r) (suc m)
 sum-after f m r =
     sum-same (λ v. f (r - v)) (after f r) (suc (min m r)) (λ v l. sym (after-le f r v (omega arith)))
     ∙ sym (sum-stop (after f r) (suc (min m r)) (suc m) (omega arith) (λ v x y. after-lt f r v (omega arith)))
