@@ -1,0 +1,9 @@
+pub mod Appends
+pub mod Lengths
+pub mod Lined
+pub mod Refuses
+pub mod Pieces
+pub mod Fills
+pub mod Chunks
+pub mod Held
+pub mod Whole

@@ -1,0 +1,44 @@
+-- `lines::line_len` meets its contract.
+use mathlib.Core.Path.{_≡_, ap}
+use mathlib.Core.List.{_∷_}
+use Prim.Native.Nat.{_+_, _-_, _*_, _≤_}
+use native.Mathlib.Omega.{arith}
+use denote.Ref.{now}
+use lib.ListN.{length, drop}
+use borrow.Author.Needs.{needs}
+use Rattle.request.specs.Text.{decimal, lineEnd, line}
+use Rattle.lines.proofs.Lined.{length-next, length-last, length-line}
+use Rattle.lines.proofs.line_len.Statement.{statement}
+use Rattle.lines.proofs.line_len.Tie as tie
+
+abbrev Inv-loop : tie.InvT-loop
+Inv-loop serial parts len₀ i₀ len i =
+    (i ≤ length parts) × (len + length (lineEnd (drop i parts)) ≡ length (line (serial ∷ parts)) + 1) × (len ≤ 21 + 21 * i)
+
+abbrev μ-loop : tie.MeasureT-loop
+μ-loop serial parts len₀ i₀ len i = length parts - i
+
+loop-again : tie.Need-loop-again Inv-loop μ-loop
+loop-again c =
+    let l = c .before .before .before .before .loop in
+    let d = c .digits2 .ensures in
+    (omega arith, omega (arith, d .0, ap (λ x. length (decimal x)) (c .before .long .ensures), length-next (now (c .before .before .before .before .before .before .before .args .parts)) (l .i) (omega arith)), omega arith)
+
+pub line-len-spec : {M : Type 1} → statement M
+line-len-spec =
+    tie.close
+    (tie.spec
+    Inv-loop
+    μ-loop
+    (λ c κs. search needs)
+    (λ c. search needs)
+    (λ c. (omega arith, omega (arith, length-line (c .before .before .args .serial) (now (c .before .before .args .parts)), c .digits .ensures .0), omega arith))
+    (λ c. search needs)
+    (λ c κs. search needs)
+    (λ c κs. search needs)
+    (λ c. search needs)
+    (λ c. search needs)
+    (λ c. search needs)
+    (λ c. search needs)
+    loop-again
+    (λ c. let l = c .before .loop in omega (arith, length-last (now (c .before .before .before .before .args .parts)) (l .i) (omega arith))))

@@ -1,0 +1,32 @@
+-- `lines::put_number` meets its contract.
+use mathlib.Core.Path.{sym}
+use Prim.Native.Nat.{_+_}
+use native.Mathlib.Omega.{arith}
+use borrow.Author.Needs.{needs}
+use Rattle.request.proofs.Decimals.{decimal-small}
+use Rattle.lines.proofs.Appends.{one, retold}
+use Rattle.lines.proofs.Lengths.{decimal-pair, length-small, length-pair}
+use Rattle.lines.proofs.put_number.Statement.{statement}
+use Rattle.lines.proofs.put_number.Tie as tie
+
+returns : tie.Need-returns
+returns c =
+    let x = c .before .before .args in
+    retold (sym (decimal-small (x .n) (omega arith))) (one _ (x .at) (48 + x .n) (omega (arith, length-small (x .n) (omega arith), c .before .before .pre)))
+
+pub put-number-spec : {M : Type 1} → statement M
+put-number-spec =
+    tie.close
+    (tie.spec
+    (λ c. search needs)
+    (λ c. search needs)
+    (λ c. omega (arith, length-small (c .before .before .args .n) (omega arith), c .before .before .pre))
+    (λ c. search needs)
+    (λ c. search needs)
+    returns
+    (λ c κs. (omega arith, omega (arith, length-pair (c .before .before .before .before .args .n) (omega arith) (omega arith), c .before .before .before .before .pre)))
+    (λ c. search needs)
+    (λ c. retold (sym (decimal-pair (c .before .before .before .before .before .before .before .args .n) (omega arith) (omega arith))) (c .before .before .put-pair .ensures))
+    (λ c κs. search needs)
+    (λ c. search needs)
+    (λ c. search needs))

@@ -1,0 +1,4 @@
+pub mod Lines
+pub mod Chunk
+pub mod Refuse
+pub mod Append
