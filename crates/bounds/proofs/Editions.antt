@@ -41,7 +41,7 @@ pub record Shapely (ms : List ℕ) (r : ℕ) : Type 0 where
   pub small : r ≤ 255
   pub reached : r ≤ whole ms
 
-neither : (a b : Bool) → either a b ≡ false → (a ≡ false) × (b ≡ false)
+pub neither : (a b : Bool) → either a b ≡ false → (a ≡ false) × (b ≡ false)
 neither true b e = absurd (false≢true (sym e))
 neither false b e = (refl, e)
 

@@ -4,3 +4,6 @@ pub mod Answers
 pub mod Bands
 pub mod Slides
 pub mod Rows
+pub mod Compositions
+pub mod Filling
+pub mod Chains

@@ -1,0 +1,33 @@
+-- Document 01, "Refusals by place of checking": the places 'mix given' and 'lent part', which several calls have.
+use mathlib.Core.Bool.{Bool, cond, not}
+use mathlib.Core.List.{List, [], _∷_}
+use Prim.Native.Nat.{ℕ}
+use lib.Dec.{eqb, leb}
+use lib.ListN.{length, getD}
+use Rattle.walsh.specs.Tests.{either, every}
+use Rattle.bounds.specs.Refusal.{Check, check, firstRefusal}
+use Rattle.bounds.specs.Edition.{whole}
+use Rattle.bounds.specs.declared.Refusal.{Refusal}
+
+-- the part i of g is at most its bound
+abbrev pub isWithin : List ℕ → List ℕ → ℕ → Bool
+isWithin ms g i = leb (getD g i 0) (getD ms i 0)
+
+-- "a count over its ceiling, or the sum isn't the total"
+abbrev pub isOther : List ℕ → ℕ → List ℕ → Bool
+isOther ms r g = either (not (every (isWithin ms g) (length ms))) (not (eqb (whole g) r))
+
+-- the place 'mix given'
+abbrev pub compositionChecks : List ℕ → ℕ → List ℕ → List Check
+compositionChecks ms r g =
+    check 7 (not (eqb (length g) (length ms))) 0
+    ∷ check 8 (isOther ms r g) 0
+    ∷ []
+
+-- the place 'lent part': "length differs from what is to be written"
+abbrev pub lentChecks : ℕ → ℕ → List Check
+lentChecks want have = check 13 (not (eqb have want)) 0 ∷ []
+
+-- what a call that fills a lent part leaves: its answer, and the bytes of the part. "A refusal .. changes no lent byte"
+unfoldable pub filling : List Check → List ℕ → List ℕ → Refusal × List ℕ
+filling checks bytes out = (firstRefusal checks, cond (eqb (firstRefusal checks .number) 0) bytes out)

@@ -1,0 +1,70 @@
+// The checks of the places 'edition', 'mix given' and 'lent part' (document 01, "Refusals by place of checking"), which several calls have.
+use bounds::Refusal;
+ghost use mathlib.Core.Path.{_≡_};
+ghost use Prim.Native.Nat.{ℕ};
+ghost use lib.ListN.{length};
+ghost use Rattle.bounds.specs.Refusal.{firstRefusal, refused};
+ghost use Rattle.bounds.specs.Edition.{editionChecks};
+ghost use Rattle.bounds.specs.Places.{isOther, compositionChecks, lentChecks};
+
+// A refusal without a detail; 0 is none.
+pub fn refusal(number: u32) -> Refusal
+    ensures { λ r. ⌜ r ≡ refused number 0 ⌝ }
+{
+    Refusal { number, detail: 0 }
+}
+
+// The place 'edition'.
+pub fn edition_refusal(upper: &[u8], total: u32) -> Refusal
+    ensures { λ r. ⌜ r ≡ firstRefusal (editionChecks (now (upper .entry)) total) ⌝ }
+{
+    let n = bounds::band::count(upper, total);
+    Refusal {
+        number: n.number,
+        detail: n.detail,
+    }
+}
+
+// A part of g is over its bound, or the sum of the parts isn't the total. What is left of the total never falls below 0, so no sum is too large.
+fn is_other(upper: &[u8], total: u32, g: &[u8]) -> bool
+    requires { ⌜ length (now g) ≡ length (now upper) ⌝ }
+    ensures { λ r. ⌜ r ≡ isOther (now (upper .entry)) total (now (g .entry)) ⌝ }
+{
+    let mut left = total as usize;
+    let mut i = 0;
+    while i < g.len() {
+        let v = walsh::wide(g[i]);
+        if walsh::wide(upper[i]) < v {
+            return true;
+        }
+        if left < v {
+            return true;
+        }
+        left -= v;
+        i += 1;
+    }
+    left != 0
+}
+
+// The place 'mix given'.
+pub fn composition_refusal(upper: &[u8], total: u32, g: &[u8]) -> Refusal
+    ensures { λ r. ⌜ r ≡ firstRefusal (compositionChecks (now (upper .entry)) total (now (g .entry))) ⌝ }
+{
+    if g.len() != upper.len() {
+        return refusal(7);
+    }
+    if is_other(upper, total, g) {
+        return refusal(8);
+    }
+    refusal(0)
+}
+
+// The place 'lent part': `want` bytes are to be written, and the part has `have`.
+pub fn lent_refusal(want: usize, have: usize) -> Refusal
+    ensures { λ r. ⌜ r ≡ firstRefusal (lentChecks want have) ⌝ }
+{
+    if have != want {
+        return refusal(13);
+    }
+    refusal(0)
+}
