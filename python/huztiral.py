@@ -103,6 +103,13 @@ def _accepted(answer):
     return answer
 
 
+def _fits(value, bits):
+    """the number itself, which C would cut to so many bits without a word"""
+    if not 0 <= value < 1 << bits:
+        raise OverflowError(f"{value} is not a number of {bits} bits")
+    return value
+
+
 def _lent(values):
     """bytes to lend, and how many; a value that is no byte is a ValueError"""
     values = bytes(values)
@@ -114,7 +121,7 @@ class Edition:
 
     def __init__(self, upper, total):
         self.upper, self.total = list(upper), total
-        self._given = (*_lent(self.upper), total)
+        self._given = (*_lent(self.upper), _fits(total, 32))
         self.count = _accepted(C.huz_check(*self._given)).count
 
     def _filled(self, size, function, *arguments):
@@ -131,7 +138,7 @@ class Edition:
 
     def unrank(self, serial):
         """the mix of a serial"""
-        return list(self._filled(len(self.upper), C.huz_unrank, serial))
+        return list(self._filled(len(self.upper), C.huz_unrank, _fits(serial, 64)))
 
     def successor(self, composition):
         """the mix one serial on"""
@@ -144,6 +151,7 @@ class Edition:
     def batch(self, serial, copies):
         """the mixes of so many serials from `serial` on"""
         n = len(self.upper)
+        _fits(serial, 64), _fits(copies, 64)
         if copies > self.count:  # more than there are: the engine refuses it, and no memory is asked for
             _accepted(C.huz_batch(*self._given, serial, copies, None, 0))
         tray = bytes(self._filled(n * copies, C.huz_batch, serial, copies))
@@ -186,11 +194,11 @@ class Register:
 
     def claim(self, serial, order):
         """document 01's take: the serial for this order number, with its mix"""
-        return self._written(C.huz_claim(*self._record(), serial, order))
+        return self._written(C.huz_claim(*self._record(), _fits(serial, 64), _fits(order, 32)))
 
     def void(self, serial):
         """document 01's spoil: the serial is written off, its line is 0"""
-        return self._written(C.huz_void(*self._record(), serial))
+        return self._written(C.huz_void(*self._record(), _fits(serial, 64)))
 
     def entries(self):
         """the order numbers of the lines so far, 0 for a spoilt one"""
