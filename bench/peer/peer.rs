@@ -139,27 +139,42 @@ fn shape(upper: &[u8], total: u32) -> Result<usize, Refusal> {
 /// anything wraps, since every cell before it is within the limit.
 #[inline(always)]
 fn slide(old: &[u64], old_low: usize, m: usize, low: usize, new: &mut [MaybeUninit<u64>]) -> bool {
-    let old_high = old_low + old.len() - 1;
-    let mut top = low.min(old_high);
-    let mut bottom = low.saturating_sub(m).max(old_low);
+    let old_end = old_low + old.len();
+    let bottom = low.saturating_sub(m).max(old_low);
+    let top = (low + 1).min(old_end);
     let (mut window, mut widest) = (0u64, 0u64);
-    for &cell in &old[bottom - old_low..=top - old_low] {
+    for &cell in &old[bottom - old_low..top - old_low] {
         window = window.wrapping_add(cell);
         widest |= window;
     }
-    let mut sum = low;
-    for cell in new.iter_mut() {
-        cell.write(window);
+    new[0].write(window);
+    // then the window only grows, or moves, or stands still, or only shrinks
+    let last = low + new.len() - 1;
+    let grows = old_end.saturating_sub(low + 1).min(last - low);
+    let holds = (old_low + m).saturating_sub(low).min(last - low);
+    let (add, drop) = (&old[top - old_low..top - old_low + grows], &old[bottom - old_low..bottom - old_low + (last - low - holds)]);
+    let both = grows.saturating_sub(holds);
+    let (first, rest) = new[1..].split_at_mut(grows.min(holds));
+    for (cell, &a) in first.iter_mut().zip(add) {
+        window = window.wrapping_add(a);
         widest |= window;
-        sum += 1;
-        if sum <= old_high {
-            top = sum;
-            window = window.wrapping_add(old[top - old_low]);
+        cell.write(window);
+    }
+    let (middle, end) = rest.split_at_mut(if both > 0 { both } else { holds - grows });
+    if both > 0 {
+        for ((cell, &a), &d) in middle.iter_mut().zip(&add[holds..]).zip(drop) {
+            window = window.wrapping_add(a.wrapping_sub(d));
+            widest |= window;
+            cell.write(window);
         }
-        if sum > m && sum - m > bottom {
-            window = window.wrapping_sub(old[bottom - old_low]);
-            bottom += 1;
+    } else {
+        for cell in middle {
+            cell.write(window);
         }
+    }
+    for (cell, &d) in end.iter_mut().zip(&drop[both..]) {
+        window = window.wrapping_sub(d);
+        cell.write(window);
     }
     widest <= LIMIT
 }
@@ -364,7 +379,7 @@ pub fn unrank<const CLEAR: bool>(upper: &[u8], total: u32, serial: u64, out: &mu
 
 /// The next composition in place, or false at the last. `odd` is 1 to go backward.
 #[inline(always)]
-fn advance(upper: &[u8], total: usize, g: &mut [u8], odd: usize) -> bool {
+pub fn advance(upper: &[u8], total: usize, g: &mut [u8], odd: usize) -> bool {
     let n = upper.len().min(g.len());
     let (upper, g) = (&upper[..n], &mut g[..n]);
     let (mut left, mut sum) = (upper[0] as usize, g[0] as usize);
@@ -432,8 +447,16 @@ fn batch_in(upper: &[u8], total: u32, serial: u64, copies: u64, out: &mut [u8]) 
     }
     let mut cells = [0u8; 24];
     write(&table, upper, total, serial - 1, &mut cells[..n]);
-    for part in out.chunks_exact_mut(n) {
-        part.copy_from_slice(&cells[..n]);
+    // 24 bytes at once where there is room: what is too much is overwritten by the next
+    let mut at = 0;
+    while at + 24 <= out.len() {
+        out[at..at + 24].copy_from_slice(&cells);
+        at += n;
+        advance(upper, total as usize, &mut cells[..n], 0);
+    }
+    while at < out.len() {
+        out[at..at + n].copy_from_slice(&cells[..n]);
+        at += n;
         advance(upper, total as usize, &mut cells[..n], 0);
     }
     Ok(())
