@@ -85,3 +85,10 @@ low-high ms r k reach l =
 
 pub whole-band : (ms : List ℕ) (r : ℕ) → r ≤ whole ms → InBand ms r (length ms) r
 whole-band ms r reach = record { low = omega arith; high = omega arith; inside = reach }
+
+-- and rises by no more than the bound
+pub low-next : (ms : List ℕ) (r k : ℕ) → k < length ms → lowest ms r (k + 1) ≤ lowest ms r k + getD ms k 0
+low-next ms r k l = rw add-one (go (whole ms) (sumTo ms k) (getD ms k 0) (sum-to-mono ms (suc k) (length ms) l))
+  where
+    go : (n a m : ℕ) → a + m ≤ n → r - (n - (a + m)) ≤ r - (n - a) + m
+    go n a m l = omega arith

@@ -1,12 +1,12 @@
 -- What one turn of each loop of the code does.
-use mathlib.Core.Path.{_≡_, sym, ap, _∙_}
+use mathlib.Core.Path.{_≡_, refl, sym, ap, _∙_}
 use mathlib.Core.Bool.{Bool, true, false, cond}
 use mathlib.Core.List.{List, [], _∷_, _++_, map, append-nil}
 use Prim.Native.Nat.{ℕ, zero, suc, _+_, _-_, _≤_, _<_}
 use native.Mathlib.Numerals.{add-one}
 use native.Mathlib.Omega.{arith}
-use native.Mathlib.Decide.{decLt}
-use lib.ListN.{length, getD, take, drop, set, length-drop, length-set, drop-of-length-le}
+use native.Mathlib.Decide.{decLt, ℕ-discrete}
+use lib.ListN.{length, getD, take, drop, set, replicate, length-drop, length-set, drop-of-length-le}
 use lib.Seq.{drop-cons, drop-length, take-all, take-suc-set, drop-set-lt, append-snoc, getD-set-same, getD-set-other, getD-drop, drop-at, length-take-le}
 use lib.Dec.{eqb, ltb}
 use borrow.Author.Tests.{eq-eqb, ne-eqb}
@@ -31,6 +31,37 @@ module _ (test : ℕ → Bool) (l : List ℕ) where
 
   pub many-few : (n i from : ℕ) → length l ≤ i → n + howMany test (drop i l) ≡ howMany test (drop from l) → n ≤ length l
   many-few n i from h e = omega (arith, many-end n i (howMany test (drop from l)) h e, many-le test (drop from l), length-drop from l)
+
+-- ---- the tally
+
+pub zeros-at : (n v : ℕ) → _≡_ {A = ℕ} (getD (replicate n 0) v 0) 0
+zeros-at zero v = refl
+zeros-at (suc n) zero = refl
+zeros-at (suc n) (suc v) = zeros-at n v
+
+module _ (p counts : List ℕ) (i : ℕ) (h : i < length p) where
+  times-here : times (getD p i 0) (drop i p) ≡ suc (times (getD p i 0) (drop (suc i) p))
+  times-here = rw (drop-cons p i 0 h, eq-eqb (getD p i 0) (getD p i 0) refl) (omega arith)
+
+  -- the entry at place i is counted
+  pub tally-turn : (x : ℕ) → x ≡ getD p i 0 → x < length counts
+      → ((v : ℕ) → v < 256 → getD counts v 0 + times v (drop i p) ≡ times v p)
+      → (v : ℕ) → v < 256 → getD (set counts x (getD counts x 0 + 1)) v 0 + times v (drop (i + 1) p) ≡ times v p
+  tally-turn x ex l e v b = rw (add-one i) (go (ℕ-discrete v x))
+    where
+      go : Dec (v ≡ x) → getD (set counts x (getD counts x 0 + 1)) v 0 + times v (drop (suc i) p) ≡ times v p
+      go (yes q) =
+          rw (q, getD-set-same counts x (getD counts x 0 + 1) 0 l, ex)
+          (omega (arith, times-here, rw (q ∙ ex) at (e v b)))
+      go (no q) =
+          rw (getD-set-other counts x v (getD counts x 0 + 1) 0 q)
+          (omega (arith, rw (drop-cons p i 0 h, ne-eqb (getD p i 0) v (λ d. q (sym d ∙ sym ex))) at (e v b)))
+
+  -- and was counted fewer times before than there are entries
+  pub tally-room : (x : ℕ) → x ≡ getD p i 0 → x < 256
+      → ((v : ℕ) → v < 256 → getD counts v 0 + times v (drop i p) ≡ times v p)
+      → getD counts x 0 < length p
+  tally-room x ex b e = omega (arith, e x b, rw (← ex) at times-here, many-le (λ y. eqb y x) p)
 
 -- ---- the test of a permutation
 

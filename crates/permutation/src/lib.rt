@@ -2,7 +2,6 @@
 use bounds::Refusal;
 use mahonian::is_staircase;
 use places::composition_refusal;
-use places::edition_refusal;
 use places::lent_refusal;
 use places::refusal;
 use walsh::wide;
@@ -24,17 +23,19 @@ fn one(b: bool) -> usize
     if b { 1 } else { 0 }
 }
 
-// How many entries of p are v.
-fn times(p: &[u8], v: usize) -> usize
-    ensures { λ r. ⌜ r ≡ times v (now (p .entry)) ⌝ }
+// How often each byte is an entry of p.
+fn tally(p: &[u8]) -> [u8; 256]
+    requires { ⌜ length (now p) ≤ 255 ⌝ }
+    ensures { λ r. ⌜ ((v : ℕ) → v < 256 → getD r v 0 ≡ times v (now (p .entry))) ⌝ }
 {
-    let mut n = 0;
+    let mut counts = [0u8; 256];
     let mut i = 0;
     while i < p.len() {
-        n += one(wide(p[i]) == v);
+        let v = wide(p[i]);
+        counts[v] = counts[v] + 1;
         i += 1;
     }
-    n
+    counts
 }
 
 // How many entries behind place i are smaller than the entry there.
@@ -54,15 +55,17 @@ fn smaller_after(p: &[u8], i: usize) -> usize
 
 // p is a permutation of 1..k.
 fn is_permutation(p: &[u8], k: usize) -> bool
+    requires { ⌜ k ≤ 255 ⌝ }
     ensures { λ r. ⌜ r ≡ isPermutation k (now (p .entry)) ⌝ }
 {
     if p.len() != k {
         return false;
     }
+    let counts = tally(p);
     let mut v = 0;
     while v < k {
         v += 1;
-        if times(p, v) != 1 {
+        if counts[v] != 1 {
             return false;
         }
     }
@@ -134,7 +137,7 @@ fn fill_permutation(g: &[u8], out: &mut [u8])
 fn staircase_refusal(upper: &[u8], total: u32) -> Refusal
     ensures { λ r. ⌜ r ≡ firstRefusal (editionChecks (now (upper .entry)) total ++ staircaseChecks (now (upper .entry))) ⌝ }
 {
-    let edition = edition_refusal(upper, total);
+    let edition = bounds::limit::refusal(upper, total);
     if edition.number != 0 {
         return edition;
     }

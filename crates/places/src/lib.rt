@@ -1,10 +1,9 @@
-// The checks of the places 'edition', 'mix given' and 'lent part' (document 01, "Refusals by place of checking"), which several calls have.
+// The checks of the places 'mix given' and 'lent part' (document 01, "Refusals by place of checking"), which several calls have.
 use bounds::Refusal;
 ghost use mathlib.Core.Path.{_≡_};
 ghost use Prim.Native.Nat.{ℕ};
 ghost use lib.ListN.{length};
 ghost use Rattle.bounds.specs.Refusal.{firstRefusal, refused};
-ghost use Rattle.bounds.specs.Edition.{editionChecks};
 ghost use Rattle.bounds.specs.Places.{isOther, compositionChecks, lentChecks};
 
 // A refusal without a detail; 0 is none.
@@ -12,17 +11,6 @@ pub fn refusal(number: u32) -> Refusal
     ensures { λ r. ⌜ r ≡ refused number 0 ⌝ }
 {
     Refusal { number, detail: 0 }
-}
-
-// The place 'edition'.
-pub fn edition_refusal(upper: &[u8], total: u32) -> Refusal
-    ensures { λ r. ⌜ r ≡ firstRefusal (editionChecks (now (upper .entry)) total) ⌝ }
-{
-    let n = bounds::band::count(upper, total);
-    Refusal {
-        number: n.number,
-        detail: n.detail,
-    }
 }
 
 // A part of g is over its bound, or the sum of the parts isn't the total. What is left of the total never falls below 0, so no sum is too large.
