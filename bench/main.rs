@@ -2,8 +2,7 @@
 //! Arguments: the engine's listing program, or `-`; the peer's; a folder for SQLite's files.
 mod clock;
 mod engine;
-#[path = "peer/peer.rs"]
-#[allow(dead_code)]
+#[allow(dead_code, unused_imports)]
 mod peer;
 mod sqlite;
 

@@ -1,8 +1,7 @@
 //! The listing program in plain Rust, not proved: the same slip, the same lines, the same buffer of 64 KiB.
 use std::io::{Read, Write};
 
-#[path = "peer.rs"]
-#[allow(dead_code)]
+#[allow(dead_code, unused_imports)]
 mod peer;
 
 const BUFFER: usize = 64 * 1024;
