@@ -141,7 +141,7 @@ def any_call(rng):
         record, column = inputs.damaged(rng, record, column)
     lines = column[:min(record[3], 2000)]
     serial = rng.choice((len(lines) + 1, len(lines) + 1, len(lines) + 1, len(lines), 0, len(lines) + 2, inputs.any_serial(rng, len(column)), rng.randint(1, 9)))
-    order = rng.choice((inputs.any_order(rng, lines), rng.getrandbits(32), rng.getrandbits(32), (column + [3])[len(lines)] if len(lines) < len(column) else 3))
+    order = rng.choice((inputs.any_order(rng, lines), inputs.any_order(rng, lines), rng.getrandbits(32), (column + [3] * 2000)[len(lines)]))
     on_record(rng, record, column, "look")
     on_record(rng, record, column, "take", serial, order)
     on_record(rng, record, column, "spoil", serial)
@@ -183,10 +183,10 @@ def interleaving(rng):
     running, paper = Running(rng, ms, r, values), ref.Paper(ms, r)
     workers = [rng.randint(0, 2) for _ in range(rng.randint(2, 5))]
     done = []
-    for turn in range(min(3 * n + 20, 120)):
+    for turn in range(min(3 * n + 20, 400)):
         worker = rng.randrange(len(workers))
         act = rng.random()
-        serial = rng.choice((workers[worker], workers[worker], workers[worker], paper.next(), inputs.any_serial(rng, n)))
+        serial = rng.choice((workers[worker], workers[worker], paper.next(), paper.next(), inputs.any_serial(rng, n)))
         if act < 0.3:
             name, arguments = "look", ()
         elif act < 0.85:
