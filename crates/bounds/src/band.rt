@@ -208,7 +208,8 @@ fn fill_row(upper: &[u8], total: usize, k: usize, row: Row, next: Row, cells: &m
     let m = bound(upper, k);
     let full = row.low + m;
     let end = next.high + 1;
-    let first = between(next.low, walsh::lesser(row.high, full), end);
+    let least = walsh::lesser(row.high, full);
+    let first = between(next.low, least, end);
     let w1 = fill_part(
         upper,
         total,
@@ -226,42 +227,8 @@ fn fill_row(upper: &[u8], total: usize, k: usize, row: Row, next: Row, cells: &m
     if MOST < w1 {
         return false;
     }
-    if full < row.high {
-        let second = between(first, row.high, end);
-        let w2 = fill_part(
-            upper,
-            total,
-            k,
-            m,
-            row,
-            next,
-            cells,
-            first,
-            second,
-            w1,
-            true,
-            true,
-        );
-        if MOST < w2 {
-            return false;
-        }
-        let w3 = fill_part(
-            upper,
-            total,
-            k,
-            m,
-            row,
-            next,
-            cells,
-            second,
-            end,
-            w2,
-            false,
-            true,
-        );
-        return w3 <= MOST;
-    }
-    let second = between(first, full, end);
+    let both = full < row.high;
+    let second = between(first, row.high + full - least, end);
     let w2 = fill_part(
         upper,
         total,
@@ -273,8 +240,8 @@ fn fill_row(upper: &[u8], total: usize, k: usize, row: Row, next: Row, cells: &m
         first,
         second,
         w1,
-        false,
-        false,
+        both,
+        both,
     );
     if MOST < w2 {
         return false;

@@ -7,7 +7,6 @@ use borrow.Author.Needs.{needs}
 use Rattle.bounds.specs.Refusal.{firstRefusal}
 use Rattle.bounds.specs.Edition.{whole, shapeChecks}
 use Rattle.bounds.specs.Band.{limited}
-use Rattle.bounds.specs.declared.band.Counted.{Counted}
 use Rattle.bounds.proofs.Answers.{shaped-refused, shaped-accepted, edition-refused, number-refused, number-limited, staircase-number}
 use Rattle.bounds.proofs.band.count.Statement.{statement}
 use Rattle.bounds.proofs.band.count.Tie as tie

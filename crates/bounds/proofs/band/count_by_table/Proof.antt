@@ -1,10 +1,8 @@
 -- `bounds::band::count_by_table` meets its contract.
-use Prim.Native.Nat.{_≤_}
 use denote.Ref.{now}
 use borrow.Author.Needs.{needs}
-use Rattle.bounds.specs.Band.{bandSize}
 use Rattle.bounds.proofs.Editions.{Shapely, shapely}
-use Rattle.bounds.proofs.Rows.{last-size, size-small}
+use Rattle.bounds.proofs.Rows.{size-small}
 use Rattle.bounds.proofs.band.count_by_table.Statement.{statement}
 use Rattle.bounds.proofs.band.count_by_table.Tie as tie
 
