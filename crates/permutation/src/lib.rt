@@ -137,9 +137,9 @@ fn fill_permutation(g: &[u8], out: &mut [u8])
 fn staircase_refusal(upper: &[u8], total: u32) -> Refusal
     ensures { λ r. ⌜ r ≡ firstRefusal (editionChecks (now (upper .entry)) total ++ staircaseChecks (now (upper .entry))) ⌝ }
 {
-    let edition = bounds::limit::refusal(upper, total);
-    if edition.number != 0 {
-        return edition;
+    let shape = bounds::limit::refusal(upper, total);
+    if shape.number != 0 {
+        return shape;
     }
     if is_staircase(upper) {
         return refusal(0);
