@@ -7,3 +7,4 @@ pub mod Rows
 pub mod Compositions
 pub mod Filling
 pub mod Chains
+pub mod Nonempty

@@ -1,10 +1,11 @@
--- Document 01, "Refusals by place of checking": the places 'mix given' and 'lent part', which several calls have.
+-- Document 01, "Refusals by place of checking": the places that several calls have.
 use mathlib.Core.Bool.{Bool, cond, not}
 use mathlib.Core.List.{List, [], _∷_}
 use Prim.Native.Nat.{ℕ}
-use lib.Dec.{eqb, leb}
+use lib.Dec.{eqb, leb, ltb}
 use lib.ListN.{length, getD}
 use Rattle.walsh.specs.Tests.{either, every}
+use Rattle.walsh.specs.Order.{countOf}
 use Rattle.bounds.specs.Refusal.{Check, check, firstRefusal}
 use Rattle.bounds.specs.Edition.{whole}
 use Rattle.bounds.specs.declared.Refusal.{Refusal}
@@ -23,6 +24,10 @@ compositionChecks ms r g =
     check 7 (not (eqb (length g) (length ms))) 0
     ∷ check 8 (isOther ms r g) 0
     ∷ []
+
+-- the place 'serial given'
+abbrev pub serialChecks : List ℕ → ℕ → ℕ → List Check
+serialChecks ms r s = check 6 (either (eqb s 0) (ltb (countOf ms r) s)) 0 ∷ []
 
 -- the place 'lent part': "length differs from what is to be written"
 abbrev pub lentChecks : ℕ → ℕ → List Check

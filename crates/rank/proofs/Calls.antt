@@ -1,0 +1,148 @@
+-- The answers of the four calls, from what `find` answers.
+use mathlib.Core.Path.{_≡_, refl, sym, ap, _∙_}
+use mathlib.Core.Bool.{true, false, cond}
+use mathlib.Core.List.{List, _++_}
+use Prim.Native.Nat.{ℕ, _≤_, _<_, min, max}
+use native.Mathlib.Omega.{arith}
+use lib.Dec.{eqb}
+use lib.ListN.{length, take, replicate}
+use lib.Seq.{take-append-seam}
+use borrow.Author.Tests.{eq-eqb, ne-eqb, lt-ltb, le-ltb}
+use Rattle.walsh.specs.Order.{countOf}
+use Rattle.walsh.specs.Serial.{compositionOf}
+use Rattle.walsh.proofs.Cases.{on-test}
+use Rattle.walsh.proofs.Serials.{composition-is}
+use Rattle.bounds.specs.Refusal.{refused, firstRefusal}
+use Rattle.bounds.specs.Edition.{shapeChecks, editionChecks, cellsOf}
+use Rattle.bounds.specs.Places.{serialChecks, lentChecks}
+use Rattle.bounds.specs.declared.Refusal.{Refusal}
+use Rattle.bounds.specs.declared.Bounds.{Bounds}
+use Rattle.bounds.proofs.Refusals.{refusal-next, refusal-first, refusal-later, is-refused, is-accepted}
+use Rattle.bounds.proofs.Editions.{Shapely, shapely}
+use Rattle.bounds.proofs.Chains.{accepts-split}
+use Rattle.bounds.proofs.Filling.{filling-refused, filling-done}
+use Rattle.rank.specs.Rank.{Answer, rankChecks, rankAnswer}
+use Rattle.rank.specs.Unrank.{unrankChecks, unrankCall}
+use Rattle.rank.specs.Locate.{clamp, nearest, locatedBy, locateOf, locateRecordOf}
+use Rattle.rank.specs.Find.{foundOf}
+use Rattle.rank.specs.declared.Located.{Located}
+use Rattle.rank.specs.declared.walk.find.Found.{Found}
+use Rattle.rank.specs.declared.walk.find.Task.the-variants.{Rank, Unrank}
+
+abbrev number-of : Found → ℕ
+number-of x = x .number
+
+abbrev detail-of : Found → ℕ
+detail-of x = x .detail
+
+-- the shape of an edition that is accepted
+pub edition-shapely : (ms : List ℕ) (r : ℕ) → firstRefusal (editionChecks ms r) .number ≡ 0 → Shapely ms r
+edition-shapely ms r e = shapely ms r (accepts-split (shapeChecks ms r) _ refl e .0)
+
+-- ---- rank
+
+module _ (ms : List ℕ) (r : ℕ) (g : List ℕ) (x : Found) (e : x ≡ foundOf Rank ms r g) where
+  pub ranked-refused : 0 < x .number → record { number = x .number; detail = x .detail; serial = 0 } ≡ rankAnswer ms r g
+  unfolding foundOf rankAnswer
+  ranked-refused l =
+      let v = is-refused (firstRefusal (rankChecks ms r g)) _ _ number-of detail-of refl refl refl x e l in
+      rw (v, ne-eqb (x .number) 0 (λ z. omega arith))
+
+  pub ranked-accepted : x .number ≡ 0 → record { number = 0; detail = 0; serial = x .serial } ≡ rankAnswer ms r g
+  unfolding foundOf rankAnswer
+  ranked-accepted z =
+      let p = is-accepted (firstRefusal (rankChecks ms r g)) _ _ number-of detail-of refl refl refl x e z in
+      rw (p .1, eq-eqb (firstRefusal (rankChecks ms r g) .number) 0 (p .0))
+
+-- ---- what `find` says of a serial
+
+module _ (ms : List ℕ) (r s : ℕ) (g : List ℕ) (x : Found) (e : x ≡ foundOf (Unrank s) ms r g) where
+  pub entry-refused : 0 < x .number → firstRefusal (editionChecks ms r) ≡ refused (x .number) (x .detail)
+  unfolding foundOf
+  entry-refused l = is-refused (firstRefusal (editionChecks ms r)) _ _ number-of detail-of refl refl refl x e l
+
+  pub entry-accepted : x .number ≡ 0 → (firstRefusal (editionChecks ms r) .number ≡ 0) × (x .count ≡ countOf ms r) × (x .composition ≡ nearest ms r s)
+  unfolding foundOf
+  entry-accepted z =
+      let p = is-accepted (firstRefusal (editionChecks ms r)) _ _ number-of detail-of refl refl refl x e z in
+      (p .0, ap (λ (y : Found). y .count) (p .1), ap (λ (y : Found). y .composition) (p .1))
+
+  pub entry-located : record { number = x .number; detail = x .detail; count = x .count; composition = x .composition } ≡ locateOf ms r s
+  unfolding foundOf locateOf
+  entry-located = on-test (eqb (firstRefusal (editionChecks ms r) .number) 0) (λ t. rw (e, t)) (λ t. rw (e, t))
+
+-- ---- the cells of a serial
+
+-- the cells of a list begin with it
+pub cells-back : (l : List ℕ) → take (length l) (cellsOf l) ≡ l
+unfolding cellsOf
+cells-back l = take-append-seam l _
+
+pub clamp-in : (n s : ℕ) → 0 < s → s ≤ n → clamp n s ≡ s
+clamp-in n s l h = omega arith
+
+nearest-bytes : (ms : List ℕ) (r s n : ℕ) (cells : List ℕ) → 0 < s → s ≤ countOf ms r → n ≡ length ms → cells ≡ nearest ms r s → take n cells ≡ compositionOf ms r s
+nearest-bytes ms r s n cells l h en ec =
+    let g : List ℕ = compositionOf ms r s in
+    let size : n ≡ length g = en ∙ sym (composition-is ms r s l h .size) in
+    ap (take n) (ec ∙ ap (λ (u : ℕ). cellsOf (compositionOf ms r u)) (clamp-in (countOf ms r) s l h)) ∙ ap (λ (k : ℕ). take k (cellsOf g)) size ∙ cells-back g
+
+-- ---- unrank
+
+module _ (ms : List ℕ) (r s : ℕ) (out : List ℕ) where
+  abbrev checked : Refusal
+  checked = firstRefusal (unrankChecks ms r s (length out))
+
+  -- what a call leaves that answers v
+  abbrev Leaves : Refusal → List ℕ → Type 0
+  Leaves v l = _≡_ {A = Refusal × List ℕ} (v, l) (unrankCall ms r s out)
+
+  refused-by : {v : Refusal} (n d : ℕ) → 0 < n → v ≡ refused n d → checked ≡ refused n d → Leaves v out
+  unfolding unrankCall
+  refused-by n d l e is =
+      filling-refused (unrankChecks ms r s (length out)) (compositionOf ms r s) out (e ∙ sym is) (λ z. let q = ap (λ (w : Refusal). w .number) e in omega arith)
+
+  pub edition-refused : {v : Refusal} (n d : ℕ) → 0 < n → v ≡ refused n d → firstRefusal (editionChecks ms r) ≡ refused n d → Leaves v out
+  edition-refused n d l e is =
+      refused-by n d l e
+      (refusal-first (editionChecks ms r) (serialChecks ms r s ++ lentChecks (length ms) (length out)) (λ z. let q = ap (λ (w : Refusal). w .number) is in omega arith) ∙ is)
+
+  module _ (accepted : firstRefusal (editionChecks ms r) .number ≡ 0) where
+    later : checked ≡ firstRefusal (serialChecks ms r s ++ lentChecks (length ms) (length out))
+    later = refusal-later (editionChecks ms r) (serialChecks ms r s ++ lentChecks (length ms) (length out)) refl accepted
+
+    pub serial-none : {v : Refusal} → s ≡ 0 → v ≡ refused 6 0 → Leaves v out
+    unfolding firstRefusal
+    serial-none z e = refused-by 6 0 (omega arith) e (later ∙ rw (eq-eqb s 0 z))
+
+    module _ (some : s ≡ 0 → ⊥) where
+      pub serial-over : {v : Refusal} → countOf ms r < s → v ≡ refused 6 0 → Leaves v out
+      unfolding firstRefusal
+      serial-over l e = refused-by 6 0 (omega arith) e (later ∙ rw (ne-eqb s 0 some, lt-ltb (countOf ms r) s l))
+
+      module _ (inside : s ≤ countOf ms r) where
+        pub part-other : {v : Refusal} → (length out ≡ length ms → ⊥) → v ≡ refused 13 0 → Leaves v out
+        unfolding firstRefusal
+        part-other n e = refused-by 13 0 (omega arith) e (later ∙ rw (ne-eqb s 0 some, le-ltb (countOf ms r) s inside, ne-eqb (length out) (length ms) n))
+
+        pub part-filled : {v : Refusal} → length out ≡ length ms → v ≡ refused 0 0
+            → (l cells : List ℕ) → l ≡ take (length out) cells → cells ≡ nearest ms r s → Leaves v l
+        unfolding firstRefusal unrankCall
+        part-filled n e l cells el ec =
+            let none : checked ≡ refused 0 0 = later ∙ rw (ne-eqb s 0 some, le-ltb (countOf ms r) s inside, eq-eqb (length out) (length ms) n) in
+            filling-done (unrankChecks ms r s (length out)) (compositionOf ms r s) out (e ∙ sym none) (ap (λ (w : Refusal). w .number) e)
+            (el ∙ nearest-bytes ms r s (length out) cells (pos some) inside n ec)
+          where
+            pos : (s ≡ 0 → ⊥) → 0 < s
+            pos n = omega (arith, n)
+
+-- ---- a record that nobody has checked
+
+module _ (b : Bounds) (s : ℕ) where
+  pub record-over : 24 < b .parts → record { number = 1; detail = 0; count = 0; composition = replicate 24 0 } ≡ locateRecordOf b s
+  unfolding locateRecordOf firstRefusal
+  record-over l = rw (lt-ltb 24 (b .parts) l)
+
+  pub record-located : b .parts ≤ 24 → locateOf (take (b .parts) (b .upper)) (b .total) s ≡ locateRecordOf b s
+  unfolding locateOf locateRecordOf
+  record-located l = ap (λ (v : Refusal). locatedBy v (take (b .parts) (b .upper)) (b .total) s) (sym (refusal-next _ _ (le-ltb 24 (b .parts) l)))

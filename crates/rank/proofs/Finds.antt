@@ -1,0 +1,100 @@
+-- Laws of what the two directions have in common: the answer of `find` case by case, and the cells that are lent.
+use mathlib.Core.Path.{_≡_, refl, sym, ap, _∙_}
+use mathlib.Core.List.{List, _++_}
+use Prim.Native.Nat.{ℕ, zero, suc, _+_, _-_, _≤_, _<_, min, max}
+use native.Mathlib.Nat.{sub-zero, zero-sub, suc-sub-suc}
+use native.Mathlib.Numerals.{add-one}
+use native.Mathlib.Omega.{arith}
+use lib.ListN.{length, take, drop, replicate, length-replicate}
+use lib.Seq.{length-take-le}
+use Rattle.walsh.specs.Order.{Composition, count, countOf}
+use Rattle.walsh.specs.Serial.{serialOf, compositionOf}
+use Rattle.walsh.specs.Rank.{rankOf}
+use Rattle.walsh.proofs.Serials.{serial-rank}
+use Rattle.bounds.specs.Refusal.{refused, firstRefusal}
+use Rattle.bounds.specs.Edition.{whole, editionChecks, shapeChecks, cellsOf}
+use Rattle.bounds.specs.Places.{compositionChecks}
+use Rattle.bounds.specs.declared.Refusal.{Refusal}
+use Rattle.bounds.proofs.Compositions.{composition-passes}
+use Rattle.bounds.proofs.Nonempty.{count-some}
+use Rattle.bounds.proofs.Refusals.{refusal-first, refusal-later, by-refusal, by-acceptance}
+use Rattle.rank.specs.Rank.{rankChecks}
+use Rattle.rank.specs.Locate.{clamp}
+use Rattle.rank.specs.Find.{foundBy, foundOf}
+use Rattle.rank.specs.declared.walk.find.Found.{Found}
+use Rattle.rank.specs.declared.walk.find.Task.{Task}
+use Rattle.rank.specs.declared.walk.find.Task.the-variants.{Rank, Unrank}
+
+-- ---- the answer
+
+abbrev nothing : ℕ → ℕ → Found
+nothing n d = record { number = n; detail = d; count = 0; serial = 0; composition = replicate 24 0 }
+
+found-refused : (v : Refusal) (count serial : ℕ) (g : List ℕ) (n d : ℕ) → v ≡ refused n d → 0 < n → nothing n d ≡ foundBy v count serial g
+found-refused v count serial g n d e l = rw (by-refusal v _ _ n d e l, e)
+
+some-number : {v : Refusal} {n d : ℕ} → v ≡ refused n d → 0 < n → v .number ≡ 0 → ⊥
+some-number e l z = let q = ap (λ (w : Refusal). w .number) e in omega arith
+
+module _ (ms : List ℕ) (r : ℕ) where
+  -- an edition that is refused
+  pub found-edition : (task : Task) (g : List ℕ) (n d : ℕ) → firstRefusal (editionChecks ms r) ≡ refused n d → 0 < n → nothing n d ≡ foundOf task ms r g
+  unfolding foundOf
+  found-edition Rank g n d e l =
+      found-refused (firstRefusal (rankChecks ms r g)) _ _ _ n d (refusal-first (editionChecks ms r) (compositionChecks ms r g) (some-number e l) ∙ e) l
+  found-edition (Unrank s) g n d e l = found-refused (firstRefusal (editionChecks ms r)) _ _ _ n d e l
+
+  pub found-shape : (task : Task) (g : List ℕ) (n d : ℕ) → firstRefusal (shapeChecks ms r) ≡ refused n d → 0 < n → nothing n d ≡ foundOf task ms r g
+  found-shape task g n d e l = found-edition task g n d (refusal-first (shapeChecks ms r) _ (some-number e l) ∙ e) l
+
+  -- an edition that is accepted
+  module _ (accepted : firstRefusal (editionChecks ms r) .number ≡ 0) (g : List ℕ) where
+    later : firstRefusal (rankChecks ms r g) ≡ firstRefusal (compositionChecks ms r g)
+    later = refusal-later (editionChecks ms r) (compositionChecks ms r g) refl accepted
+
+    pub found-composition : (n d : ℕ) → firstRefusal (compositionChecks ms r g) ≡ refused n d → 0 < n → nothing n d ≡ foundOf Rank ms r g
+    unfolding foundOf
+    found-composition n d e l = found-refused (firstRefusal (rankChecks ms r g)) _ _ _ n d (later ∙ e) l
+
+    pub found-place : (count place : ℕ) → count ≡ countOf ms r → Composition ms r g → place ≡ rankOf ms (length ms) r 0 g
+        → record { number = 0; detail = 0; count = count; serial = place + 1; composition = replicate 24 0 } ≡ foundOf Rank ms r g
+    unfolding foundOf
+    found-place count place ec comp ep =
+        let is : place + 1 ≡ serialOf ms r g = add-one place ∙ ap suc ep ∙ sym (serial-rank ms r g comp) in
+        let none : firstRefusal (rankChecks ms r g) ≡ refused 0 0 = later ∙ composition-passes ms r g comp in
+        rw (none, is, ec)
+
+    pub found-entry : (count asked serial : ℕ) (cells : List ℕ) → count ≡ countOf ms r → serial ≡ clamp (countOf ms r) asked → cells ≡ cellsOf (compositionOf ms r serial)
+        → record { number = 0; detail = 0; count = count; serial = serial; composition = cells } ≡ foundOf (Unrank asked) ms r g
+    unfolding foundOf
+    found-entry count asked serial cells ec es el = rw (by-acceptance (firstRefusal (editionChecks ms r)) _ _ accepted, el, es, ec)
+
+-- the serial that is found, and its place
+pub clamp-place : (ms : List ℕ) (r n s asked : ℕ) → r ≤ whole ms → n ≡ countOf ms r → s ≡ clamp n asked
+    → (0 < s) × (s - 1 < count ms (length ms) r) × (s ≡ clamp (countOf ms r) asked)
+unfolding countOf
+clamp-place ms r n s asked reach en es =
+    let some : 0 < count ms (length ms) r = count-some ms r reach in
+    (omega arith, omega arith, es ∙ ap (λ (m : ℕ). clamp m asked) en)
+
+-- ---- lent cells
+
+abbrev fresh : ℕ → List ℕ
+fresh m = replicate {A = ℕ} m 0
+
+-- the first cells of a new array
+pub prefix-length : (size m : ℕ) → size ≤ m → length (take size (fresh m)) ≡ size
+prefix-length size m l = length-take-le size (fresh m) (room l (length-replicate {A = ℕ} m 0))
+  where
+    room : {x y z : ℕ} → x ≤ y → z ≡ y → x ≤ z
+    room p q = omega arith
+
+drop-fresh : (m n : ℕ) → drop n (fresh m) ≡ fresh (m - n)
+drop-fresh m zero = ap fresh (sym (sub-zero m))
+drop-fresh zero (suc n) = ap fresh (sym (zero-sub (suc n)))
+drop-fresh (suc m) (suc n) = drop-fresh m n ∙ ap fresh (sym (suc-sub-suc m n))
+
+-- the first cells written, and the others as they were
+pub in-cells : (l : List ℕ) (n : ℕ) → length l ≡ n → l ++ drop n (fresh 24) ≡ cellsOf l
+unfolding cellsOf
+in-cells l n e = ap (λ (r : List ℕ). l ++ r) (drop-fresh 24 n ∙ ap (λ (k : ℕ). fresh (24 - k)) (sym e))

@@ -1,0 +1,5 @@
+pub mod Runs
+pub mod Picks
+pub mod Parts
+pub mod Finds
+pub mod Calls

@@ -1,0 +1,71 @@
+-- Laws of the run of a part's values: which values they are, and that the cells which `block` reads are their counts.
+use mathlib.Core.Path.{_≡_, refl, ap, _∙_}
+use mathlib.Core.List.{List}
+use Prim.Native.Nat.{ℕ, suc, _+_, _-_, _*_, _≤_, _<_}
+use native.Mathlib.Nat.{le-refl, le-of-lt}
+use native.Mathlib.Omega.{arith}
+use lib.ListN.{getD}
+use Rattle.walsh.specs.Order.{least, most, partValue, partChoices}
+use Rattle.walsh.specs.Rank.{indexOf, partIndex, blockSize}
+use Rattle.walsh.proofs.Lists.{value-high}
+use Rattle.bounds.specs.Band.{InBand}
+use Rattle.bounds.specs.declared.band.Row.{Row}
+use Rattle.bounds.proofs.Bands.{band-down, band-value, start-small}
+use Rattle.bounds.proofs.Rows.{at-low, at-place}
+use Rattle.rank.specs.Walk.{runOf, inRun, Here}
+use Rattle.rank.specs.declared.walk.Run.{Run}
+
+pub in-run-le : (w : Run) (i : ℕ) → i < suc (w .high) - w .low → inRun w i ≤ w .high
+unfolding inRun
+in-run-le w i l = value-high (w .low) (w .high) (w .falls) i l
+
+module _ (ms : List ℕ) (k rem t : ℕ) (w : Run) (e : w ≡ runOf ms k rem t) where
+  pub run-ends : (w .low ≡ least ms k rem) × (w .high ≡ most ms k rem)
+  unfolding runOf
+  run-ends = rw e (refl, refl)
+
+  pub run-choices : suc (w .high) - w .low ≡ partChoices ms k rem
+  unfolding runOf
+  run-choices = rw e
+
+  run-value : (i : ℕ) → inRun w i ≡ partValue ms k rem t i
+  unfolding runOf inRun
+  run-value i = rw e
+
+  pub run-index : (v : ℕ) → indexOf (w .low) (w .high) (w .falls) v ≡ partIndex ms k rem t v
+  unfolding runOf
+  run-index v = rw e
+
+  pub run-picks : (i v : ℕ) → v ≡ inRun w i → v ≡ partValue ms k rem t i
+  run-picks i v ev = ev ∙ run-value i
+
+  module _ (row : Row) (cells : List ℕ) (here : Here ms k rem t row cells) where
+    highest-band : InBand ms (t + rem) k (rem - most ms k rem)
+    highest-band =
+        let fits : least ms k rem ≤ most ms k rem = omega (arith, here .band .inside) in
+        band-down ms (t + rem) k rem (most ms k rem) (here .inside) (here .band) fits (le-refl _)
+
+    -- the numbers that `block` computes are small and none falls below 0
+    pub run-fits : (rem ≤ 255) × (w .high ≤ rem) × (row .low ≤ rem - w .high) × (row .start ≤ 6144)
+    run-fits = (
+      omega (arith, here .small),
+      rw (run-ends .1) (omega arith),
+      rw (run-ends .1) (at-low ms (t + rem) k (rem - most ms k rem) row (here .row) highest-band),
+      starts (here .row .start) (start-small ms (t + rem) (here .small) k) (here .few),
+    )
+      where
+        starts : {s b : ℕ} → s ≡ b → b ≤ 256 * k → k < 24 → s ≤ 6144
+        starts e l f = omega arith
+
+    -- the cell that it reads
+    pub run-block : (i x : ℕ) → i < partChoices ms k rem → x ≡ getD cells (row .start + (rem - inRun w i - row .low)) 0 → x ≡ blockSize ms k rem t i
+    run-block i x l ex =
+        let v : ℕ = partValue ms k rem t i in
+        let b = band-value ms (t + rem) k rem t i (here .inside) (here .band) l in
+        ex
+        ∙ ap (λ (u : ℕ). getD cells (row .start + (rem - u - row .low)) 0) (run-value i)
+        ∙ ap (λ (p : ℕ). getD cells p 0) (at-place ms (t + rem) k (rem - v) row (here .row) b)
+        ∙ here .table .holds k (le-of-lt (here .inside)) (rem - v) b (below v (here .small)) .0
+      where
+        below : (u : ℕ) → t + rem ≤ 255 → rem - u < 256
+        below u s = omega arith

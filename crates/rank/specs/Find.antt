@@ -1,0 +1,26 @@
+-- What the two directions have in common: an entry of the order, found by its composition or by its serial.
+use mathlib.Core.Bool.{cond}
+use mathlib.Core.List.{List}
+use Prim.Native.Nat.{ℕ}
+use lib.Dec.{eqb}
+use lib.ListN.{replicate}
+use Rattle.walsh.specs.Order.{countOf}
+use Rattle.walsh.specs.Serial.{serialOf}
+use Rattle.bounds.specs.Refusal.{firstRefusal}
+use Rattle.bounds.specs.Edition.{editionChecks}
+use Rattle.bounds.specs.declared.Refusal.{Refusal}
+use Rattle.rank.specs.Rank.{rankChecks}
+use Rattle.rank.specs.Locate.{clamp, nearest}
+use Rattle.rank.specs.declared.walk.find.Found.{Found}
+use Rattle.rank.specs.declared.walk.find.Task.{Task}
+use Rattle.rank.specs.declared.walk.find.Task.the-variants.{Rank, Unrank}
+
+abbrev pub foundBy : Refusal → ℕ → ℕ → List ℕ → Found
+foundBy v n s g =
+    cond (eqb (v .number) 0)
+    (record { number = 0; detail = 0; count = n; serial = s; composition = g })
+    (record { number = v .number; detail = v .detail; count = 0; serial = 0; composition = replicate 24 0 })
+
+unfoldable pub foundOf : Task → List ℕ → ℕ → List ℕ → Found
+foundOf Rank ms r g = foundBy (firstRefusal (rankChecks ms r g)) (countOf ms r) (serialOf ms r g) (replicate 24 0)
+foundOf (Unrank s) ms r g = foundBy (firstRefusal (editionChecks ms r)) (countOf ms r) (clamp (countOf ms r) s) (nearest ms r s)

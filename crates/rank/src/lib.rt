@@ -1,0 +1,109 @@
+// Composition to serial and back (document 01, "Serial and mix").
+ghost use mathlib.Core.Path.{_≡_};
+ghost use Prim.Native.Nat.{ℕ, _≤_};
+ghost use lib.ListN.{length, take};
+ghost use Rattle.rank.specs.Rank.{answerOf, rankAnswer};
+ghost use Rattle.rank.specs.Unrank.{unrankCall};
+ghost use Rattle.rank.specs.Locate.{locateOf, locateRecordOf};
+use bounds::Bounds;
+use bounds::Refusal;
+use walk::find;
+
+mod walk;
+
+// A serial, or a refusal's number and detail.
+pub enum Ranked {
+    Serial(u64),
+    Refused(u32, u64),
+}
+
+// N and a composition, in 24 cells; all zeros where the edition is refused.
+#[repr(C)]
+pub struct Located {
+    pub number: u32,
+    pub detail: u64,
+    pub count: u64,
+    pub composition: [u8; 24],
+}
+
+// The serial of a composition.
+pub fn rank(upper: &[u8], total: u32, composition: &[u8]) -> Ranked
+    ensures { λ r. ⌜ answerOf r ≡ rankAnswer (now (upper .entry)) total (now (composition .entry)) ⌝ }
+{
+    let f = find::find(upper, total, find::Task::Rank, composition);
+    if 0 < f.number {
+        return Ranked::Refused(f.number, f.detail);
+    }
+    Ranked::Serial(f.serial)
+}
+
+fn refusal(number: u32, detail: u64) -> Refusal
+    ensures { λ r. ⌜ r ≡ record { number = number; detail = detail } ⌝ }
+{
+    Refusal { number, detail }
+}
+
+// The first cells, as many as `out` has.
+fn put(cells: &[u8; 24], out: &mut [u8])
+    requires { ⌜ (length (now cells) ≡ 24) × (length (now out) ≤ 24) ⌝ }
+    ensures { λ _. ⌜ now (out .exit) ≡ take (length (now (out .entry))) (now (cells .entry)) ⌝ }
+{
+    let mut i = 0;
+    while i < out.len() {
+        out[i] = cells[i];
+        i += 1;
+    }
+}
+
+// Writes the composition of a serial into `out`, which has a byte for each part.
+pub fn unrank(upper: &[u8], total: u32, serial: u64, out: &mut [u8]) -> Refusal
+    ensures { λ r. ⌜ (r, now (out .exit)) ≡ unrankCall (now (upper .entry)) total serial (now (out .entry)) ⌝ }
+{
+    let f = find::find(upper, total, find::Task::Unrank(serial), upper);
+    if 0 < f.number {
+        return refusal(f.number, f.detail);
+    }
+    if serial == 0 {
+        return refusal(6, 0);
+    }
+    if f.count < serial {
+        return refusal(6, 0);
+    }
+    if out.len() != upper.len() {
+        return refusal(13, 0);
+    }
+    let cells = f.composition;
+    put(&cells, out);
+    refusal(0, 0)
+}
+
+// N and the composition of a serial; 0 counts as 1, and a serial over N as N.
+pub fn locate(upper: &[u8], total: u32, serial: u64) -> Located
+    ensures { λ r. ⌜ r ≡ locateOf (now (upper .entry)) total serial ⌝ }
+{
+    let f = find::find(upper, total, find::Task::Unrank(serial), upper);
+    let composition = f.composition;
+    Located {
+        number: f.number,
+        detail: f.detail,
+        count: f.count,
+        composition,
+    }
+}
+
+// The same of a record that nobody has checked.
+pub fn locate_record(bounds: Bounds, serial: u64) -> Located
+    ensures { λ r. ⌜ r ≡ locateRecordOf bounds serial ⌝ }
+{
+    let n = bounds.parts;
+    if 24 < n {
+        return Located {
+            number: 1,
+            detail: 0,
+            count: 0,
+            composition: [0; 24],
+        };
+    }
+    let upper = bounds.upper;
+    locate(&upper[..n], bounds.total, serial)
+}

@@ -1,0 +1,168 @@
+// An entry of the order, found by its composition or by its serial, with a counting table of as many cells as it needs.
+ghost use mathlib.Core.Path.{_≡_};
+ghost use Prim.Native.Nat.{ℕ, _+_, _≤_, _<_, min, max};
+ghost use lib.ListN.{length, replicate};
+ghost use Rattle.walsh.specs.Order.{countOf};
+ghost use Rattle.bounds.specs.Refusal.{firstRefusal};
+ghost use Rattle.bounds.specs.Edition.{editionChecks, shapeChecks};
+ghost use Rattle.bounds.specs.Band.{bandSize, IsRow};
+ghost use Rattle.rank.specs.Walk.{Filled};
+ghost use Rattle.rank.specs.Locate.{clamp};
+ghost use Rattle.rank.specs.Find.{foundOf};
+ghost use Rattle.rank.specs.declared.walk.find.Task.the-variants.{Rank, Unrank};
+use bounds::band;
+
+// What is asked: the serial of a given composition, or the composition of a serial.
+pub enum Task {
+    Rank,
+    Unrank(u64),
+}
+
+// N, and the entry's serial, or its serial and its cells.
+pub struct Found {
+    pub number: u32,
+    pub detail: u64,
+    pub count: u64,
+    pub serial: u64,
+    pub composition: [u8; 24],
+}
+
+fn nothing(number: u32, detail: u64) -> Found
+    ensures { λ r. ⌜ r ≡ record { number = number; detail = detail; count = 0; serial = 0; composition = replicate 24 0 } ⌝ }
+{
+    Found {
+        number,
+        detail,
+        count: 0,
+        serial: 0,
+        composition: [0; 24],
+    }
+}
+
+// The serial of 1..n that is nearest to s.
+fn nearest(n: u64, s: u64) -> u64
+    ensures { λ r. ⌜ r ≡ clamp n s ⌝ }
+{
+    if s < 1 {
+        return 1;
+    }
+    if s < n {
+        return s;
+    }
+    if n < 1 { 1 } else { n }
+}
+
+fn rank_in(
+    upper: &[u8],
+    total: u32,
+    last: band::Row,
+    cells: &[u64],
+    count: u64,
+    given: &[u8],
+) -> Found
+    requires { ⌜ (firstRefusal (editionChecks (now upper) total) .number ≡ 0) × Filled (now upper) total last (now cells) × (count ≡ countOf (now upper) total) ⌝ }
+    ensures { λ r. ⌜ r ≡ foundOf Rank (now (upper .entry)) total (now (given .entry)) ⌝ }
+{
+    let v = places::composition_refusal(upper, total, given);
+    if 0 < v.number {
+        return nothing(v.number, v.detail);
+    }
+    let before = crate::walk::place(upper, total as usize, last, cells, given);
+    Found {
+        number: 0,
+        detail: 0,
+        count,
+        serial: before + 1,
+        composition: [0; 24],
+    }
+}
+
+fn unrank_in(
+    upper: &[u8],
+    total: u32,
+    last: band::Row,
+    cells: &[u64],
+    count: u64,
+    serial: u64,
+    given: &[u8],
+) -> Found
+    requires { ⌜ (firstRefusal (editionChecks (now upper) total) .number ≡ 0) × Filled (now upper) total last (now cells) × (count ≡ countOf (now upper) total) ⌝ }
+    ensures { λ r. ⌜ r ≡ foundOf (Unrank serial) (now (upper .entry)) total (now (given .entry)) ⌝ }
+{
+    let s = nearest(count, serial);
+    let n = upper.len();
+    let mut composition = [0u8; 24];
+    crate::walk::write(
+        upper,
+        total as usize,
+        last,
+        cells,
+        s - 1,
+        &mut composition[..n],
+    );
+    Found {
+        number: 0,
+        detail: 0,
+        count,
+        serial: s,
+        composition,
+    }
+}
+
+// `find` of a shape that is accepted, with room for its table.
+fn find_in(
+    upper: &[u8],
+    total: u32,
+    last: band::Row,
+    cells: &mut [u64],
+    task: Task,
+    given: &[u8],
+) -> Found
+    requires { ⌜ (firstRefusal (shapeChecks (now upper) total) .number ≡ 0) × (bandSize (now upper) total ≤ length (now cells)) × IsRow (now upper) total (length (now upper)) last ⌝ }
+    ensures { λ r. ⌜ r ≡ foundOf task (now (upper .entry)) total (now (given .entry)) ⌝ }
+{
+    let c = band::fill(upper, total, cells);
+    if 0 < c.number {
+        return nothing(c.number, c.detail);
+    }
+    match task {
+        Task::Rank => rank_in(upper, total, last, cells, c.count, given),
+        Task::Unrank(serial) => unrank_in(upper, total, last, cells, c.count, serial, given),
+    }
+}
+
+// The entry, or the refusal. `given` is read where a composition is given.
+pub fn find(upper: &[u8], total: u32, task: Task, given: &[u8]) -> Found
+    ensures { λ r. ⌜ r ≡ foundOf task (now (upper .entry)) total (now (given .entry)) ⌝ }
+{
+    let s = band::survey(upper, total);
+    if 0 < s.number {
+        return nothing(s.number, s.detail);
+    }
+    let size = s.size;
+    let last = band::Row {
+        start: size - 1,
+        left: s.all,
+        all: s.all,
+        low: total as usize,
+        high: total as usize,
+    };
+    if size <= 64 {
+        let mut cells = [0u64; 64];
+        return find_in(upper, total, last, &mut cells[..size], task, given);
+    }
+    if size <= 256 {
+        let mut cells = [0u64; 256];
+        return find_in(upper, total, last, &mut cells[..size], task, given);
+    }
+    if size <= 1024 {
+        let mut cells = [0u64; 1024];
+        return find_in(upper, total, last, &mut cells[..size], task, given);
+    }
+    if size <= 2048 {
+        let mut cells = [0u64; 2048];
+        return find_in(upper, total, last, &mut cells[..size], task, given);
+    }
+    let mut cells = [0u64; 6145];
+    find_in(upper, total, last, &mut cells[..size], task, given)
+}
