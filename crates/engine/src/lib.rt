@@ -6,14 +6,51 @@ ghost use mathlib.Core.List.{List};
 ghost use Prim.Native.Nat.{ℕ};
 ghost use Rattle.bounds.specs.Edition.{checkOf};
 ghost use Rattle.bounds.specs.declared.Refusal.{Refusal};
+ghost use Rattle.rank.specs.Rank.{rankAnswer};
+ghost use Rattle.rank.specs.Unrank.{unrankCall};
 ghost use Rattle.permutation.specs.Reading.{byInversions};
 ghost use Rattle.permutation.specs.Conversions.{toPermutation, toComposition};
+ghost use Rattle.engine.specs.Ranks.{rankedOf};
+
+// A serial, or a refusal's number and detail with serial 0.
+#[repr(C)]
+pub struct Ranked {
+    pub number: u32,
+    pub detail: u64,
+    pub serial: u64,
+}
 
 #[no_mangle]
 pub extern "C" fn huz_check(upper: &[u8], total: u32) -> Checked
     ensures { λ r. ⌜ r ≡ checkOf (now (upper .entry)) total ⌝ }
 {
     bounds::check(upper, total)
+}
+
+#[no_mangle]
+pub extern "C" fn huz_rank(upper: &[u8], total: u32, composition: &[u8]) -> Ranked
+    ensures { λ r. ⌜ r ≡ rankedOf (rankAnswer (now (upper .entry)) total (now (composition .entry))) ⌝ }
+{
+    let answer = rank::rank(upper, total, composition);
+    match answer {
+        rank::Ranked::Serial(serial) => Ranked {
+            number: 0,
+            detail: 0,
+            serial,
+        },
+        rank::Ranked::Refused(number, detail) => Ranked {
+            number,
+            detail,
+            serial: 0,
+        },
+    }
+}
+
+#[no_mangle]
+pub extern "C" fn huz_unrank(upper: &[u8], total: u32, serial: u64, out: &mut [u8]) -> Refusal
+    ensures { λ r. ⌜ _≡_ {A = Refusal × List ℕ} (r, now (out .exit)) (unrankCall (now (upper .entry)) total serial (now (out .entry))) ⌝ }
+{
+    rank::unrank(upper, total, serial, out)
 }
 
 #[no_mangle]
