@@ -9,7 +9,7 @@ use Rattle.bounds.specs.declared.Refusal.{Refusal}
 use Rattle.bounds.specs.Refusal.{firstRefusal}
 use Rattle.bounds.specs.Edition.{editionChecks}
 use Rattle.bounds.proofs.Editions.{shapely}
-use Rattle.bounds.proofs.Answers.{counted-refused, counted-accepted, table-edition}
+use Rattle.bounds.proofs.Answers.{counted-number, numbered-refused, numbered-accepted}
 use Rattle.rank.specs.Walk.{Filled}
 use Rattle.rank.specs.Find.{foundOf}
 use Rattle.rank.specs.declared.walk.find.Task.{Task}
@@ -25,11 +25,12 @@ returns c =
     let s = c .before .before .before .before .before .before .before .before .before .before in
     let ms = now (s .args .upper) in
     let f = c .before .before .before .before .before .fill in
-    let room = table-edition ms (s .args .total) (length (now (s .args .cells))) (s .pre .1) in
+    let r = s .args .total in
+    let counted = f .ensures .0 ∙ counted-number ms r (length (now (s .args .cells))) (s .pre .1) in
     let l = c .before .if1 .taken in
     c .nothing .ensures
     ∙ found-edition ms (s .args .total) (s .args .task) _ (f .result .number) (f .result .detail)
-    (sym room ∙ counted-refused ms (s .args .total) (length (now (s .args .cells))) (f .result) (f .ensures .0) l) l
+    (numbered-refused ms r (f .result) counted l) l
 
 -- what both directions ask for
 accepted-at : (c : tie.Else1)
@@ -44,9 +45,9 @@ accepted-at c =
     let size = length (now (s .args .cells)) in
     let f = c .before .before .before .before .fill in
     let z = none (c .if1 .left) in
-    let k = counted-accepted ms r size (f .result) (f .ensures .0) z in
+    let k = numbered-accepted ms r (f .result) (f .ensures .0 ∙ counted-number ms r size (s .pre .1)) z in
     let shape = shapely ms r (s .pre .0) in (
-      ap (λ (v : Refusal). v .number) (sym (table-edition ms r size (s .pre .1))) ∙ k .0,
+      k .0,
       record { few = shape .few; small = shape .small; reached = shape .reached; row = s .pre .2; table = f .ensures .1 z },
       k .1,
     )
