@@ -1,6 +1,7 @@
 // The C interface (include/huztiral.h): the library's functions under names for C, each with its own contract.
 use bounds::Checked;
 use bounds::Refusal;
+use step::Stepped;
 ghost use mathlib.Core.Path.{_≡_};
 ghost use mathlib.Core.List.{List};
 ghost use Prim.Native.Nat.{ℕ};
@@ -8,6 +9,8 @@ ghost use Rattle.bounds.specs.Edition.{checkOf};
 ghost use Rattle.bounds.specs.declared.Refusal.{Refusal};
 ghost use Rattle.rank.specs.Rank.{rankAnswer};
 ghost use Rattle.rank.specs.Unrank.{unrankCall};
+ghost use Rattle.step.specs.Steps.{successorOf, predecessorOf};
+ghost use Rattle.step.specs.Batch.{batchOf};
 ghost use Rattle.permutation.specs.Reading.{byInversions};
 ghost use Rattle.permutation.specs.Conversions.{toPermutation, toComposition};
 ghost use Rattle.engine.specs.Ranks.{rankedOf};
@@ -51,6 +54,27 @@ pub extern "C" fn huz_unrank(upper: &[u8], total: u32, serial: u64, out: &mut [u
     ensures { λ r. ⌜ _≡_ {A = Refusal × List ℕ} (r, now (out .exit)) (unrankCall (now (upper .entry)) total serial (now (out .entry))) ⌝ }
 {
     rank::unrank(upper, total, serial, out)
+}
+
+#[no_mangle]
+pub extern "C" fn huz_successor(upper: &[u8], total: u32, composition: &[u8]) -> Stepped
+    ensures { λ r. ⌜ r ≡ successorOf (now (upper .entry)) total (now (composition .entry)) ⌝ }
+{
+    step::successor(upper, total, composition)
+}
+
+#[no_mangle]
+pub extern "C" fn huz_predecessor(upper: &[u8], total: u32, composition: &[u8]) -> Stepped
+    ensures { λ r. ⌜ r ≡ predecessorOf (now (upper .entry)) total (now (composition .entry)) ⌝ }
+{
+    step::predecessor(upper, total, composition)
+}
+
+#[no_mangle]
+pub extern "C" fn huz_batch(upper: &[u8], total: u32, serial: u64, copies: u64, out: &mut [u8]) -> Refusal
+    ensures { λ r. ⌜ _≡_ {A = Refusal × List ℕ} (r, now (out .exit)) (batchOf (now (upper .entry)) total serial copies (now (out .entry))) ⌝ }
+{
+    step::batch::batch(upper, total, serial, copies, out)
 }
 
 #[no_mangle]
