@@ -11,15 +11,15 @@ use std::hint::black_box;
 use std::process::{Command, Stdio};
 use std::time::{Duration, Instant};
 
-const RUNS: usize = 15;
+const RUNS: usize = 40;
 const INPUTS: u64 = 64;
 
-/// Nanoseconds a call by a clock: the least of several runs of a few milliseconds each, the two taking turns.
+/// Nanoseconds a call by a clock: the least of many runs of a millisecond or more, the two taking turns.
 fn beside_by(clock: fn() -> Duration, mut ours: impl FnMut(usize), mut theirs: impl FnMut(usize)) -> (f64, f64) {
     let calls = |f: &mut dyn FnMut(usize)| {
         let start = Instant::now();
         let mut calls = 0usize;
-        while start.elapsed() < Duration::from_millis(3) {
+        while start.elapsed() < Duration::from_millis(1) {
             f(calls);
             calls += 1;
         }
