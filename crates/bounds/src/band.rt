@@ -9,7 +9,7 @@ ghost use Rattle.walsh.specs.Order.{count};
 ghost use Rattle.bounds.specs.Edition.{whole, shapeChecks};
 ghost use Rattle.bounds.specs.Refusal.{firstRefusal};
 ghost use Rattle.bounds.specs.Band.{lowest, highest, InBand, bandSize, cap, Row-holds, Rows-hold, Band, IsRow, surveyOf, limited, numberOf, countedOf};
-ghost use Rattle.bounds.specs.Window.{Slid};
+ghost use Rattle.bounds.specs.Window.{Filling, Slid, Filled, Stretch};
 
 const MOST: u64 = 9_223_372_036_854_775_807;
 
@@ -106,7 +106,7 @@ fn cell(upper: &[u8], total: usize, k: usize, row: Row, cells: &[u64], t: usize)
 
 // The window before the first sum of the row after, or a number over 2^63 - 1.
 fn head(upper: &[u8], total: usize, k: usize, row: Row, next: Row, cells: &[u64]) -> u64
-    requires { ⌜ (k < length (now upper)) × (k < 24) × (total ≤ 255) × (total ≤ whole (now upper)) × IsRow (now upper) total k row × IsRow (now upper) total (k + 1) next × (bandSize (now upper) total ≤ length (now cells)) × Row-holds (now upper) total (now cells) k 256 ⌝ }
+    requires { ⌜ Filling (now upper) total k row next (length (now cells)) × Row-holds (now upper) total (now cells) k 256 ⌝ }
     ensures { λ r. ⌜ (r < cap → Slid (now (upper .entry)) total k (next .low) r) × (cap ≤ r → cap ≤ count (now (upper .entry)) (length (now (upper .entry))) total) ⌝ }
 {
     let end = walsh::lesser(next.low, row.high + 1);
@@ -129,13 +129,14 @@ fn step(
     k: usize,
     m: usize,
     row: Row,
+    next: Row,
     cells: &[u64],
     t: usize,
     w: u64,
     enters: bool,
     leaves: bool,
 ) -> u64
-    requires { ⌜ (k < length (now upper)) × (k < 24) × (total ≤ 255) × (m ≡ getD (now upper) k 0) × (lowest (now upper) total k ≤ t) × (t ≤ highest (now upper) total (k + 1)) × (w < cap) × IsRow (now upper) total k row × Slid (now upper) total k t w × (bandSize (now upper) total ≤ length (now cells)) × Row-holds (now upper) total (now cells) k 256 × (enters ≡ true → t ≤ row .high) × (enters ≡ false → row .high < t) × (leaves ≡ true → row .low + m < t) × (leaves ≡ false → t ≤ row .low + m) ⌝ }
+    requires { ⌜ Filling (now upper) total k row next (length (now cells)) × (m ≡ getD (now upper) k 0) × (next .low ≤ t) × (t ≤ next .high) × Filled (now upper) total k t w (now cells) × Stretch row m t (t + 1) enters leaves ⌝ }
     ensures { λ r. ⌜ Slid (now (upper .entry)) total k (t + 1) r ⌝ }
 {
     if enters {
@@ -166,13 +167,13 @@ fn fill_part(
     enters: bool,
     leaves: bool,
 ) -> u64
-    requires { ⌜ (k < length (now upper)) × (k < 24) × (total ≤ 255) × (total ≤ whole (now upper)) × (m ≡ getD (now upper) k 0) × IsRow (now upper) total k row × IsRow (now upper) total (k + 1) next × (bandSize (now upper) total ≤ length (now cells)) × (next .low ≤ from) × (from ≤ end) × (end ≤ next .high + 1) × (w0 < cap) × Rows-hold (now upper) total (now cells) k × Row-holds (now upper) total (now cells) (k + 1) from × Slid (now upper) total k from w0 × (from < end → enters ≡ true → end ≤ row .high + 1) × (from < end → enters ≡ false → row .high < from) × (from < end → leaves ≡ true → row .low + m < from) × (from < end → leaves ≡ false → end ≤ row .low + m + 1) ⌝ }
-    ensures { λ r. ⌜ (r < cap → Rows-hold (now (upper .entry)) total (now (cells .exit)) k × Row-holds (now (upper .entry)) total (now (cells .exit)) (k + 1) end × Slid (now (upper .entry)) total k end r) × (cap ≤ r → cap ≤ count (now (upper .entry)) (length (now (upper .entry))) total) ⌝ }
+    requires { ⌜ Filling (now upper) total k row next (length (now cells)) × (m ≡ getD (now upper) k 0) × (next .low ≤ from) × (from ≤ end) × (end ≤ next .high + 1) × Filled (now upper) total k from w0 (now cells) × Stretch row m from end enters leaves ⌝ }
+    ensures { λ r. ⌜ (r < cap → Filled (now (upper .entry)) total k end r (now (cells .exit))) × (cap ≤ r → cap ≤ count (now (upper .entry)) (length (now (upper .entry))) total) ⌝ }
 {
     let mut w = w0;
     let mut t = from;
     while t < end {
-        w = step(upper, total, k, m, row, cells, t, w, enters, leaves);
+        w = step(upper, total, k, m, row, next, cells, t, w, enters, leaves);
         if MOST < w {
             return w;
         }
@@ -198,7 +199,7 @@ fn between(low: usize, x: usize, high: usize) -> usize
 
 // Fills row `k + 1` from row `k`, or stops at a number over 2^63 - 1 and answers false.
 fn fill_row(upper: &[u8], total: usize, k: usize, row: Row, next: Row, cells: &mut [u64]) -> bool
-    requires { ⌜ (k < length (now upper)) × (k < 24) × (total ≤ 255) × (total ≤ whole (now upper)) × IsRow (now upper) total k row × IsRow (now upper) total (k + 1) next × (bandSize (now upper) total ≤ length (now cells)) × Rows-hold (now upper) total (now cells) k ⌝ }
+    requires { ⌜ Filling (now upper) total k row next (length (now cells)) × Rows-hold (now upper) total (now cells) k ⌝ }
     ensures { λ r. ⌜ (r ≡ true → Rows-hold (now (upper .entry)) total (now (cells .exit)) (k + 1)) × (r ≡ false → cap ≤ count (now (upper .entry)) (length (now (upper .entry))) total) ⌝ }
 {
     let w0 = head(upper, total, k, row, next, cells);

@@ -62,24 +62,24 @@ lt-le p q = omega arith
 same : (r x y : ℕ) → x ≡ y → r ≤ x + 1 → r ≤ y + 1
 same r x y e l = omega arith
 
-head-requires : tie.Need-head-requires
-head-requires c κs = let p = c .before .before .before .pre in (p .0, p .1, p .2, p .3, p .4, p .5, p .6, p .7 _ (le-refl _))
-
 add-full : tie.Need-add-full
 add-full c =
     let s = c .before .before .before .before .before .before .before in
-    fits-full _ _ _ (low-le (now (s .args .upper)) (s .args .total) (s .args .k) (s .args .row) (s .pre .4)) (s .pre .2) (c .before .bound .ensures .1)
+    let f = s .pre .0 in
+    fits-full _ _ _ (low-le (now (s .args .upper)) (s .args .total) (s .args .k) (s .args .row) (f .from)) (f .small) (c .before .bound .ensures .1)
 
 add-between : tie.Need-add-between
 add-between c =
     let s = c .before .before .before .before .before .before .before .before .before .before .before .before .before .before .before .before .before in
-    fits-both _ _ _ _ _ (s .pre .4 .high) (s .pre .2) (low-le (now (s .args .upper)) (s .args .total) (s .args .k) (s .args .row) (s .pre .4)) (c .before .before .before .before .before .before .before .before .before .before .before .bound .ensures .1)
+    let f = s .pre .0 in
+    fits-both _ _ _ _ _ (f .from .high) (f .small) (low-le (now (s .args .upper)) (s .args .total) (s .args .k) (s .args .row) (f .from)) (c .before .before .before .before .before .before .before .before .before .before .before .bound .ensures .1)
 
 between-requires : tie.Need-between-requires
 between-requires c κs =
     let s = c .before .before .before .before .before .before .before .before .before in
-    let h = low-high (now (s .args .upper)) (s .args .total) (s .args .k) (s .pre .3) (s .pre .0) in
-    omega (arith, s .pre .5 .low, s .pre .5 .high, h .0)
+    let f = s .pre .0 in
+    let h = low-high (now (s .args .upper)) (s .args .total) (s .args .k) (f .reached) (f .part) in
+    omega (arith, f .to .low, f .to .high, h .0)
 
 fill-part-requires : tie.Need-fill-part-requires
 fill-part-requires c κs =
@@ -90,87 +90,60 @@ fill-part-requires c κs =
     let w0 = lt-of (c .before .before .before .before .before .before .if1 .left) in
     let e = c .before .before .lesser .ensures in (
       p .0,
-      p .1,
-      p .2,
-      p .3,
       c .before .before .before .before .before .bound .ensures .0,
-      p .4,
-      p .5,
-      p .6,
       le-refl _,
       b1 .0,
       b1 .1,
-      w0,
-      p .7,
-      row-none (now (a .upper)) (a .total) (a .k + 1) (now (a .cells)) (a .next) (p .5),
-      c .before .before .before .before .before .before .before .head .ensures .0 w0,
-      λ go q. growing _ _ _ e _ (b1 .2 go) .0,
-      λ go q. no q,
-      λ go q. no′ q,
-      λ go q. growing _ _ _ e _ (b1 .2 go) .1,
+      record { rows = p .1; row = row-none (now (a .upper)) (a .total) (a .k + 1) (now (a .cells)) (a .next) (p .0 .to); window = c .before .before .before .before .before .before .before .head .ensures .0 w0; small = w0 },
+      record {
+        entering = λ go q. growing _ _ _ e _ (b1 .2 go) .0;
+        passed = λ go q. no q;
+        leaving = λ go q. no′ q;
+        staying = λ go q. growing _ _ _ e _ (b1 .2 go) .1;
+      },
     )
 
 fill-part-requires-2 : tie.Need-fill-part-requires-2
 fill-part-requires-2 c κs =
-    let s = c .before .before .before .before .before .before .before .before .before .before .before .before .before .before .before .before .before .before .before in
-    let p = s .pre in
+    let p = c .before .before .before .before .before .before .before .before .before .before .before .before .before .before .before .before .before .before .before .pre in
     let b1 = c .before .before .before .before .before .before .before .before .before .between .ensures in
     let b2 = c .before .between2 .ensures in
     let f = c .before .before .before .before .before .before .before .fill-part in
-    let w1 = lt-of (c .before .before .before .before .if2 .left) in
-    let st = f .ensures .0 w1 in
     let e = c .before .before .before .before .before .before .before .before .before .before .lesser .ensures in (
-      p .0,
-      p .1,
-      p .2,
-      p .3,
+      rw (f .kept .1 .1 .1 .1 .1 .1 .0) (p .0),
       c .before .before .before .before .before .before .before .before .before .before .before .before .before .bound .ensures .0,
-      p .4,
-      p .5,
-      rw (f .kept .1 .1 .1 .1 .1 .1 .0) (p .6),
       b1 .0,
       b2 .0,
       b2 .1,
-      w1,
-      st .0,
-      st .1,
-      st .2,
-      λ go q. same _ _ _ (sliding _ _ _ e _ (b1 .3 (lt-le go (b2 .1))) (ltb-true _ _ q) .1) (b2 .2 go),
-      λ go q. staying _ _ _ e _ (b1 .3 (lt-le go (b2 .1))) (ltb-false _ _ q) .0,
-      λ go q. sliding _ _ _ e _ (b1 .3 (lt-le go (b2 .1))) (ltb-true _ _ q) .0,
-      λ go q. same _ _ _ (staying _ _ _ e _ (b1 .3 (lt-le go (b2 .1))) (ltb-false _ _ q) .1) (b2 .2 go),
+      f .ensures .0 (lt-of (c .before .before .before .before .if2 .left)),
+      record {
+        entering = λ go q. same _ _ _ (sliding _ _ _ e _ (b1 .3 (lt-le go (b2 .1))) (ltb-true _ _ q) .1) (b2 .2 go);
+        passed = λ go q. staying _ _ _ e _ (b1 .3 (lt-le go (b2 .1))) (ltb-false _ _ q) .0;
+        leaving = λ go q. sliding _ _ _ e _ (b1 .3 (lt-le go (b2 .1))) (ltb-true _ _ q) .0;
+        staying = λ go q. same _ _ _ (staying _ _ _ e _ (b1 .3 (lt-le go (b2 .1))) (ltb-false _ _ q) .1) (b2 .2 go);
+      },
     )
 
 fill-part-requires-3 : tie.Need-fill-part-requires-3
 fill-part-requires-3 c κs =
-    let s = c .before .before .before .before .before .before .before .before .before .before .before .before .before .before .before .before .before .before .before .before .before .before .before .before in
-    let p = s .pre in
+    let p = c .before .before .before .before .before .before .before .before .before .before .before .before .before .before .before .before .before .before .before .before .before .before .before .before .pre in
     let b1 = c .before .before .before .before .before .before .before .before .before .before .before .before .before .before .between .ensures in
     let b2 = c .before .before .before .before .before .before .between2 .ensures in
     let f = c .before .before .before .before .before .before .before .before .before .before .before .before .fill-part in
     let g = c .before .before .before .before .fill-part2 in
-    let w2 = lt-of (c .before .if3 .left) in
-    let st = g .ensures .0 w2 in
     let e = c .before .before .before .before .before .before .before .before .before .before .before .before .before .before .before .lesser .ensures in (
-      p .0,
-      p .1,
-      p .2,
-      p .3,
+      rw (g .kept .1 .1 .1 .1 .1 .1 .0 ∙ f .kept .1 .1 .1 .1 .1 .1 .0) (p .0),
       c .before .before .before .before .before .before .before .before .before .before .before .before .before .before .before .before .before .before .bound .ensures .0,
-      p .4,
-      p .5,
-      rw (g .kept .1 .1 .1 .1 .1 .1 .0 ∙ f .kept .1 .1 .1 .1 .1 .1 .0) (p .6),
       le-trans (b1 .0) (b2 .0),
       b2 .1,
       le-refl _,
-      w2,
-      st .0,
-      st .1,
-      st .2,
-      λ go q. no′ q,
-      λ go q. shrinking _ _ _ e _ (b2 .3 go) .0,
-      λ go q. shrinking _ _ _ e _ (b2 .3 go) .1,
-      λ go q. no q,
+      g .ensures .0 (lt-of (c .before .if3 .left)),
+      record {
+        entering = λ go q. no′ q;
+        passed = λ go q. shrinking _ _ _ e _ (b2 .3 go) .0;
+        leaving = λ go q. shrinking _ _ _ e _ (b2 .3 go) .1;
+        staying = λ go q. no q;
+      },
     )
 
 returns-4 : tie.Need-returns-4
@@ -179,7 +152,7 @@ returns-4 c =
     let a = s .args in
     let g = c .before .before .fill-part3 in (
       λ h. let st = g .ensures .0 (lt-of (leb-true _ _ h)) in
-          row-filled (now (a .upper)) (a .total) (a .k) (a .next .high + 1) (g .last .1 .1 .1 .1 .1 .1 .0) (st .0) (st .1) (past (s .pre .5 .high)),
+          row-filled (now (a .upper)) (a .total) (a .k) (a .next .high + 1) (g .last .1 .1 .1 .1 .1 .1 .0) (st .rows) (st .row) (past (s .pre .0 .to .high)),
       λ h. g .ensures .1 (leb-false _ _ h),
     )
 
@@ -187,12 +160,12 @@ pub fill-row-spec : {M : Type 1} → statement M
 fill-row-spec =
     tie.close
     (tie.spec
-    head-requires
+    (λ c κs. let p = c .before .before .before .pre in (p .0, p .1 _ (le-refl _)))
     (λ c. search needs)
     (λ c. (no′, λ h. c .before .head .ensures .1 (c .if1 .taken)))
     (λ c κs. search needs)
     add-full
-    (λ c. let s = c .before .before .before .before .before .before .before .before in fits-end _ _ _ (s .pre .5 .high) (s .pre .2))
+    (λ c. let s = c .before .before .before .before .before .before .before .before in fits-end _ _ _ (s .pre .0 .to .high) (s .pre .0 .small))
     (λ c κs. search needs)
     between-requires
     fill-part-requires

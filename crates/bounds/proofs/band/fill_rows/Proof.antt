@@ -64,8 +64,18 @@ up-requires c κs =
 fill-row-requires : tie.Need-fill-row-requires Inv-loop μ-loop
 fill-row-requires c κs =
     let p = c .before .before .before .before .before .before .before .pre in
-    let l = c .before .before .before .loop in
-    (omega arith, omega arith, p .1, p .2, l .inv .2, c .before .up .ensures, room-at (c .before .before .before), l .inv .3)
+    let l = c .before .before .before .loop in (
+      record {
+        part = omega arith;
+        few = omega arith;
+        small = p .1;
+        reached = p .2;
+        from = l .inv .2;
+        to = c .before .up .ensures;
+        room = room-at (c .before .before .before);
+      },
+      l .inv .3,
+    )
 
 returns : tie.Need-returns Inv-loop μ-loop
 returns c =

@@ -43,10 +43,10 @@ enters-at : (c : tie.In-loop Inv-loop μ-loop)
 enters-at c =
     let s = c .before .before .before .before .before .before in
     let a = s .args in
-    let p = s .pre in
+    let p = s .pre .0 in
     let l = c .before .loop in
-    enters _ _ _ _ _ _ _ _ _ _ (p .4 .low) (p .4 .high) (p .5 .low) (c .before .before .lesser .ensures) (low-next (now (a .upper)) (a .total) (a .k) (p .0))
-    (low-high (now (a .upper)) (a .total) (a .k) (p .3) (p .0) .0) (l .inv .0) (c .loop-test .taken)
+    enters _ _ _ _ _ _ _ _ _ _ (p .from .low) (p .from .high) (p .to .low) (c .before .before .lesser .ensures) (low-next (now (a .upper)) (a .total) (a .k) (p .part))
+    (low-high (now (a .upper)) (a .total) (a .k) (p .reached) (p .part) .0) (l .inv .0) (c .loop-test .taken)
 
 first : (rl rh nl lo hi lo′ end : ℕ) → rl ≡ lo → rh ≡ hi → nl ≡ lo′ → lo ≤ hi → lo ≤ lo′ → end ≡ min nl (rh + 1) → rl ≤ end
 first rl rh nl lo hi lo′ end e1 e2 e3 a b e = omega arith
@@ -58,21 +58,21 @@ loop-holds : tie.Need-loop-holds Inv-loop μ-loop
 loop-holds c =
     let s = c .before .before .before .before in
     let a = s .args in
-    let p = s .pre in
+    let p = s .pre .0 in
     let ms = now (a .upper) in
-    let ends = row-ends ms (a .total) (a .k) (p .3) (p .0) (a .row) (p .4) in
-    let rises = low-high ms (a .total) (a .k) (p .3) (p .0) .1 in (
+    let ends = row-ends ms (a .total) (a .k) (p .reached) (p .part) (a .row) (p .from) in
+    let rises = low-high ms (a .total) (a .k) (p .reached) (p .part) .1 in (
       le-refl _,
-      first _ _ _ _ _ _ _ refl refl (p .5 .low) (ends .0) (rw (← (p .4 .low)) at rises) (c .lesser .ensures),
+      first _ _ _ _ _ _ _ refl refl (p .to .low) (ends .0) (rw (← (p .from .low)) at rises) (c .lesser .ensures),
       omega arith,
-      slid-at ms (a .total) (a .k) (a .row) (p .4),
+      slid-at ms (a .total) (a .k) (a .row) (p .from),
     )
 
 cell-requires : tie.Need-cell-requires Inv-loop μ-loop
 cell-requires c κs =
-    let p = c .before .before .before .before .before .before .pre in
+    let p = c .before .before .before .before .before .before .pre .0 in
     let e = enters-at c in
-    (le-of-lt (p .0), le-of-lt (p .1), p .2, p .4, band-ends _ _ _ _ (e .low) (e .high), p .6, p .7)
+    (le-of-lt (p .part), le-of-lt (p .few), p .small, p .from, band-ends _ _ _ _ (e .low) (e .high), p .room, c .before .before .before .before .before .before .pre .1)
 
 slid-next : (c : tie.After-cell Inv-loop μ-loop)
     → let a = c .before .before .before .before .before .before .before .args in
@@ -88,7 +88,7 @@ returns c =
     let s = c .before .before .before .before .before .before .before .before in
     let a = s .args in
     let l = c .before .before .before .loop in
-    let most = slid-most (now (a .upper)) (a .total) (a .k) (l .t) _ (s .pre .0) (s .pre .3) (slid-next (c .before)) (enters-at (c .before .before) .next) in
+    let most = slid-most (now (a .upper)) (a .total) (a .k) (l .t) _ (s .pre .0 .part) (s .pre .0 .reached) (slid-next (c .before)) (enters-at (c .before .before) .next) in
     (λ h. absurd (omega (arith, h, c .if1 .taken)), λ h. le-trans (c .if1 .taken) most)
 
 suc-le : {t e : ℕ} → t < e → t + 1 ≤ e
@@ -127,9 +127,9 @@ returns-2 : tie.Need-returns-2 Inv-loop μ-loop
 returns-2 c =
     let s = c .before .before .before .before .before .before in
     let a = s .args in
-    let p = s .pre in
+    let p = s .pre .0 in
     let l = c .before .loop in (
-      λ h. ends (now (a .upper)) (a .total) (a .k) (l .t) (l .w) (a .row) (a .next) (p .4) (p .5) (p .0) (l .inv .3) (le-antisymm (l .inv .1) (c .loop-test .left) ∙ c .before .before .lesser .ensures),
+      λ h. ends (now (a .upper)) (a .total) (a .k) (l .t) (l .w) (a .row) (a .next) (p .from) (p .to) (p .part) (l .inv .3) (le-antisymm (l .inv .1) (c .loop-test .left) ∙ c .before .before .lesser .ensures),
       λ h. absurd (omega (arith, h, l .inv .2)),
     )
 
@@ -139,7 +139,7 @@ head-spec =
     (tie.spec
     Inv-loop
     μ-loop
-    (λ c. let s = c .before .before .before in small _ _ _ (s .pre .4 .high) (s .pre .2))
+    (λ c. let s = c .before .before .before in small _ _ _ (s .pre .0 .from .high) (s .pre .0 .small))
     (λ c κs. search needs)
     loop-holds
     cell-requires
