@@ -1,0 +1,58 @@
+//! The engine's C interface (include/huztiral.h) as Rust functions on slices. The peer's structures have the same layouts.
+use crate::peer::{Checked, Claimed, Done, Ledger, Opened, Ranked, Stepped};
+
+mod c {
+    use super::*;
+    unsafe extern "C" {
+        pub fn huz_check(upper: *const u8, parts: usize, total: u32) -> Checked;
+        pub fn huz_rank(upper: *const u8, parts: usize, total: u32, composition: *const u8, len: usize) -> Ranked;
+        pub fn huz_unrank(upper: *const u8, parts: usize, total: u32, serial: u64, out: *mut u8, len: usize) -> Done;
+        pub fn huz_successor(upper: *const u8, parts: usize, total: u32, composition: *const u8, len: usize) -> Stepped;
+        pub fn huz_predecessor(upper: *const u8, parts: usize, total: u32, composition: *const u8, len: usize) -> Stepped;
+        pub fn huz_batch(upper: *const u8, parts: usize, total: u32, serial: u64, copies: u64, out: *mut u8, len: usize) -> Done;
+        pub fn huz_permutation(upper: *const u8, parts: usize, total: u32, composition: *const u8, len: usize, out: *mut u8, out_len: usize) -> Done;
+        pub fn huz_inversions(upper: *const u8, parts: usize, total: u32, permutation: *const u8, len: usize, out: *mut u8, out_len: usize) -> Done;
+        pub fn huz_open(upper: *const u8, parts: usize, total: u32, orders: *const u32, len: usize) -> Opened;
+        pub fn huz_claim(ledger: Ledger, orders: *mut u32, len: usize, serial: u64, order: u32) -> Claimed;
+    }
+}
+
+pub fn check(upper: &[u8], total: u32) -> Checked {
+    unsafe { c::huz_check(upper.as_ptr(), upper.len(), total) }
+}
+
+pub fn rank(upper: &[u8], total: u32, g: &[u8]) -> Ranked {
+    unsafe { c::huz_rank(upper.as_ptr(), upper.len(), total, g.as_ptr(), g.len()) }
+}
+
+pub fn unrank(upper: &[u8], total: u32, serial: u64, out: &mut [u8]) -> Done {
+    unsafe { c::huz_unrank(upper.as_ptr(), upper.len(), total, serial, out.as_mut_ptr(), out.len()) }
+}
+
+pub fn successor(upper: &[u8], total: u32, g: &[u8]) -> Stepped {
+    unsafe { c::huz_successor(upper.as_ptr(), upper.len(), total, g.as_ptr(), g.len()) }
+}
+
+pub fn predecessor(upper: &[u8], total: u32, g: &[u8]) -> Stepped {
+    unsafe { c::huz_predecessor(upper.as_ptr(), upper.len(), total, g.as_ptr(), g.len()) }
+}
+
+pub fn batch(upper: &[u8], total: u32, serial: u64, copies: u64, out: &mut [u8]) -> Done {
+    unsafe { c::huz_batch(upper.as_ptr(), upper.len(), total, serial, copies, out.as_mut_ptr(), out.len()) }
+}
+
+pub fn permutation(upper: &[u8], total: u32, g: &[u8], out: &mut [u8]) -> Done {
+    unsafe { c::huz_permutation(upper.as_ptr(), upper.len(), total, g.as_ptr(), g.len(), out.as_mut_ptr(), out.len()) }
+}
+
+pub fn inversions(upper: &[u8], total: u32, p: &[u8], out: &mut [u8]) -> Done {
+    unsafe { c::huz_inversions(upper.as_ptr(), upper.len(), total, p.as_ptr(), p.len(), out.as_mut_ptr(), out.len()) }
+}
+
+pub fn open(upper: &[u8], total: u32, orders: &[u32]) -> Opened {
+    unsafe { c::huz_open(upper.as_ptr(), upper.len(), total, orders.as_ptr(), orders.len()) }
+}
+
+pub fn claim(ledger: Ledger, orders: &mut [u32], serial: u64, order: u32) -> Claimed {
+    unsafe { c::huz_claim(ledger, orders.as_mut_ptr(), orders.len(), serial, order) }
+}

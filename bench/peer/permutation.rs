@@ -1,0 +1,67 @@
+//! Permutations and their inversion vectors.
+use super::count::{edition, is_staircase};
+use super::order::given;
+use super::types::*;
+
+fn stairs(upper: &[u8], total: u32) -> Result<(), Refusal> {
+    edition(upper, total)?;
+    if is_staircase(upper) { Ok(()) } else { Err((10, 0)) }
+}
+
+/// The set of sheets that are left, as bits: the sheet with v smaller ones left is the one at the v-th bit.
+fn permutation_in(upper: &[u8], total: u32, g: &[u8], out: &mut [u8]) -> Result<(), Refusal> {
+    stairs(upper, total)?;
+    given(upper, total, g)?;
+    let k = upper.len() + 1;
+    if out.len() != k {
+        return Err((13, 0));
+    }
+    let mut left = [0u8; 25];
+    for (i, cell) in left.iter_mut().enumerate() {
+        *cell = i as u8 + 1;
+    }
+    for (i, &v) in g.iter().enumerate() {
+        let v = v as usize;
+        out[i] = left[v];
+        left.copy_within(v + 1..k - i, v);
+    }
+    out[k - 1] = left[0];
+    Ok(())
+}
+
+pub fn permutation(upper: &[u8], total: u32, g: &[u8], out: &mut [u8]) -> Done {
+    done(permutation_in(upper, total, g, out))
+}
+
+fn inversions_in(upper: &[u8], total: u32, p: &[u8], out: &mut [u8]) -> Result<(), Refusal> {
+    stairs(upper, total)?;
+    let n = upper.len();
+    if p.len() != n + 1 {
+        return Err((11, 0));
+    }
+    // a bit for each sheet that is left; those below a sheet's bit are the smaller ones behind it
+    let mut left: u32 = ((1u64 << (n + 2)) - 2) as u32;
+    let mut vector = [0u8; 25];
+    let mut sum = 0;
+    for (cell, &v) in vector.iter_mut().zip(p) {
+        if v > 25 || left >> v & 1 == 0 {
+            return Err((11, 0));
+        }
+        let smaller = (left & ((1 << v) - 1)).count_ones();
+        left &= !(1 << v);
+        *cell = smaller as u8;
+        sum += smaller;
+    }
+    if sum != total {
+        return Err((12, 0));
+    }
+    if out.len() != n {
+        return Err((13, 0));
+    }
+    out.copy_from_slice(&vector[..n]);
+    Ok(())
+}
+
+pub fn inversions(upper: &[u8], total: u32, p: &[u8], out: &mut [u8]) -> Done {
+    done(inversions_in(upper, total, p, out))
+}

@@ -1,0 +1,151 @@
+// The C interface (include/huztiral.h): the library's functions under names for C, each with its own contract.
+use bounds::Checked;
+use bounds::Refusal;
+use model::Answer;
+use model::Claimed;
+use model::Ledger;
+use model::Opened;
+use step::Stepped;
+ghost use mathlib.Core.Path.{_≡_};
+ghost use mathlib.Core.List.{List};
+ghost use Prim.Native.Nat.{ℕ};
+ghost use lib.ListN.{length};
+ghost use Rattle.bounds.specs.Edition.{checkOf};
+ghost use Rattle.bounds.specs.declared.Refusal.{Refusal};
+ghost use Rattle.rank.specs.Rank.{rankAnswer};
+ghost use Rattle.rank.specs.Unrank.{unrankCall};
+ghost use Rattle.step.specs.Steps.{successorOf, predecessorOf};
+ghost use Rattle.step.specs.Batch.{batchOf};
+ghost use Rattle.permutation.specs.Reading.{byInversions};
+ghost use Rattle.permutation.specs.Conversions.{toPermutation, toComposition};
+ghost use Rattle.model.specs.Model.{Call};
+ghost use Rattle.model.specs.Record.{opening, answered, calling, entriesOf};
+ghost use Rattle.engine.specs.Ranks.{rankedOf};
+
+// A serial, or a refusal's number and detail with serial 0.
+#[repr(C)]
+pub struct Ranked {
+    pub number: u32,
+    pub detail: u64,
+    pub serial: u64,
+}
+
+#[no_mangle]
+pub extern "C" fn huz_check(upper: &[u8], total: u32) -> Checked
+    ensures { λ r. ⌜ r ≡ checkOf (now (upper .entry)) total ⌝ }
+{
+    bounds::check(upper, total)
+}
+
+#[no_mangle]
+pub extern "C" fn huz_rank(upper: &[u8], total: u32, composition: &[u8]) -> Ranked
+    ensures { λ r. ⌜ r ≡ rankedOf (rankAnswer (now (upper .entry)) total (now (composition .entry))) ⌝ }
+{
+    let answer = rank::rank(upper, total, composition);
+    match answer {
+        rank::Ranked::Serial(serial) => Ranked {
+            number: 0,
+            detail: 0,
+            serial,
+        },
+        rank::Ranked::Refused(number, detail) => Ranked {
+            number,
+            detail,
+            serial: 0,
+        },
+    }
+}
+
+#[no_mangle]
+pub extern "C" fn huz_unrank(upper: &[u8], total: u32, serial: u64, out: &mut [u8]) -> Refusal
+    ensures { λ r. ⌜ _≡_ {A = Refusal × List ℕ} (r, now (out .exit)) (unrankCall (now (upper .entry)) total serial (now (out .entry))) ⌝ }
+{
+    rank::unrank(upper, total, serial, out)
+}
+
+#[no_mangle]
+pub extern "C" fn huz_successor(upper: &[u8], total: u32, composition: &[u8]) -> Stepped
+    ensures { λ r. ⌜ r ≡ successorOf (now (upper .entry)) total (now (composition .entry)) ⌝ }
+{
+    step::successor(upper, total, composition)
+}
+
+#[no_mangle]
+pub extern "C" fn huz_predecessor(upper: &[u8], total: u32, composition: &[u8]) -> Stepped
+    ensures { λ r. ⌜ r ≡ predecessorOf (now (upper .entry)) total (now (composition .entry)) ⌝ }
+{
+    step::predecessor(upper, total, composition)
+}
+
+#[no_mangle]
+pub extern "C" fn huz_batch(
+    upper: &[u8],
+    total: u32,
+    serial: u64,
+    copies: u64,
+    out: &mut [u8],
+) -> Refusal
+    ensures { λ r. ⌜ _≡_ {A = Refusal × List ℕ} (r, now (out .exit)) (batchOf (now (upper .entry)) total serial copies (now (out .entry))) ⌝ }
+{
+    step::batch::batch(upper, total, serial, copies, out)
+}
+
+#[no_mangle]
+pub extern "C" fn huz_permutation(
+    upper: &[u8],
+    total: u32,
+    composition: &[u8],
+    out: &mut [u8],
+) -> Refusal
+    ensures { λ r. ⌜ _≡_ {A = Refusal × List ℕ} (r, now (out .exit)) (toPermutation byInversions (now (upper .entry)) total (now (composition .entry)) (now (out .entry))) ⌝ }
+{
+    permutation::permutation(upper, total, composition, out)
+}
+
+#[no_mangle]
+pub extern "C" fn huz_inversions(
+    upper: &[u8],
+    total: u32,
+    permutation: &[u8],
+    out: &mut [u8],
+) -> Refusal
+    ensures { λ r. ⌜ _≡_ {A = Refusal × List ℕ} (r, now (out .exit)) (toComposition byInversions (now (upper .entry)) total (now (permutation .entry)) (now (out .entry))) ⌝ }
+{
+    permutation::inversions(upper, total, permutation, out)
+}
+
+#[no_mangle]
+pub extern "C" fn huz_open(upper: &[u8], total: u32, orders: &[u32]) -> Opened
+    ensures { λ r. ⌜ r ≡ opening (now (upper .entry)) total (now (orders .entry)) ⌝ }
+{
+    ledger::open(upper, total, orders)
+}
+
+#[no_mangle]
+pub extern "C" fn huz_peek(ledger: Ledger, orders: &[u32]) -> Answer
+    ensures { λ r. ⌜ r ≡ answered ledger (now (orders .entry)) Call.peek ⌝ }
+{
+    ledger::peek(ledger, orders)
+}
+
+#[no_mangle]
+pub extern "C" fn huz_claim(ledger: Ledger, orders: &mut [u32], serial: u64, order: u32) -> Claimed
+    ensures { λ r. ⌜ (r, now (orders .exit)) ≡ calling ledger (now (orders .entry)) (Call.claim serial order) ⌝ }
+{
+    ledger::claim(ledger, orders, serial, order)
+}
+
+#[no_mangle]
+pub extern "C" fn huz_void(ledger: Ledger, orders: &mut [u32], serial: u64) -> Claimed
+    ensures { λ r. ⌜ (r, now (orders .exit)) ≡ calling ledger (now (orders .entry)) (Call.void serial) ⌝ }
+{
+    ledger::void(ledger, orders, serial)
+}
+
+// How many entries `ledger::entries` hands back: C has the column already.
+#[no_mangle]
+pub extern "C" fn huz_entries(ledger: Ledger, orders: &[u32]) -> u64
+    ensures { λ r. ⌜ r ≡ length (entriesOf ledger (now (orders .entry))) ⌝ }
+{
+    ledger::entries(ledger, orders).len() as u64
+}

@@ -1,0 +1,12 @@
+import sys
+sys.path.insert(0, "python")
+from huztiral import Edition, Refused
+
+register = Edition([1, 1], 1).open()
+serial, mix = register.peek()  # two workers look, and both see serial 1
+print("serial", serial, "is", mix)
+register.claim(serial, 1007)  # the first takes it for order 1007
+try:
+    register.claim(serial, 1014)
+except Refused as refusal:  # the second is refused, and learns who has it
+    print("refused", refusal.number, "order", refusal.detail)

@@ -1,0 +1,336 @@
+#!/usr/bin/env python3
+"""The compiled engine, through its C interface, against tests/reference.py: thousands of cases for every function.
+
+    python3 tests/differential.py [ROUNDS [SEED [SECONDS]]]
+
+Every lent part has guard bytes around it and is compared whole after each call. The last line is `differential: N cases, 0 differences`; any difference
+makes the exit status 1. A machine that is too slow for all rounds stops after SECONDS.
+"""
+import random
+import sys
+import time
+from collections import Counter
+
+import inputs
+import reference as ref
+from lent import Lent, Null, call, flat, huztiral, ledger_of
+
+FILL = 170
+cases = Counter()
+differences = []
+
+
+def compare(name, given, answer, expected, *parts):
+    """one case; parts are lent parts with what they have to hold"""
+    cases[name] += 1
+    if answer != expected:
+        differences.append(f"{name} {given}: {answer}, expected {expected}")
+    for lent, values in parts:
+        if not lent.holds(values):
+            differences.append(f"{name} {given}: a lent part or what stands around it is not as it should be")
+
+
+def lend(rng, values, unit=1):
+    return Null(unit) if not values and rng.random() < 0.5 else Lent(values, unit)
+
+
+# ---- editions, serials, steps, trays, sheet orders
+
+def check(rng, ms, r):
+    upper = lend(rng, ms)
+    compare("check", (ms, r), call("huz_check", upper, r), ref.check(ms, r), (upper, ms))
+
+
+def rank(rng, ms, r, mix):
+    upper, given = lend(rng, ms), lend(rng, mix)
+    compare("rank", (ms, r, mix), call("huz_rank", upper, r, given), ref.rank(ms, r, mix), (upper, ms), (given, mix))
+
+
+def unrank(rng, ms, r, serial, length):
+    upper, before = lend(rng, ms), bytes([FILL]) * length
+    out = lend(rng, before)
+    *expected, after = ref.unrank(ms, r, serial, before)
+    compare("unrank", (ms, r, serial, length), call("huz_unrank", upper, r, serial, out), tuple(expected), (upper, ms), (out, after))
+
+
+def step(rng, ms, r, mix):
+    for name, way in ("successor", 1), ("predecessor", -1):
+        upper, given = lend(rng, ms), lend(rng, mix)
+        compare(name, (ms, r, mix), call("huz_" + name, upper, r, given), ref.step(ms, r, mix, way), (upper, ms), (given, mix))
+
+
+def batch(rng, ms, r, serial, copies, length):
+    upper, before = lend(rng, ms), bytes([FILL]) * length
+    out = lend(rng, before)
+    *expected, after = ref.batch(ms, r, serial, copies, before)
+    compare("batch", (ms, r, serial, copies, length), call("huz_batch", upper, r, serial, copies, out), tuple(expected), (upper, ms), (out, after))
+
+
+def convert(rng, name, ms, r, values, length):
+    upper, given, before = lend(rng, ms), lend(rng, values), bytes([FILL]) * length
+    out = lend(rng, before)
+    *expected, after = getattr(ref, name)(ms, r, values, before)
+    compare(name, (ms, r, values, length), call("huz_" + name, upper, r, given, out), tuple(expected), (upper, ms), (given, values), (out, after))
+
+
+def any_batch(rng):
+    ms, r = inputs.any_edition(rng)
+    n = ref.number(ms, r) if inputs.accepted(ms, r) else 0
+    serial = inputs.any_serial(rng, n)
+    rest = max(0, n - serial + 1)
+    kinds = len(ms)
+    copies = rng.choice((0, 1, 2, min(rest, 40), min(rest, 40), rest, rest + 1, rng.getrandbits(64), inputs.LARGEST, n))
+    if rng.random() < 0.2 and kinds:  # copies whose bytes are few in 64 bits only
+        copies = -(-(rng.randint(1, kinds) << 64) // kinds)
+    wanted = copies * kinds
+    length = wanted if wanted <= 4096 else wanted % (1 << 64)
+    batch(rng, ms, r, serial, copies & inputs.LARGEST, min(inputs.any_length(rng, length), 4096))
+
+
+def any_conversion(rng):
+    if rng.random() < 0.75:
+        n = rng.choice((1, 2, 3, 4, 5, 24, rng.randint(1, 24)))
+        ms = list(inputs.stairs(n))
+        r = rng.choice((rng.randint(0, min(255, sum(ms))), rng.randint(0, min(57, sum(ms)))))
+        if rng.random() < 0.1:
+            ms[rng.randrange(n)] = rng.randint(1, 60)
+        ms = tuple(ms)
+    else:
+        ms, r = inputs.any_edition(rng)
+    n = len(ms)
+    convert(rng, "permutation", ms, r, inputs.any_mix(rng, ms, r), inputs.any_length(rng, n + 1))
+    convert(rng, "inversions", ms, r, inputs.any_sheet_order(rng, ms, r), inputs.any_length(rng, n))
+
+
+# ---- the register
+
+def opening(rng, ms, r, size):
+    values = [rng.getrandbits(32) for _ in range(min(size, 99))] + [7] * max(0, size - 99)
+    upper, column = lend(rng, ms), lend(rng, values, 4)
+    expected = ref.opening(ms, r, size)
+    answer = call("huz_open", upper, r, column)
+    compare("open", (ms, r, size), answer, (*expected[:2], *expected[2]), (upper, ms), (column, values))
+
+
+def any_opening(rng):
+    ms, r = inputs.any_edition(rng) if rng.random() < 0.5 else inputs.sound(rng, small=True)
+    n = min(ref.number(ms, r), 5000) if inputs.accepted(ms, r) else 3
+    opening(rng, ms, r, rng.choice((n, n, n + 1, max(0, n - 1), 0, n + 9)))
+
+
+CALLS = {"look": "huz_peek", "take": "huz_claim", "spoil": "huz_void"}
+
+
+def on_record(rng, record, column, name, *arguments):
+    lent = lend(rng, column, 4)
+    answer, record_after, column_after = ref.call(record, column, name, arguments)
+    if name != "look":
+        answer = (*answer, *record_after)
+    got = call(CALLS[name], ledger_of(record), lent, *arguments)
+    compare(name, (record, column[:40], arguments), got, answer, (lent, column_after))
+
+
+def lines_so_far(rng, record, column):
+    lent = lend(rng, column, 4)
+    compare("entries", (record, column[:40]), call("huz_entries", ledger_of(record), lent), (ref.entries(record, column),), (lent, column))
+
+
+def any_call(rng):
+    record, column = inputs.register(rng)
+    if rng.random() < 0.4:
+        record, column = inputs.damaged(rng, record, column)
+    lines = column[:min(record[3], 2000)]
+    serial = rng.choice((len(lines) + 1, len(lines) + 1, len(lines) + 1, len(lines), 0, len(lines) + 2, inputs.any_serial(rng, len(column)), rng.randint(1, 9)))
+    order = rng.choice((inputs.any_order(rng, lines), inputs.any_order(rng, lines), rng.getrandbits(32), (column + [3] * 2000)[len(lines)]))
+    on_record(rng, record, column, "look")
+    on_record(rng, record, column, "take", serial, order)
+    on_record(rng, record, column, "spoil", serial)
+    lines_so_far(rng, record, column)
+
+
+class Running:
+    """a register of the engine, with its record and its column kept from call to call"""
+
+    def __init__(self, rng, ms, r, values):
+        self.column, self.values = Lent(values, 4), values
+        answer = huztiral.C.huz_open(*Lent(ms).passed(), r, *self.column.passed())
+        self.ledger = answer.ledger
+        compare("open", (ms, r, "a register"), flat(answer), (0, 0, *ref.record_of(ms, r, [])), (self.column, values))
+
+    def call(self, name, *arguments):
+        answer = getattr(huztiral.C, CALLS[name])(self.ledger, *self.column.passed(), *arguments)
+        if name == "look":
+            return flat(answer)
+        self.ledger = answer.ledger
+        return flat(answer)[:4]
+
+
+def agree(running, paper, name, arguments, given):
+    """one call on both, and the whole state afterwards; the answer"""
+    expected = getattr(paper, name)(*arguments)
+    got = running.call(name, *arguments)
+    state = ref.record_of(paper.ms, paper.r, paper.lines)
+    compare("interleaved " + name, (given, len(paper.lines), arguments), (*got, *flat(running.ledger)), (*expected, *state),
+            (running.column, paper.lines + running.values[len(paper.lines):]))
+    return expected
+
+
+def interleaving(rng):
+    """several workers on one register, each with the serial that it saw last; then the accepted calls alone, with a look before each"""
+    ms, r = inputs.sound(rng, small=True)
+    n = ref.number(ms, r)
+    values = [rng.getrandbits(32) if rng.random() < 0.7 else rng.randint(0, 30) for _ in range(n + rng.randint(0, 3))]
+    running, paper = Running(rng, ms, r, values), ref.Paper(ms, r)
+    workers = [rng.randint(0, 2) for _ in range(rng.randint(2, 5))]
+    done = []
+    for turn in range(min(3 * n + 20, 400)):
+        worker = rng.randrange(len(workers))
+        act = rng.random()
+        serial = rng.choice((workers[worker], workers[worker], paper.next(), paper.next(), inputs.any_serial(rng, n)))
+        if act < 0.3:
+            name, arguments = "look", ()
+        elif act < 0.85:
+            name, arguments = "take", (serial, rng.choice((rng.getrandbits(32), rng.getrandbits(32), rng.randint(0, 30))))
+        else:
+            name, arguments = "spoil", (serial,)
+        answer = agree(running, paper, name, arguments, (ms, r, turn))
+        if name == "look":
+            workers[worker] = answer[2]
+        elif answer[0] == 0:
+            done.append((name, arguments, answer))
+    again = Running(rng, ms, r, values)
+    for name, arguments, answer in done:
+        compare("second list", (ms, r), again.call("look")[2], arguments[0])
+        compare("second list", (ms, r), again.call(name, *arguments), answer)
+    compare("second list", (ms, r), flat(again.ledger), flat(running.ledger), (again.column, paper.lines + values[len(paper.lines):]))
+
+
+def large_register(rng):
+    """registers near the largest"""
+    for ms, r in ((5, 4, 11, 6, 13, 2, 20, 18), 29), ((11, 11, 12, 3, 17, 2, 8, 7), 29):  # N is 1,000,000, and one more
+        n = ref.number(ms, r)
+        opening(rng, ms, r, n)
+        opening(rng, ms, r, n - 1)
+        if n > ref.MOST_LINES:
+            record = (len(ms), ref.cells(ms), r, 0, 0, 0, ref.cells(ref.mix_at(ms, r, 1)))
+            on_record(rng, record, [0] * n, "look")
+            continue
+        for written in n, n - 1, n // 2:
+            lines = list(range(1, written + 1))
+            lines[written // 3] = 0
+            lines[written // 2] = lines[written // 2 + 1] = 5_000_000
+            record, column = ref.record_of(ms, r, lines), lines + [6_000_000] * (n - written)
+            for order in 6_000_000, 5_000_000, written:
+                on_record(rng, record, column, "take", written + 1, order)
+            on_record(rng, record, column, "spoil", written // 2 + 1)
+            on_record(rng, record, column, "look")
+            lines_so_far(rng, record, column)
+
+
+# ---- what document 01 prints
+
+def copies_of_the_document(rng):
+    edition = huztiral.Edition
+    seven = [[2, 1, 0], [1, 2, 0], [0, 2, 1], [1, 1, 1], [2, 0, 1], [1, 0, 2], [0, 1, 2]]
+    puzzle = edition([3, 2, 1], 3)
+    mixes = [[3, 0, 0], [2, 1, 0], [1, 2, 0], [0, 2, 1], [1, 1, 1], [2, 0, 1]]
+    orders = [[4, 1, 2, 3], [3, 2, 1, 4], [2, 4, 1, 3], [1, 4, 3, 2], [2, 3, 4, 1], [3, 1, 4, 2]]
+    compare("document", "A", edition([2, 2, 2], 3).batch(1, 7), seven)
+    compare("document", "B", edition([2, 2, 2], 3).rank([0, 2, 1]), 3)
+    compare("document", "C", edition([2, 2, 2], 3).successor([2, 0, 1]), [1, 0, 2])
+    compare("document", "D", edition([2, 2, 2], 5).batch(1, 3), [[2, 2, 1], [2, 1, 2], [1, 2, 2]])
+    compare("document", "E", (edition([5], 5).count, refused(edition, [5], 6)), (1, (4, 0)))
+    compare("document", "F", (edition([2, 2], 0).unrank(1), edition([2, 2], 4).count, refused(edition, [2, 2], 5)), ([0, 0], 1, (4, 0)))
+    compare("document", "G", (puzzle.batch(1, 6), [puzzle.permutation(g) for g in mixes], [puzzle.inversions(p) for p in orders]), (mixes, orders, mixes))
+    compare("document", "H", [edition([2, 1], 1).permutation(edition([2, 1], 1).unrank(s)) for s in (1, 2)], [[2, 1, 3], [1, 3, 2]])
+    register = edition([1, 1], 1).open()
+    compare("document", "I", (register.peek(), register.peek(), register.claim(1, 1007), refused(register.claim, 1, 1014), register.claim(2, 1014),
+                              refused(register.peek), register.entries()),
+            ((1, [1, 0]), (1, [1, 0]), (1, [1, 0]), (18, 1007), (2, [0, 1]), (21, 0), [1007, 1014]))
+    register = edition([1, 1], 1).open()
+    compare("document", "J", (register.void(1), refused(register.claim, 1, 1007)), ((1, [1, 0]), (18, 0)))
+    compare("document", "N", (edition(range(11, 0, -1), 33).count, edition([10] * 24, 239).count), (25598186, 24))
+    for ms, r in ((2, 2, 2), 3), ((3, 2, 1), 3), ((4, 1, 2, 3, 1), 6), ((1,) * 9, 4), ((2, 5, 3), 5):  # the reference is at one with its own listing
+        n = ref.number(ms, r)
+        compare("document", (ms, r), [ref.mix_at(ms, r, s) for s in range(1, n + 1)], list(ref.listing(ms, r)))
+        compare("document", (ms, r), [ref.serial_of(ms, r, g) for g in ref.listing(ms, r)], list(range(1, n + 1)))
+
+
+def refused(function, *arguments):
+    try:
+        return function(*arguments)
+    except huztiral.Refused as refusal:
+        return refusal.number, refusal.detail
+
+
+# ---- all of it
+
+def edges(rng):
+    """every edition at an end of a range, with serials, mixes and lengths at theirs"""
+    for ms, r in inputs.EDGES + inputs.LIMITS:
+        check(rng, ms, r)
+        n = ref.number(ms, r) if inputs.accepted(ms, r) else 5
+        for serial in 0, 1, n, n + 1, ref.LIMIT, ref.LIMIT + 1, inputs.LARGEST:
+            for length in {len(ms), len(ms) + 1, max(0, len(ms) - 1), 0}:
+                unrank(rng, ms, r, serial, length)
+            for copies in {0, 1, max(0, n - serial + 1), max(0, n - serial + 2), inputs.LARGEST}:
+                batch(rng, ms, r, serial, copies, min(copies * len(ms), 600))
+        for _ in range(4):
+            mix = inputs.any_mix(rng, ms, r)
+            rank(rng, ms, r, mix)
+            step(rng, ms, r, mix)
+        opening(rng, ms, r, min(n, 1000))
+        for copies in 1 << 60, 1 << 61, 1 << 62:  # their bytes are few in 64 bits only
+            for more in 0, 1, 3:
+                batch(rng, ms, r, 1, copies + more, (copies + more) * len(ms) % (1 << 64) % 600)
+        convert(rng, "permutation", ms, r, inputs.any_mix(rng, ms, r), len(ms) + 1)
+        convert(rng, "inversions", ms, r, inputs.any_sheet_order(rng, ms, r), len(ms))
+
+
+def whole_edition(rng):
+    """every serial of a small edition, there and back"""
+    ms, r = inputs.sound(rng, small=True)
+    n = ref.number(ms, r)
+    if n > 150:
+        return
+    batch(rng, ms, r, 1, n, n * len(ms))
+    for serial, mix in enumerate(ref.listing(ms, r), 1):
+        unrank(rng, ms, r, serial, len(ms))
+        rank(rng, ms, r, bytes(mix))
+        step(rng, ms, r, bytes(mix))
+
+
+def round_of(rng):
+    for _ in range(40):
+        ms, r = inputs.any_edition(rng)
+        check(rng, ms, r)
+        n = ref.number(ms, r) if inputs.accepted(ms, r) else 9
+        unrank(rng, ms, r, inputs.any_serial(rng, n), inputs.any_length(rng, len(ms)))
+        mix = inputs.any_mix(rng, ms, r)
+        rank(rng, ms, r, mix)
+        step(rng, ms, r, mix)
+        any_batch(rng)
+        any_conversion(rng)
+        any_opening(rng)
+    for _ in range(40):
+        any_call(rng)
+    whole_edition(rng)
+    interleaving(rng)
+
+
+def main(rounds=300, seed=1, seconds=100):
+    start, rng = time.monotonic(), random.Random(seed)
+    copies_of_the_document(rng)
+    edges(rng)
+    large_register(rng)
+    for _ in range(rounds):
+        if time.monotonic() - start > seconds or len(differences) > 50:
+            break
+        round_of(rng)
+    print("\n".join(d[:600] for d in differences[:10]) or ", ".join(f"{name} {count}" for name, count in sorted(cases.items())))
+    print(f"differential: {sum(cases.values())} cases, {len(differences)} differences")
+    return 1 if differences else 0
+
+
+if __name__ == "__main__":
+    sys.exit(main(*map(int, sys.argv[1:])))

@@ -1,0 +1,189 @@
+"""Inputs for the differential test: editions, mixes, serials, lengths and records, good ones, damaged ones and those at the ends of a range."""
+import reference as ref
+
+LARGEST = (1 << 64) - 1
+
+
+def stairs(n):
+    return tuple(range(n, 0, -1))
+
+
+def limits():
+    """editions on both sides of number 5's limit"""
+    found = []
+    for ms in [(m,) * n for n in (16, 20, 24) for m in (3, 6, 10, 20, 60)] + [stairs(n) for n in range(20, 25)]:
+        over = [r for r in range(min(255, sum(ms)) + 1) if ref.number(ms, r) > ref.LIMIT]
+        if over:
+            found += [(ms, r) for r in (over[0] - 1, over[0], over[-1], over[-1] + 1) if r <= min(255, sum(ms))]
+    return found
+
+
+LIMITS = limits()
+EDGES = [
+    ((10,) * 24, 239), (stairs(11), 33), ((5,), 5), ((5,), 6), ((2, 2), 0), ((2, 2), 4), ((2, 2), 5), ((), 0), ((), LARGEST >> 32), ((1,) * 25, 3),
+    ((0,), 0), ((3, 0, 61), 1), ((60,), 60), ((61,), 1), ((255,), 1), ((2, 2), 255), ((60,) * 5, 255), ((60,) * 5, 256), ((60,) * 4, 241),
+    ((60,) * 4, 240),
+    ((2, 2), 256), ((2, 2), 257), ((2, 2), LARGEST >> 32), ((1, 0, 61), 256), ((255,) * 25, LARGEST >> 32), ((60,) * 24, 255), ((6,) * 24, 72),
+    ((60,) * 5, 4), ((60,) * 24, 2), ((1,) * 24, 12), ((1,) * 24, 24), ((1,), 0), ((1,), 1), ((60,) * 24, 0), ((60,) * 24, 1), ((0,) * 24, 0), ((1,) * 100, 5), ((60,) * 23 + (61,), 3),
+    ((60,) * 23 + (0,), 3), (stairs(1), 1), (stairs(24), 57), (stairs(24), 58), (stairs(24), 242), (stairs(24), 243), (stairs(24), 255),
+]
+
+
+def sound(rng, small=False):
+    """an accepted edition"""
+    while True:
+        n = rng.choice((1, 2, 3, 4, 5, 6, rng.randint(1, 24), 24))
+        top = rng.choice((1, 2, 3, 6, 60) if not small else (1, 2, 3, 4))
+        shape = rng.random()
+        if shape < 0.15:
+            ms = (top,) * n
+        elif shape < 0.3:
+            ms = stairs(n)
+        elif shape < 0.4:
+            ms = stairs(n)[::-1]
+        else:
+            ms = tuple(rng.randint(1, top) for _ in range(n))
+        most = min(255, sum(ms))
+        r = rng.choice((rng.randint(0, most), rng.randint(0, most), rng.randint(0, min(most, 8)), most - rng.randint(0, min(most, 4))))
+        if ref.number(ms, r) <= (2000 if small else ref.LIMIT):
+            return ms, r
+
+
+def any_edition(rng):
+    """an edition that may be refused"""
+    kind = rng.random()
+    if kind < 0.2:
+        return rng.choice(EDGES)
+    if kind < 0.3:
+        return rng.choice(LIMITS)
+    ms, r = sound(rng)
+    if kind < 0.75:
+        return ms, r
+    ms = list(ms)
+    if kind < 0.85:
+        for _ in range(rng.randint(1, 3)):
+            ms[rng.randrange(len(ms))] = rng.choice((0, 60, 61, 62, 127, 128, 255))
+    elif kind < 0.9:
+        ms = ms * rng.randint(2, 9) if rng.random() < 0.5 else (ms * 25)[:rng.choice((0, 24, 25, 26))]
+    return tuple(ms), rng.choice((0, sum(ms), sum(ms) + 1, 254, 255, 256, 257, 511, 512, 65535, 65536, (1 << 31), (1 << 32) - 1, r, r + 256))
+
+
+def accepted(ms, r):
+    return ref.edition(ms, r) == (0, 0)
+
+
+def any_serial(rng, n):
+    return rng.choice((0, 1, 2, n, n - 1 if n else 0, n + 1, (1 << 63) - 1, 1 << 63, LARGEST, LARGEST - 1, (1 << 32) + 1, rng.randint(1, max(1, n)),
+                       rng.randint(1, max(1, n)), rng.randint(1, max(1, n)), rng.getrandbits(64)))
+
+
+def any_mix(rng, ms, r):
+    """mostly a mix of the edition; else one damaged in some way"""
+    if not accepted(ms, r):
+        return bytes(rng.randint(0, 3) for _ in range(len(ms)))
+    n = ref.number(ms, r)
+    mix = list(ref.mix_at(ms, r, rng.choice((1, n, rng.randint(1, n), rng.randint(1, n)))))
+    damage = rng.random()
+    at, other = rng.randrange(len(ms)), rng.randrange(len(ms))
+    if damage < 0.6:
+        pass
+    elif damage < 0.7:
+        mix[at] = rng.choice((0, ms[at], ms[at] + 1, 255, mix[at] ^ 1))
+    elif damage < 0.75:  # the sum stays, a count passes its ceiling
+        moved = min(mix[other], 255 - mix[at])
+        mix[other] -= moved
+        mix[at] += moved
+    elif damage < 0.8:
+        mix[at] = mix[at] + 1 if mix[at] < 255 else 0
+    elif damage < 0.82:  # a sum that is the total only in 8 bits
+        mix[at], mix[other] = (mix[at] + 128) % 256, (mix[other] + 128) % 256
+    elif damage < 0.87:  # the same under the ceilings, where they allow it
+        more = 256
+        for i, m in enumerate(ms):
+            added = min(more, m - mix[i])
+            mix[i] += added
+            more -= added
+    elif damage < 0.9:
+        mix = mix[:rng.randint(0, len(mix))]
+    elif damage < 0.95:
+        mix = mix + [0] * rng.choice((1, 2, 30, 256))
+    else:
+        mix = [rng.choice((0, 60, 255, rng.randrange(256))) for _ in mix]
+    return bytes(mix)
+
+
+def any_length(rng, wanted):
+    return rng.choice((wanted, wanted, wanted, max(0, wanted - 1), wanted + 1, 0, 1, 24, 25, 2 * wanted))
+
+
+def any_order(rng, lines):
+    written = [o for o in lines if o] or [7]
+    return rng.choice((0, 1, 1007, (1 << 32) - 1, rng.getrandbits(32), rng.randint(1, 9), written[0], written[-1], rng.choice(written), rng.choice(written)))
+
+
+def any_sheet_order(rng, ms, r):
+    k = len(ms) + 1
+    if accepted(ms, r) and ref.puzzle(ms) == (0, 0):
+        p = ref.order_of_mix(ref.mix_at(ms, r, rng.randint(1, ref.number(ms, r))))
+    else:
+        p = rng.sample(range(1, k + 1), k)
+    damage = rng.random()
+    at, other = rng.randrange(k), rng.randrange(k)
+    if damage < 0.2:
+        p[at], p[other] = p[other], p[at]
+    elif damage < 0.35:
+        p[at] = rng.choice((0, k, k + 1, 255, p[other]))
+    elif damage < 0.45:
+        p = p[:rng.randint(0, k)]
+    elif damage < 0.5:
+        p = p + [rng.choice((0, k + 1, p[at]))] * rng.choice((1, 300))
+    return bytes(p)
+
+
+def register(rng):
+    """a small edition, lines with zeros and repetitions, and a column with garbage behind them"""
+    ms, r = sound(rng, small=True)
+    n = ref.number(ms, r)
+    lines = [rng.choice((0, rng.randint(1, 9), rng.getrandbits(32))) for _ in range(rng.choice((0, n, n - 1, rng.randint(0, n), rng.randint(0, min(n, 9)))))]
+    rest = [rng.choice((0, 1, 1007, rng.getrandbits(32), *lines[:2])) for _ in range(n - len(lines) + rng.choice((0, 0, 1, 7)))]
+    return ref.record_of(ms, r, lines), lines + rest
+
+
+def damaged(rng, record, column):
+    """the same with something changed in the record or the column"""
+    n, upper, r, lines, sold, spoilt, mix = record
+    upper, mix, column = list(upper), list(mix), list(column)
+    near = lambda x: rng.choice((x + 1, x - 1 if x else LARGEST, 0, LARGEST, x + (1 << 32), 1 << 63))
+    field = rng.randrange(14)
+    if field == 0:
+        n = rng.choice((0, n - 1, n + 1, 24, 25, 26, 1 << 32, LARGEST, n + (1 << 32)))
+    elif field == 1:
+        at = rng.randrange(n)
+        upper[at] = rng.choice((upper[at] + 1, upper[at] - 1, 0, 61, 255))
+    elif field == 2:
+        upper[rng.randrange(n, 24) if n < 24 else 23] = rng.choice((1, 60, 255))
+    elif field == 3:
+        r = rng.choice((r + 1, r - 1 if r else 255, 0, 255, 256, r + 256, (1 << 32) - 1))
+    elif field == 4:
+        lines = near(lines)
+    elif field == 5:
+        sold = near(sold)
+    elif field == 6:
+        spoilt = near(spoilt)
+    elif field == 7:
+        sold, spoilt = spoilt, sold
+    elif field == 8:
+        sold, spoilt = sold + 1, spoilt - 1 if spoilt else LARGEST
+    elif field == 9:
+        lines, sold = lines + 1, sold + 1
+    elif field == 10:
+        at = rng.randrange(n)
+        mix[at] = rng.choice((mix[at] + 1, mix[at] ^ 1, 255))
+    elif field == 11:
+        mix[rng.randrange(n, 24) if n < 24 else 0] ^= rng.choice((1, 128))
+    elif field == 12:
+        column = column[:rng.choice((0, len(column) - 1, ref.number(upper[:n], r) - 1, ref.number(upper[:n], r)))]
+    elif lines:
+        at = rng.randrange(lines)
+        column[at] = 0 if column[at] else 1
+    return (n, tuple(upper), r, lines, sold, spoilt, tuple(mix)), column

@@ -1,0 +1,280 @@
+"""Document 01 in plain Python: what every call of the engine has to answer. Written from the document, for comparison only: numbers are unbounded, nothing
+is fast, and each function follows the document's own words. An answer is a tuple that starts with number and detail."""
+from functools import lru_cache
+
+LIMIT = 9_223_372_036_854_775_807
+MOST_LINES = 1_000_000
+BLANK = (0,) * 24
+
+
+def cells(values):
+    """24 cells, those past the values 0"""
+    return tuple(values) + (0,) * (24 - len(values))
+
+
+# ---- Editions and their number
+
+@lru_cache(maxsize=65536)
+def ways(ms):
+    """how many mixes of these ceilings have each sum, from 0 to 255: the product of 1 + x + .. + x^m, a factor for each kind"""
+    if not ms:
+        return [1]
+    shorter, m = ways(ms[:-1]), ms[-1]
+    before = [0]
+    for w in shorter:
+        before.append(before[-1] + w)
+    width = len(shorter)
+    return [before[min(t + 1, width)] - before[max(0, t - m)] for t in range(min(width + m, 256))]
+
+
+def number(ms, r):
+    """N"""
+    row = ways(tuple(ms))
+    return row[r] if 0 <= r < len(row) else 0
+
+
+def edition(ms, r):
+    """the first of 1 to 5 that holds, or (0, 0)"""
+    if not 1 <= len(ms) <= 24:
+        return 1, 0
+    for kind, m in enumerate(ms, 1):
+        if not 1 <= m <= 60:
+            return 2, kind
+    if r > 255:
+        return 3, 0
+    if r > sum(ms):
+        return 4, 0
+    if number(ms, r) > LIMIT:
+        return 5, 0
+    return 0, 0
+
+
+def check(ms, r):
+    """number, detail, the record's n, cells and r, and N"""
+    refusal = edition(ms, r)
+    if refusal != (0, 0):
+        return (*refusal, 0, BLANK, 0, 0)
+    return (*refusal, len(ms), cells(ms), r, number(ms, r))
+
+
+# ---- Walsh's order
+
+def values(ms, i, r, t):
+    """the values of kind i (from 0) in their order, where the kinds behind it sum to t"""
+    run = range(max(0, r - t - sum(ms[:i])), min(ms[i], r - t) + 1)
+    return run if t % 2 == 0 else reversed(run)
+
+
+def listing(ms, r):
+    """every mix in Walsh's order, from the last kind down"""
+    def endings(i, t, ending):
+        if i < 0:
+            yield ending
+            return
+        for v in values(ms, i, r, t):
+            yield from endings(i - 1, t + v, (v, *ending))
+    return endings(len(ms) - 1, 0, ())
+
+
+def mix_at(ms, r, serial):
+    """the mix of a serial of 1..N: blocks of mixes with the same ending are skipped"""
+    skip, t, mix = serial - 1, 0, []
+    for i in reversed(range(len(ms))):
+        for v in values(ms, i, r, t):
+            block = number(ms[:i], r - t - v)
+            if skip < block:
+                break
+            skip -= block
+        mix.insert(0, v)
+        t += v
+    return tuple(mix)
+
+
+def serial_of(ms, r, mix):
+    before, t = 0, 0
+    for i in reversed(range(len(ms))):
+        for v in values(ms, i, r, t):
+            if v == mix[i]:
+                break
+            before += number(ms[:i], r - t - v)
+        t += mix[i]
+    return before + 1
+
+
+# ---- the places of checking that several calls have; each answers (0, 0) or a refusal
+
+def mix_given(ms, r, mix):
+    if len(mix) != len(ms):
+        return 7, 0
+    if any(g > m for g, m in zip(mix, ms)) or sum(mix) != r:
+        return 8, 0
+    return 0, 0
+
+
+def serial_given(n, serial):
+    return (0, 0) if 1 <= serial <= n else (6, 0)
+
+
+def lent_part(wanted, length):
+    return (0, 0) if wanted == length else (13, 0)
+
+
+def first(*places):
+    """places from top to bottom, each asked only when those before it refuse nothing"""
+    for place in places:
+        refusal = place()
+        if refusal != (0, 0):
+            return refusal
+    return 0, 0
+
+
+# ---- Serial and mix, steps, trays: `out` is the lent part as it was, and the last of an answer is the part afterwards
+
+def rank(ms, r, mix):
+    refusal = first(lambda: edition(ms, r), lambda: mix_given(ms, r, mix))
+    return (*refusal, 0 if refusal[0] else serial_of(ms, r, mix))
+
+
+def unrank(ms, r, serial, out):
+    refusal = first(lambda: edition(ms, r), lambda: serial_given(number(ms, r), serial), lambda: lent_part(len(ms), len(out)))
+    return (*refusal, out if refusal[0] else bytes(mix_at(ms, r, serial)))
+
+
+def step(ms, r, mix, way):
+    """way is 1 or -1"""
+    refusal = first(lambda: edition(ms, r), lambda: mix_given(ms, r, mix))
+    if refusal[0]:
+        return (*refusal, BLANK)
+    serial = serial_of(ms, r, mix) + way
+    if not 1 <= serial <= number(ms, r):
+        return 9, 0, BLANK
+    return 0, 0, cells(mix_at(ms, r, serial))
+
+
+def batch(ms, r, serial, copies, out):
+    def serials():
+        n = number(ms, r)
+        return (6, 0) if not 1 <= serial <= n or copies > n - serial + 1 else (0, 0)
+    refusal = first(lambda: edition(ms, r), serials, lambda: lent_part(copies * len(ms), len(out)))
+    if refusal[0]:
+        return (*refusal, out)
+    return 0, 0, b"".join(bytes(mix_at(ms, r, serial + j)) for j in range(copies))
+
+
+# ---- Sheet orders
+
+def puzzle(ms):
+    return (0, 0) if list(ms) == list(range(len(ms), 0, -1)) else (10, 0)
+
+
+def mix_of_order(p):
+    return [sum(1 for later in p[i + 1:] if later < p[i]) for i in range(len(p) - 1)]
+
+
+def order_of_mix(mix):
+    """each place takes the sheet that has as many smaller ones left as the mix says"""
+    left = list(range(1, len(mix) + 2))
+    return [left.pop(g) for g in mix] + left
+
+
+def sheet_order_given(ms, r, p):
+    if sorted(p) != list(range(1, len(ms) + 2)):
+        return 11, 0
+    return (0, 0) if sum(mix_of_order(p)) == r else (12, 0)
+
+
+def permutation(ms, r, mix, out):
+    refusal = first(lambda: edition(ms, r), lambda: puzzle(ms), lambda: mix_given(ms, r, mix), lambda: lent_part(len(ms) + 1, len(out)))
+    return (*refusal, out if refusal[0] else bytes(order_of_mix(mix)))
+
+
+def inversions(ms, r, p, out):
+    refusal = first(lambda: edition(ms, r), lambda: puzzle(ms), lambda: sheet_order_given(ms, r, p), lambda: lent_part(len(ms), len(out)))
+    return (*refusal, out if refusal[0] else bytes(mix_of_order(p)))
+
+
+# ---- The register: a record is (n, 24 ceilings, r, lines, sold, spoilt, 24 cells of the next mix)
+
+NO_RECORD = (0, BLANK, 0, 0, 0, 0, BLANK)
+
+
+def record_of(ms, r, lines):
+    """the record that belongs to an edition and these lines"""
+    sold = sum(1 for o in lines if o)
+    mix = mix_at(ms, r, min(len(lines) + 1, number(ms, r)))
+    return len(ms), cells(ms), r, len(lines), sold, len(lines) - sold, cells(mix)
+
+
+def opening(ms, r, size):
+    refusal = edition(ms, r)
+    if not refusal[0] and number(ms, r) > MOST_LINES:
+        refusal = 14, 0
+    if not refusal[0] and size < number(ms, r):
+        refusal = 15, 0
+    return (*refusal, NO_RECORD if refusal[0] else record_of(ms, r, []))
+
+
+def is_register(record, column):
+    """not 16"""
+    n, upper, r, lines = record[:4]
+    if n > 24:
+        return False
+    ms = upper[:n]
+    if edition(ms, r)[0] or number(ms, r) > MOST_LINES or len(column) < number(ms, r) or lines > number(ms, r):
+        return False
+    return record == record_of(ms, r, column[:lines])
+
+
+class Paper:
+    """the paper register: an edition and a list of order numbers"""
+
+    def __init__(self, ms, r, lines=()):
+        self.ms, self.r, self.n, self.lines = tuple(ms), r, number(ms, r), list(lines)
+
+    def next(self):
+        return len(self.lines) + 1
+
+    def answer(self, serial):
+        return 0, 0, serial, cells(mix_at(self.ms, self.r, serial))
+
+    def look(self):
+        return (21, 0, 0, BLANK) if self.next() > self.n else self.answer(self.next())
+
+    def place(self, serial):
+        if not 1 <= serial <= self.n:
+            return 6, 0
+        if serial < self.next():
+            return 18, self.lines[serial - 1]
+        if serial > self.next():
+            return 19, self.next()
+        return 0, 0
+
+    def write(self, refusal, serial, order):
+        if refusal[0]:
+            return (*refusal, 0, BLANK)
+        self.lines.append(order)
+        return self.answer(serial)
+
+    def take(self, serial, order):
+        refusal = (17, 0) if order == 0 else self.place(serial)
+        if not refusal[0] and order in self.lines:
+            refusal = 20, self.lines.index(order) + 1
+        return self.write(refusal, serial, order)
+
+    def spoil(self, serial):
+        return self.write(self.place(serial), serial, 0)
+
+
+def call(record, column, name, arguments):
+    """look, take or spoil on any record and column: the answer, the record and the column afterwards"""
+    if not is_register(record, column):
+        return (16, 0, 0, BLANK), record, column
+    n, upper, r, lines = record[:4]
+    paper = Paper(upper[:n], r, column[:lines])
+    answer = getattr(paper, name)(*arguments)
+    after = record_of(paper.ms, r, paper.lines)
+    return answer, after, paper.lines + column[len(paper.lines):]
+
+
+def entries(record, column):
+    return record[3] if is_register(record, column) else 0

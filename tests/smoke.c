@@ -1,0 +1,83 @@
+/* Every function of the C interface, called once from C, and the layouts that other languages copy. */
+#include "../include/huztiral.h"
+#include <stdio.h>
+#include <string.h>
+
+#define AT(type, field, place) _Static_assert(offsetof(type, field) == place, #type "." #field)
+#define SIZE(type, bytes) _Static_assert(sizeof(type) == bytes, #type)
+SIZE(huz_bounds, 40);
+AT(huz_bounds, upper, 8);
+AT(huz_bounds, total, 32);
+SIZE(huz_ledger, 88);
+AT(huz_ledger, entries, 40);
+AT(huz_ledger, sold, 48);
+AT(huz_ledger, voided, 56);
+AT(huz_ledger, next, 64);
+SIZE(huz_done, 16);
+AT(huz_done, detail, 8);
+SIZE(huz_checked, 64);
+AT(huz_checked, bounds, 16);
+AT(huz_checked, count, 56);
+SIZE(huz_ranked, 24);
+AT(huz_ranked, serial, 16);
+SIZE(huz_stepped, 40);
+AT(huz_stepped, composition, 16);
+SIZE(huz_opened, 104);
+AT(huz_opened, ledger, 16);
+SIZE(huz_peeked, 48);
+AT(huz_peeked, composition, 24);
+SIZE(huz_claimed, 136);
+AT(huz_claimed, composition, 24);
+AT(huz_claimed, ledger, 48);
+
+static int failed;
+
+static void expect(int holds, const char *what) {
+    if (!holds) {
+        printf("smoke: %s is not as it should be\n", what);
+        failed = 1;
+    }
+}
+
+static int is(const uint8_t *cells, int a, int b, int c) {
+    return cells[0] == a && cells[1] == b && cells[2] == c;
+}
+
+int main(void) {
+    const uint8_t upper[3] = {3, 2, 1}, composition[3] = {2, 1, 0}, given[4] = {2, 4, 1, 3}, wanted[4] = {3, 2, 1, 4};
+    uint8_t out[6], order[4];
+
+    huz_checked checked = huz_check(upper, 3, 3);
+    expect(checked.number == 0 && checked.count == 6 && checked.bounds.parts == 3 && is(checked.bounds.upper, 3, 2, 1) && checked.bounds.total == 3, "huz_check");
+    huz_ranked ranked = huz_rank(upper, 3, 3, composition, 3);
+    expect(ranked.number == 0 && ranked.serial == 2, "huz_rank");
+    huz_done done = huz_unrank(upper, 3, 3, 4, out, 3);
+    expect(done.number == 0 && is(out, 0, 2, 1), "huz_unrank");
+    huz_stepped stepped = huz_successor(upper, 3, 3, composition, 3);
+    expect(stepped.number == 0 && is(stepped.composition, 1, 2, 0), "huz_successor");
+    stepped = huz_predecessor(upper, 3, 3, composition, 3);
+    expect(stepped.number == 0 && is(stepped.composition, 3, 0, 0), "huz_predecessor");
+    done = huz_batch(upper, 3, 3, 5, 2, out, 6);
+    expect(done.number == 0 && is(out, 1, 1, 1) && is(out + 3, 2, 0, 1), "huz_batch");
+    done = huz_permutation(upper, 3, 3, composition, 3, order, 4);
+    expect(done.number == 0 && memcmp(order, wanted, 4) == 0, "huz_permutation");
+    done = huz_inversions(upper, 3, 3, given, 4, out, 3);
+    expect(done.number == 0 && is(out, 1, 2, 0), "huz_inversions");
+
+    const uint8_t two[2] = {1, 1};
+    uint32_t orders[2] = {5, 5};
+    huz_opened opened = huz_open(two, 2, 1, orders, 2);
+    expect(opened.number == 0 && opened.ledger.entries == 0 && is(opened.ledger.next, 1, 0, 0), "huz_open");
+    huz_peeked peeked = huz_peek(opened.ledger, orders, 2);
+    expect(peeked.number == 0 && peeked.serial == 1 && is(peeked.composition, 1, 0, 0), "huz_peek");
+    huz_claimed claimed = huz_claim(opened.ledger, orders, 2, 1, 1007);
+    expect(claimed.number == 0 && claimed.serial == 1 && orders[0] == 1007 && claimed.ledger.sold == 1, "huz_claim");
+    huz_claimed second = huz_claim(claimed.ledger, orders, 2, 1, 1014);
+    expect(second.number == 18 && second.detail == 1007 && second.ledger.entries == 1, "a second huz_claim");
+    claimed = huz_void(claimed.ledger, orders, 2, 2);
+    expect(claimed.number == 0 && orders[1] == 0 && claimed.ledger.voided == 1, "huz_void");
+    expect(huz_entries(claimed.ledger, orders, 2) == 2, "huz_entries");
+    if (!failed)
+        puts("smoke: 13 functions");
+    return failed;
+}
