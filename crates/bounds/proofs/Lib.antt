@@ -9,3 +9,4 @@ pub mod Filling
 pub mod Chains
 pub mod Nonempty
 pub mod Places
+pub mod Cells
