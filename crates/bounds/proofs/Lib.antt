@@ -10,3 +10,4 @@ pub mod Filling
 pub mod Chains
 pub mod Nonempty
 pub mod Places
+pub mod Cells

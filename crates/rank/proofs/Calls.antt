@@ -8,19 +8,20 @@ use lib.ListN.{length, take}
 use borrow.Author.Tests.{eq-eqb, ne-eqb, lt-ltb, le-ltb}
 use Rattle.walsh.specs.Order.{countOf}
 use Rattle.walsh.specs.Serial.{compositionOf}
+use Rattle.walsh.proofs.Serials.{composition-is}
 use Rattle.walsh.proofs.Cases.{on-test}
 use Rattle.bounds.specs.Refusal.{refused, firstRefusal}
-use Rattle.bounds.specs.Edition.{shapeChecks, editionChecks}
+use Rattle.bounds.specs.Edition.{shapeChecks, editionChecks, cellsOf}
 use Rattle.bounds.specs.Places.{serialChecks, lentChecks}
 use Rattle.bounds.specs.declared.Refusal.{Refusal}
 use Rattle.bounds.proofs.Refusals.{refusal-first, refusal-later, is-refused, is-accepted}
+use Rattle.bounds.proofs.Cells.{cells-back}
 use Rattle.bounds.proofs.Editions.{Shapely, shapely}
 use Rattle.bounds.proofs.Chains.{accepts-split}
 use Rattle.bounds.proofs.Filling.{filling-refused, filling-done}
 use Rattle.rank.specs.Rank.{rankChecks, rankAnswer}
 use Rattle.rank.specs.Unrank.{unrankChecks, unrankCall}
-use Rattle.rank.specs.Locate.{nearest, locateOf}
-use Rattle.rank.proofs.Locations.{nearest-bytes}
+use Rattle.rank.specs.Locate.{clamp, nearest, locateOf}
 use Rattle.rank.specs.Find.{foundOf}
 use Rattle.rank.specs.declared.walk.find.Found.{Found}
 use Rattle.rank.specs.declared.walk.find.Task.the-variants.{Rank, Unrank}
@@ -66,6 +67,21 @@ module _ (ms : List ℕ) (r s : ℕ) (g : List ℕ) (x : Found) (e : x ≡ found
   pub entry-located : record { number = x .number; detail = x .detail; count = x .count; composition = x .composition } ≡ locateOf ms r s
   unfolding foundOf locateOf
   entry-located = on-test (eqb (firstRefusal (editionChecks ms r) .number) 0) (λ t. rw (e, t)) (λ t. rw (e, t))
+
+-- ---- the cells of a serial
+
+pub clamp-in : (n s : ℕ) → 0 < s → s ≤ n → clamp n s ≡ s
+clamp-in n s l h = omega arith
+
+module _ (ms : List ℕ) (r s : ℕ) (l : 0 < s) (h : s ≤ countOf ms r) where
+  pub nearest-in : nearest ms r s ≡ cellsOf (compositionOf ms r s)
+  nearest-in = ap (λ (u : ℕ). cellsOf (compositionOf ms r u)) (clamp-in (countOf ms r) s l h)
+
+  pub nearest-bytes : (n : ℕ) (cells : List ℕ) → n ≡ length ms → cells ≡ nearest ms r s → take n cells ≡ compositionOf ms r s
+  nearest-bytes n cells en ec =
+      let g : List ℕ = compositionOf ms r s in
+      let size : n ≡ length g = en ∙ sym (composition-is ms r s l h .size) in
+      ap (take n) (ec ∙ nearest-in) ∙ ap (λ (k : ℕ). take k (cellsOf g)) size ∙ cells-back g
 
 -- ---- unrank
 

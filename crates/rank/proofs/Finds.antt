@@ -1,12 +1,10 @@
--- Laws of what the two directions have in common: the answer of `find` case by case, and the cells that are lent.
+-- Laws of what the two directions have in common: the answer of `find` case by case.
 use mathlib.Core.Path.{_≡_, refl, sym, ap, _∙_}
-use mathlib.Core.List.{List, _++_}
-use Prim.Native.Nat.{ℕ, zero, suc, _+_, _-_, _≤_, _<_}
-use native.Mathlib.Nat.{sub-zero, zero-sub, suc-sub-suc}
+use mathlib.Core.List.{List}
+use Prim.Native.Nat.{ℕ, suc, _+_, _-_, _≤_, _<_}
 use native.Mathlib.Numerals.{add-one}
 use native.Mathlib.Omega.{arith}
-use lib.ListN.{length, take, drop, replicate, length-replicate}
-use lib.Seq.{length-take-le}
+use lib.ListN.{length, replicate}
 use Rattle.walsh.specs.Order.{Composition, count, countOf}
 use Rattle.walsh.specs.Serial.{serialOf, compositionOf}
 use Rattle.walsh.specs.Rank.{rankOf}
@@ -82,25 +80,3 @@ unfolding countOf
 clamp-place ms r n s asked reach en es =
     let some : 0 < count ms (length ms) r = count-some ms r reach in
     (omega arith, omega arith, es ∙ ap (λ (m : ℕ). clamp m asked) en)
-
--- ---- lent cells
-
-abbrev fresh : ℕ → List ℕ
-fresh m = replicate {A = ℕ} m 0
-
--- the first cells of a new array
-pub prefix-length : (size m : ℕ) → size ≤ m → length (take size (fresh m)) ≡ size
-prefix-length size m l = length-take-le size (fresh m) (room l (length-replicate {A = ℕ} m 0))
-  where
-    room : {x y z : ℕ} → x ≤ y → z ≡ y → x ≤ z
-    room p q = omega arith
-
-drop-fresh : (m n : ℕ) → drop n (fresh m) ≡ fresh (m - n)
-drop-fresh m zero = ap fresh (sym (sub-zero m))
-drop-fresh zero (suc n) = ap fresh (sym (zero-sub (suc n)))
-drop-fresh (suc m) (suc n) = drop-fresh m n ∙ ap fresh (sym (suc-sub-suc m n))
-
--- the first cells written, and the others as they were
-pub in-cells : (l : List ℕ) (n : ℕ) → length l ≡ n → l ++ drop n (fresh 24) ≡ cellsOf l
-unfolding cellsOf
-in-cells l n e = ap (λ (r : List ℕ). l ++ r) (drop-fresh 24 n ∙ ap (λ (k : ℕ). fresh (24 - k)) (sym e))

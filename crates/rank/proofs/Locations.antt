@@ -1,21 +1,17 @@
--- Laws of `locate` and `locate_record`: what their answers say, and the cells of a serial.
-use mathlib.Core.Path.{_≡_, refl, sym, ap, _∙_}
+-- Laws of `locate` and `locate_record`: what their answers say.
+use mathlib.Core.Path.{_≡_, refl, sym, ap}
 use mathlib.Core.List.{List}
 use Prim.Native.Nat.{ℕ, _≤_, _<_}
-use native.Mathlib.Omega.{arith}
-use lib.ListN.{length, take, replicate}
-use lib.Seq.{take-append-seam}
+use lib.ListN.{take, replicate}
 use borrow.Author.Tests.{lt-ltb, le-ltb}
 use Rattle.walsh.specs.Order.{countOf}
-use Rattle.walsh.specs.Serial.{compositionOf}
-use Rattle.walsh.proofs.Serials.{composition-is}
 use Rattle.bounds.specs.Refusal.{refused, firstRefusal}
-use Rattle.bounds.specs.Edition.{editionChecks, recordChecks, cellsOf}
+use Rattle.bounds.specs.Edition.{editionChecks, recordChecks}
 use Rattle.bounds.specs.declared.Refusal.{Refusal}
 use Rattle.bounds.specs.declared.Bounds.{Bounds}
 use Rattle.bounds.proofs.Refusals.{refusal-next, is-refused, is-accepted}
 use Rattle.bounds.proofs.Chains.{Accepts}
-use Rattle.rank.specs.Locate.{clamp, nearest, locatedBy, locateOf, locateRecordOf}
+use Rattle.rank.specs.Locate.{nearest, locatedBy, locateOf, locateRecordOf}
 use Rattle.rank.specs.declared.Located.{Located}
 
 -- ---- what an answer says
@@ -51,26 +47,6 @@ module _ (b : Bounds) (s : ℕ) (x : Located) (e : x ≡ locateRecordOf b s) whe
   pub record-accepted : x .number ≡ 0 → Accepts (recordChecks b) × Locates (take (b .parts) (b .upper)) (b .total) s x
   unfolding locateRecordOf
   record-accepted z = accepted-by (firstRefusal (recordChecks b)) (take (b .parts) (b .upper)) (b .total) s x e z
-
--- ---- the cells of a serial
-
--- the cells of a list begin with it
-pub cells-back : (l : List ℕ) → take (length l) (cellsOf l) ≡ l
-unfolding cellsOf
-cells-back l = take-append-seam l _
-
-module _ (ms : List ℕ) (r s : ℕ) (l : 0 < s) (h : s ≤ countOf ms r) where
-  clamp-in : clamp (countOf ms r) s ≡ s
-  clamp-in = omega arith
-
-  pub nearest-in : nearest ms r s ≡ cellsOf (compositionOf ms r s)
-  nearest-in = ap (λ (u : ℕ). cellsOf (compositionOf ms r u)) clamp-in
-
-  pub nearest-bytes : (n : ℕ) (cells : List ℕ) → n ≡ length ms → cells ≡ nearest ms r s → take n cells ≡ compositionOf ms r s
-  nearest-bytes n cells en ec =
-      let g : List ℕ = compositionOf ms r s in
-      let size : n ≡ length g = en ∙ sym (composition-is ms r s l h .size) in
-      ap (take n) (ec ∙ nearest-in) ∙ ap (λ (k : ℕ). take k (cellsOf g)) size ∙ cells-back g
 
 -- ---- a record that nobody has checked: more than 24 parts have no cells
 

@@ -1,18 +1,15 @@
 -- `rank::put` meets its contract. The cells passed are those of the part.
 use mathlib.Core.Path.{_≡_, sym, ap, _∙_}
 use mathlib.Core.List.{List}
-use Prim.Native.Nat.{ℕ, _+_, _-_, _≤_, _<_}
-use native.Mathlib.Numerals.{add-one}
+use Prim.Native.Nat.{ℕ, _-_, _≤_}
 use native.Mathlib.Omega.{arith}
-use lib.ListN.{length, take, set, getD, length-set}
-use lib.Seq.{take-length, take-suc-set, take-suc}
+use lib.ListN.{length, take, length-set}
+use lib.Seq.{take-length}
 use denote.Ref.{now}
 use borrow.Author.Needs.{needs}
+use Rattle.bounds.proofs.Cells.{copy-next}
 use Rattle.rank.proofs.put.Statement.{statement}
 use Rattle.rank.proofs.put.Tie as tie
-
-copied : (cells out : List ℕ) (i : ℕ) → i < length out → i < length cells → take i out ≡ take i cells → take (i + 1) (set out i (getD cells i 0)) ≡ take (i + 1) cells
-copied cells out i l h e = rw (add-one, take-suc-set out i (getD cells i 0) l, take-suc cells i 0 h, e)
 
 all-copied : (cells out : List ℕ) (i n : ℕ) → i ≡ n → length out ≡ n → take i out ≡ take i cells → out ≡ take n cells
 all-copied cells out i n ei en e =
@@ -31,7 +28,7 @@ loop-again c =
     let s = c .before .before .before in (
       omega arith,
       length-set (l .out) (l .i) _ ∙ l .inv .1,
-      copied (now (s .args .cells)) (l .out) (l .i) (omega arith) (omega arith) (l .inv .2),
+      copy-next (now (s .args .cells)) (l .out) (l .i) (omega arith) (omega arith) (l .inv .2),
     )
 
 returns : tie.Need-returns Inv-loop μ-loop

@@ -11,7 +11,8 @@ use Rattle.bounds.specs.Band.{bandSize}
 use Rattle.bounds.proofs.Editions.{shapely}
 use Rattle.bounds.proofs.Answers.{surveyed-refused, surveyed-accepted}
 use Rattle.bounds.proofs.Rows.{size-small}
-use Rattle.rank.proofs.Finds.{found-shape, prefix-length}
+use Rattle.bounds.proofs.Cells.{prefix-length}
+use Rattle.rank.proofs.Finds.{found-shape}
 use Rattle.rank.proofs.walk.find.find.Statement.{statement}
 use Rattle.rank.proofs.walk.find.find.Tie as tie
 

@@ -8,7 +8,8 @@ use Rattle.walsh.specs.Order.{count, countOf}
 use Rattle.walsh.specs.Serial.{compositionOf}
 use Rattle.bounds.specs.Edition.{cellsOf}
 use Rattle.rank.specs.Locate.{clamp}
-use Rattle.rank.proofs.Finds.{found-entry, clamp-place, prefix-length, in-cells}
+use Rattle.bounds.proofs.Cells.{prefix-length, in-cells}
+use Rattle.rank.proofs.Finds.{found-entry, clamp-place}
 use Rattle.rank.proofs.walk.find.unrank_in.Statement.{statement}
 use Rattle.rank.proofs.walk.find.unrank_in.Tie as tie
 
