@@ -134,8 +134,8 @@ module _ (ms : List ℕ) (r k : ℕ) (x : Run) (parts : List ℕ) (wide : 1 < le
       (rw u-is (next-low (least ms 1 rem) (most ms 1 rem) (isOdd (r - rem)) (x .second) (composition-low (upTo ms r g (moving ms r g valid r (le-refl r)) 1 wide)) (part-moves ms r g 1 can)))
 
   -- the next composition
-  pub rides : shown (movedOf x) parts ≡ compositionOf ms r (k + 1)
-  rides =
+  pub run-next : shown (movedOf x) parts ≡ compositionOf ms r (k + 1)
+  run-next =
       let first : y .first ≡ x .first + x .second - y .second = omega (arith, to .sum) in
       rw first (sym (step-one ms r (x .first) (x .second) (drop 2 parts) (y .second) u-is fits)
       ∙ successor-at ms r g valid 1 wide pivot .1 ∙ ap (λ (s : ℕ). compositionOf ms r (s + 1)) (ap (serialOf ms r) is ∙ serial-composition ms r k some (omega arith)))
