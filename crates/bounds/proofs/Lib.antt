@@ -8,3 +8,4 @@ pub mod Compositions
 pub mod Filling
 pub mod Chains
 pub mod Nonempty
+pub mod Places

@@ -1,31 +1,27 @@
--- The answers of the four calls, from what `find` answers.
+-- The answers of `rank`, `unrank` and `locate`, from what `find` answers.
 use mathlib.Core.Path.{_≡_, refl, sym, ap, _∙_}
-use mathlib.Core.Bool.{true, false, cond}
 use mathlib.Core.List.{List, _++_}
-use Prim.Native.Nat.{ℕ, _≤_, _<_, min, max}
+use Prim.Native.Nat.{ℕ, _≤_, _<_}
 use native.Mathlib.Omega.{arith}
 use lib.Dec.{eqb}
-use lib.ListN.{length, take, replicate}
-use lib.Seq.{take-append-seam}
+use lib.ListN.{length, take}
 use borrow.Author.Tests.{eq-eqb, ne-eqb, lt-ltb, le-ltb}
 use Rattle.walsh.specs.Order.{countOf}
 use Rattle.walsh.specs.Serial.{compositionOf}
 use Rattle.walsh.proofs.Cases.{on-test}
-use Rattle.walsh.proofs.Serials.{composition-is}
 use Rattle.bounds.specs.Refusal.{refused, firstRefusal}
-use Rattle.bounds.specs.Edition.{shapeChecks, editionChecks, cellsOf}
+use Rattle.bounds.specs.Edition.{shapeChecks, editionChecks}
 use Rattle.bounds.specs.Places.{serialChecks, lentChecks}
 use Rattle.bounds.specs.declared.Refusal.{Refusal}
-use Rattle.bounds.specs.declared.Bounds.{Bounds}
-use Rattle.bounds.proofs.Refusals.{refusal-next, refusal-first, refusal-later, is-refused, is-accepted}
+use Rattle.bounds.proofs.Refusals.{refusal-first, refusal-later, is-refused, is-accepted}
 use Rattle.bounds.proofs.Editions.{Shapely, shapely}
 use Rattle.bounds.proofs.Chains.{accepts-split}
 use Rattle.bounds.proofs.Filling.{filling-refused, filling-done}
-use Rattle.rank.specs.Rank.{Answer, rankChecks, rankAnswer}
+use Rattle.rank.specs.Rank.{rankChecks, rankAnswer}
 use Rattle.rank.specs.Unrank.{unrankChecks, unrankCall}
-use Rattle.rank.specs.Locate.{clamp, nearest, locatedBy, locateOf, locateRecordOf}
+use Rattle.rank.specs.Locate.{nearest, locateOf}
+use Rattle.rank.proofs.Locations.{nearest-bytes}
 use Rattle.rank.specs.Find.{foundOf}
-use Rattle.rank.specs.declared.Located.{Located}
 use Rattle.rank.specs.declared.walk.find.Found.{Found}
 use Rattle.rank.specs.declared.walk.find.Task.the-variants.{Rank, Unrank}
 
@@ -71,22 +67,6 @@ module _ (ms : List ℕ) (r s : ℕ) (g : List ℕ) (x : Found) (e : x ≡ found
   unfolding foundOf locateOf
   entry-located = on-test (eqb (firstRefusal (editionChecks ms r) .number) 0) (λ t. rw (e, t)) (λ t. rw (e, t))
 
--- ---- the cells of a serial
-
--- the cells of a list begin with it
-pub cells-back : (l : List ℕ) → take (length l) (cellsOf l) ≡ l
-unfolding cellsOf
-cells-back l = take-append-seam l _
-
-pub clamp-in : (n s : ℕ) → 0 < s → s ≤ n → clamp n s ≡ s
-clamp-in n s l h = omega arith
-
-nearest-bytes : (ms : List ℕ) (r s n : ℕ) (cells : List ℕ) → 0 < s → s ≤ countOf ms r → n ≡ length ms → cells ≡ nearest ms r s → take n cells ≡ compositionOf ms r s
-nearest-bytes ms r s n cells l h en ec =
-    let g : List ℕ = compositionOf ms r s in
-    let size : n ≡ length g = en ∙ sym (composition-is ms r s l h .size) in
-    ap (take n) (ec ∙ ap (λ (u : ℕ). cellsOf (compositionOf ms r u)) (clamp-in (countOf ms r) s l h)) ∙ ap (λ (k : ℕ). take k (cellsOf g)) size ∙ cells-back g
-
 -- ---- unrank
 
 module _ (ms : List ℕ) (r s : ℕ) (out : List ℕ) where
@@ -131,18 +111,7 @@ module _ (ms : List ℕ) (r s : ℕ) (out : List ℕ) where
         part-filled n e l cells el ec =
             let none : checked ≡ refused 0 0 = later ∙ rw (ne-eqb s 0 some, le-ltb (countOf ms r) s inside, eq-eqb (length out) (length ms) n) in
             filling-done (unrankChecks ms r s (length out)) (compositionOf ms r s) out (e ∙ sym none) (ap (λ (w : Refusal). w .number) e)
-            (el ∙ nearest-bytes ms r s (length out) cells (pos some) inside n ec)
+            (el ∙ nearest-bytes ms r s (pos some) inside (length out) cells n ec)
           where
             pos : (s ≡ 0 → ⊥) → 0 < s
             pos n = omega (arith, n)
-
--- ---- a record that nobody has checked
-
-module _ (b : Bounds) (s : ℕ) where
-  pub record-over : 24 < b .parts → record { number = 1; detail = 0; count = 0; composition = replicate 24 0 } ≡ locateRecordOf b s
-  unfolding locateRecordOf firstRefusal
-  record-over l = rw (lt-ltb 24 (b .parts) l)
-
-  pub record-located : b .parts ≤ 24 → locateOf (take (b .parts) (b .upper)) (b .total) s ≡ locateRecordOf b s
-  unfolding locateOf locateRecordOf
-  record-located l = ap (λ (v : Refusal). locatedBy v (take (b .parts) (b .upper)) (b .total) s) (sym (refusal-next _ _ (le-ltb 24 (b .parts) l)))

@@ -1,7 +1,7 @@
 -- Laws of what the two directions have in common: the answer of `find` case by case, and the cells that are lent.
 use mathlib.Core.Path.{_≡_, refl, sym, ap, _∙_}
 use mathlib.Core.List.{List, _++_}
-use Prim.Native.Nat.{ℕ, zero, suc, _+_, _-_, _≤_, _<_, min, max}
+use Prim.Native.Nat.{ℕ, zero, suc, _+_, _-_, _≤_, _<_}
 use native.Mathlib.Nat.{sub-zero, zero-sub, suc-sub-suc}
 use native.Mathlib.Numerals.{add-one}
 use native.Mathlib.Omega.{arith}
@@ -15,6 +15,7 @@ use Rattle.bounds.specs.Refusal.{refused, firstRefusal}
 use Rattle.bounds.specs.Edition.{whole, editionChecks, shapeChecks, cellsOf}
 use Rattle.bounds.specs.Places.{compositionChecks}
 use Rattle.bounds.specs.declared.Refusal.{Refusal}
+use Rattle.bounds.proofs.Answers.{edition-refused}
 use Rattle.bounds.proofs.Compositions.{composition-passes}
 use Rattle.bounds.proofs.Nonempty.{count-some}
 use Rattle.bounds.proofs.Refusals.{refusal-first, refusal-later, by-refusal, by-acceptance}
@@ -45,7 +46,12 @@ module _ (ms : List ℕ) (r : ℕ) where
   found-edition (Unrank s) g n d e l = found-refused (firstRefusal (editionChecks ms r)) _ _ _ n d e l
 
   pub found-shape : (task : Task) (g : List ℕ) (n d : ℕ) → firstRefusal (shapeChecks ms r) ≡ refused n d → 0 < n → nothing n d ≡ foundOf task ms r g
-  found-shape task g n d e l = found-edition task g n d (refusal-first (shapeChecks ms r) _ (some-number e l) ∙ e) l
+  found-shape task g n d e l = found-edition task g n d (edition-refused ms r n d e l) l
+
+  -- a serial's entry does not depend on what is given
+  pub found-any : (s : ℕ) (g h : List ℕ) → foundOf (Unrank s) ms r g ≡ foundOf (Unrank s) ms r h
+  unfolding foundOf
+  found-any s g h = refl
 
   -- an edition that is accepted
   module _ (accepted : firstRefusal (editionChecks ms r) .number ≡ 0) (g : List ℕ) where

@@ -2,22 +2,22 @@
 use mathlib.Core.Path.{_≡_, refl, ap, _∙_}
 use mathlib.Core.List.{List}
 use Prim.Native.Nat.{ℕ, suc, _+_, _-_, _*_, _≤_, _<_}
-use native.Mathlib.Nat.{le-refl, le-of-lt}
+use native.Mathlib.Nat.{le-refl, le-of-lt, lt-of-lt-of-le}
 use native.Mathlib.Omega.{arith}
 use lib.ListN.{getD}
 use Rattle.walsh.specs.Order.{least, most, partValue, partChoices}
 use Rattle.walsh.specs.Rank.{indexOf, partIndex, blockSize}
-use Rattle.walsh.proofs.Lists.{value-high}
+use Rattle.walsh.proofs.Lists.{value-low, value-high}
 use Rattle.bounds.specs.Band.{InBand}
 use Rattle.bounds.specs.declared.band.Row.{Row}
-use Rattle.bounds.proofs.Bands.{band-down, band-value, start-small}
+use Rattle.bounds.proofs.Bands.{band-down, band-value, start-small, cell-room}
 use Rattle.bounds.proofs.Rows.{at-low, at-place}
-use Rattle.rank.specs.Walk.{runOf, inRun, Here}
+use Rattle.rank.specs.Walk.{runOf, inRun, Here, Readable}
 use Rattle.rank.specs.declared.walk.Run.{Run}
 
-pub in-run-le : (w : Run) (i : ℕ) → i < suc (w .high) - w .low → inRun w i ≤ w .high
+pub in-run : (w : Run) (i : ℕ) → i < suc (w .high) - w .low → (w .low ≤ inRun w i) × (inRun w i ≤ w .high)
 unfolding inRun
-in-run-le w i l = value-high (w .low) (w .high) (w .falls) i l
+in-run w i l = (value-low (w .low) (w .high) (w .falls) i l, value-high (w .low) (w .high) (w .falls) i l)
 
 module _ (ms : List ℕ) (k rem t : ℕ) (w : Run) (e : w ≡ runOf ms k rem t) where
   pub run-ends : (w .low ≡ least ms k rem) × (w .high ≡ most ms k rem)
@@ -40,19 +40,26 @@ module _ (ms : List ℕ) (k rem t : ℕ) (w : Run) (e : w ≡ runOf ms k rem t) 
   run-picks i v ev = ev ∙ run-value i
 
   module _ (row : Row) (cells : List ℕ) (here : Here ms k rem t row cells) where
-    highest-band : InBand ms (t + rem) k (rem - most ms k rem)
-    highest-band =
-        let fits : least ms k rem ≤ most ms k rem = omega (arith, here .band .inside) in
-        band-down ms (t + rem) k rem (most ms k rem) (here .inside) (here .band) fits (le-refl _)
+    ends : least ms k rem ≤ most ms k rem
+    ends = omega (arith, here .band .inside)
 
-    -- the numbers that `block` computes are small and none falls below 0
-    pub run-fits : (rem ≤ 255) × (w .high ≤ rem) × (row .low ≤ rem - w .high) × (row .start ≤ 6144)
-    run-fits = (
-      omega (arith, here .small),
-      rw (run-ends .1) (omega arith),
-      rw (run-ends .1) (at-low ms (t + rem) k (rem - most ms k rem) row (here .row) highest-band),
-      starts (here .row .start) (start-small ms (t + rem) (here .small) k) (here .few),
-    )
+    leaves : (v : ℕ) → least ms k rem ≤ v → v ≤ most ms k rem → InBand ms (t + rem) k (rem - v)
+    leaves v low high = band-down ms (t + rem) k rem v (here .inside) (here .band) low high
+
+    -- `block` may be called
+    pub run-readable : Readable w rem row cells
+    run-readable =
+        let first = leaves (most ms k rem) ends (le-refl _) in
+        let last = leaves (least ms k rem) (le-refl _) ends in
+        record {
+          small = omega (arith, here .small);
+          high = rw (run-ends .1) (omega arith);
+          low = rw (run-ends .1) (at-low ms (t + rem) k (rem - most ms k rem) row (here .row) first);
+          start = starts (here .row .start) (start-small ms (t + rem) (here .small) k) (here .few);
+          room =
+              rw (run-ends .0, at-place ms (t + rem) k (rem - least ms k rem) row (here .row) last)
+              (lt-of-lt-of-le (cell-room ms (t + rem) k (rem - least ms k rem) (le-of-lt (here .inside)) last) (here .table .room));
+        }
       where
         starts : {s b : ℕ} → s ≡ b → b ≤ 256 * k → k < 24 → s ≤ 6144
         starts e l f = omega arith

@@ -1,4 +1,5 @@
 -- What the two directions have in common: an entry of the order, found by its composition or by its serial.
+use mathlib.Core.Path.{_≡_}
 use mathlib.Core.Bool.{cond}
 use mathlib.Core.List.{List}
 use Prim.Native.Nat.{ℕ}
@@ -9,11 +10,19 @@ use Rattle.walsh.specs.Serial.{serialOf}
 use Rattle.bounds.specs.Refusal.{firstRefusal}
 use Rattle.bounds.specs.Edition.{editionChecks}
 use Rattle.bounds.specs.declared.Refusal.{Refusal}
+use Rattle.bounds.specs.declared.band.Row.{Row}
+use Rattle.rank.specs.Walk.{Filled}
 use Rattle.rank.specs.Rank.{rankChecks}
 use Rattle.rank.specs.Locate.{clamp, nearest}
 use Rattle.rank.specs.declared.walk.find.Found.{Found}
 use Rattle.rank.specs.declared.walk.find.Task.{Task}
 use Rattle.rank.specs.declared.walk.find.Task.the-variants.{Rank, Unrank}
+
+-- an edition that is accepted: its filled table, and N
+pub record Ready (ms : List ℕ) (r : ℕ) (last : Row) (cells : List ℕ) (n : ℕ) : Type 0 where
+  pub accepted : firstRefusal (editionChecks ms r) .number ≡ 0
+  pub filled : Filled ms r last cells
+  pub count : n ≡ countOf ms r
 
 abbrev pub foundBy : Refusal → ℕ → ℕ → List ℕ → Found
 foundBy v n s g =

@@ -28,6 +28,14 @@ pub record Here (ms : List ℕ) (k rem t : ℕ) (row′ : Row) (cells : List ℕ
   pub band : InBand ms (t + rem) (suc k) rem
   pub table : Band ms (t + rem) cells
 
+-- the cells of what the values of a run leave of rem stand in the table
+pub record Readable (w : Run) (rem : ℕ) (row : Row) (cells : List ℕ) : Type 0 where
+  pub small : rem ≤ 255
+  pub high : w .high ≤ rem
+  pub low : row .low ≤ rem - w .high
+  pub start : row .start ≤ 6144
+  pub room : row .start + (rem - w .low - row .low) < length cells
+
 -- rank p falls in the block of value v, at place s
 pub record Picked (ms : List ℕ) (k rem t p v s : ℕ) : Type 0 where
   pub low : least ms k rem ≤ v

@@ -1,6 +1,6 @@
 // Composition to serial and back (document 01, "Serial and mix").
 ghost use mathlib.Core.Path.{_≡_};
-ghost use Prim.Native.Nat.{ℕ, _≤_};
+ghost use Prim.Native.Nat.{_≤_};
 ghost use lib.ListN.{length, take};
 ghost use Rattle.rank.specs.Rank.{answerOf, rankAnswer};
 ghost use Rattle.rank.specs.Unrank.{unrankCall};

@@ -1,14 +1,14 @@
 // The walk over a filled counting table, from the last part down: from a rank, which counts from 0, to its composition, and back.
 ghost use mathlib.Core.Path.{_≡_};
 ghost use mathlib.Core.List.{[]};
-ghost use Prim.Native.Nat.{ℕ, suc, _+_, _-_, _≤_, _<_};
+ghost use Prim.Native.Nat.{suc, _+_, _-_, _≤_, _<_};
 ghost use lib.ListN.{length, getD};
 ghost use Rattle.walsh.specs.Sums.{sum, sumTo};
 ghost use Rattle.walsh.specs.Order.{CompositionTo, order, count, least, most};
 ghost use Rattle.walsh.specs.Rank.{indexOf, partIndex, blockSize, rankOf};
 ghost use Rattle.bounds.specs.Edition.{whole};
 ghost use Rattle.bounds.specs.Band.{IsRow};
-ghost use Rattle.rank.specs.Walk.{runOf, inRun, Here, Picked, Filled};
+ghost use Rattle.rank.specs.Walk.{runOf, inRun, Here, Readable, Picked, Filled};
 use bounds::band;
 
 pub mod find;
@@ -56,10 +56,10 @@ fn index(w: Run, v: usize) -> usize
 
 // The cell of what value number `i` leaves: how many compositions have it.
 fn block(cells: &[u64], row: band::Row, rem: usize, w: Run, i: usize) -> u64
-    requires { ⌜ (rem ≤ 255) × (w .high ≤ rem) × (i < suc (w .high) - w .low) × (row .low ≤ rem - w .high) × (row .start ≤ 6144) ⌝ }
+    requires { ⌜ Readable w rem row (now cells) × (i < suc (w .high) - w .low) ⌝ }
     ensures { λ r. ⌜ r ≡ getD (now (cells .entry)) (row .start + (rem - inRun w i - row .low)) 0 ⌝ }
 {
-    band::at(cells, row.start + (rem - value(w, i) - row.low))
+    cells[row.start + (rem - value(w, i) - row.low)]
 }
 
 // The row before.

@@ -1,3 +1,4 @@
+-- `rank::locate` meets its contract.
 use denote.Ref.{now}
 use borrow.Author.Needs.{needs}
 use Rattle.rank.proofs.Calls.{entry-located}

@@ -1,9 +1,10 @@
+-- `rank::locate_record` meets its contract.
 use mathlib.Core.Path.{_≡_, sym, _∙_}
 use native.Mathlib.Omega.{arith}
 use lib.ListN.{length}
 use lib.Seq.{length-take-le}
 use borrow.Author.Needs.{needs}
-use Rattle.rank.proofs.Calls.{record-over, record-located}
+use Rattle.rank.proofs.Locations.{record-over, record-located}
 use Rattle.rank.proofs.locate_record.Statement.{statement}
 use Rattle.rank.proofs.locate_record.Tie as tie
 

@@ -1,3 +1,4 @@
+-- `rank::put` meets its contract. The cells passed are those of the part.
 use mathlib.Core.Path.{_≡_, sym, ap, _∙_}
 use mathlib.Core.List.{List}
 use Prim.Native.Nat.{ℕ, _+_, _-_, _≤_, _<_}

@@ -1,3 +1,4 @@
+-- `rank::rank` meets its contract. By what `find` answers.
 use native.Mathlib.Omega.{arith}
 use borrow.Author.Needs.{needs}
 use Rattle.rank.proofs.Calls.{ranked-refused, ranked-accepted}

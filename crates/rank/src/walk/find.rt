@@ -1,14 +1,12 @@
 // An entry of the order, found by its composition or by its serial, with a counting table of as many cells as it needs.
 ghost use mathlib.Core.Path.{_≡_};
-ghost use Prim.Native.Nat.{ℕ, _+_, _≤_, _<_, min, max};
+ghost use mathlib.Core.List.{[]};
 ghost use lib.ListN.{length, replicate};
-ghost use Rattle.walsh.specs.Order.{countOf};
 ghost use Rattle.bounds.specs.Refusal.{firstRefusal};
-ghost use Rattle.bounds.specs.Edition.{editionChecks, shapeChecks};
-ghost use Rattle.bounds.specs.Band.{bandSize, IsRow};
-ghost use Rattle.rank.specs.Walk.{Filled};
+ghost use Rattle.bounds.specs.Edition.{whole, shapeChecks};
+ghost use Rattle.bounds.specs.Band.{bandSize};
 ghost use Rattle.rank.specs.Locate.{clamp};
-ghost use Rattle.rank.specs.Find.{foundOf};
+ghost use Rattle.rank.specs.Find.{Ready, foundOf};
 ghost use Rattle.rank.specs.declared.walk.find.Task.the-variants.{Rank, Unrank};
 use bounds::band;
 
@@ -18,7 +16,7 @@ pub enum Task {
     Unrank(u64),
 }
 
-// N, and the entry's serial, or its serial and its cells.
+// N, the entry's serial, and its cells where they were asked for; all zeros where something is refused.
 pub struct Found {
     pub number: u32,
     pub detail: u64,
@@ -52,6 +50,7 @@ fn nearest(n: u64, s: u64) -> u64
     if n < 1 { 1 } else { n }
 }
 
+// The serial of `given`, or its refusal.
 fn rank_in(
     upper: &[u8],
     total: u32,
@@ -60,7 +59,7 @@ fn rank_in(
     count: u64,
     given: &[u8],
 ) -> Found
-    requires { ⌜ (firstRefusal (editionChecks (now upper) total) .number ≡ 0) × Filled (now upper) total last (now cells) × (count ≡ countOf (now upper) total) ⌝ }
+    requires { ⌜ Ready (now upper) total last (now cells) count ⌝ }
     ensures { λ r. ⌜ r ≡ foundOf Rank (now (upper .entry)) total (now (given .entry)) ⌝ }
 {
     let v = places::composition_refusal(upper, total, given);
@@ -77,6 +76,7 @@ fn rank_in(
     }
 }
 
+// The composition of the serial nearest to `serial`.
 fn unrank_in(
     upper: &[u8],
     total: u32,
@@ -84,10 +84,9 @@ fn unrank_in(
     cells: &[u64],
     count: u64,
     serial: u64,
-    given: &[u8],
 ) -> Found
-    requires { ⌜ (firstRefusal (editionChecks (now upper) total) .number ≡ 0) × Filled (now upper) total last (now cells) × (count ≡ countOf (now upper) total) ⌝ }
-    ensures { λ r. ⌜ r ≡ foundOf (Unrank serial) (now (upper .entry)) total (now (given .entry)) ⌝ }
+    requires { ⌜ Ready (now upper) total last (now cells) count ⌝ }
+    ensures { λ r. ⌜ r ≡ foundOf (Unrank serial) (now (upper .entry)) total [] ⌝ }
 {
     let s = nearest(count, serial);
     let n = upper.len();
@@ -109,25 +108,32 @@ fn unrank_in(
     }
 }
 
-// `find` of a shape that is accepted, with room for its table.
+// `find` of a shape that is accepted, whose bounds sum to `all`, with the cells of its table.
 fn find_in(
     upper: &[u8],
     total: u32,
-    last: band::Row,
+    all: usize,
     cells: &mut [u64],
     task: Task,
     given: &[u8],
 ) -> Found
-    requires { ⌜ (firstRefusal (shapeChecks (now upper) total) .number ≡ 0) × (bandSize (now upper) total ≤ length (now cells)) × IsRow (now upper) total (length (now upper)) last ⌝ }
+    requires { ⌜ (firstRefusal (shapeChecks (now upper) total) .number ≡ 0) × (all ≡ whole (now upper)) × (length (now cells) ≡ bandSize (now upper) total) ⌝ }
     ensures { λ r. ⌜ r ≡ foundOf task (now (upper .entry)) total (now (given .entry)) ⌝ }
 {
     let c = band::fill(upper, total, cells);
     if 0 < c.number {
         return nothing(c.number, c.detail);
     }
+    let last = band::Row {
+        start: cells.len() - 1,
+        left: all,
+        all,
+        low: total as usize,
+        high: total as usize,
+    };
     match task {
         Task::Rank => rank_in(upper, total, last, cells, c.count, given),
-        Task::Unrank(serial) => unrank_in(upper, total, last, cells, c.count, serial, given),
+        Task::Unrank(serial) => unrank_in(upper, total, last, cells, c.count, serial),
     }
 }
 
@@ -139,30 +145,24 @@ pub fn find(upper: &[u8], total: u32, task: Task, given: &[u8]) -> Found
     if 0 < s.number {
         return nothing(s.number, s.detail);
     }
+    let all = s.all;
     let size = s.size;
-    let last = band::Row {
-        start: size - 1,
-        left: s.all,
-        all: s.all,
-        low: total as usize,
-        high: total as usize,
-    };
     if size <= 64 {
         let mut cells = [0u64; 64];
-        return find_in(upper, total, last, &mut cells[..size], task, given);
+        return find_in(upper, total, all, &mut cells[..size], task, given);
     }
     if size <= 256 {
         let mut cells = [0u64; 256];
-        return find_in(upper, total, last, &mut cells[..size], task, given);
+        return find_in(upper, total, all, &mut cells[..size], task, given);
     }
     if size <= 1024 {
         let mut cells = [0u64; 1024];
-        return find_in(upper, total, last, &mut cells[..size], task, given);
+        return find_in(upper, total, all, &mut cells[..size], task, given);
     }
     if size <= 2048 {
         let mut cells = [0u64; 2048];
-        return find_in(upper, total, last, &mut cells[..size], task, given);
+        return find_in(upper, total, all, &mut cells[..size], task, given);
     }
     let mut cells = [0u64; 6145];
-    find_in(upper, total, last, &mut cells[..size], task, given)
+    find_in(upper, total, all, &mut cells[..size], task, given)
 }

@@ -1,5 +1,7 @@
+-- `rank::walk::earlier` meets its contract.
 use mathlib.Core.Path.{_≡_, refl, _∙_}
 use Prim.Native.Nat.{ℕ, suc, _+_, _-_, _≤_, _<_}
+use native.Mathlib.Nat.{lt-trans}
 use native.Mathlib.Omega.{arith}
 use denote.Ref.{now}
 use borrow.Author.Needs.{needs}
@@ -10,7 +12,7 @@ use Rattle.walsh.proofs.Lists.{index-lt, sum-mono}
 use Rattle.walsh.proofs.Listing.{count-blocks}
 use Rattle.walsh.proofs.Window.{sum-at, sum-step}
 use Rattle.bounds.specs.Band.{cap}
-use Rattle.rank.proofs.Runs.{run-ends, run-choices, run-index, run-fits, run-block}
+use Rattle.rank.proofs.Runs.{run-ends, run-choices, run-index, run-readable, run-block}
 use Rattle.rank.proofs.walk.earlier.Statement.{statement}
 use Rattle.rank.proofs.walk.earlier.Tie as tie
 
@@ -46,15 +48,12 @@ block-at c =
     let l : i < c .before .before .before .index .result = omega arith in
     let w = c .before .before .before .before .run-of in
     let h = s .pre .0 in
-    let is = run-block (now (a .upper)) (a .k) (a .rem) (a .t) (w .result) (w .ensures) (a .row) (now (a .cells)) h i (c .block .result) (below l (n .1)) (c .block .ensures) in
+    let is = run-block (now (a .upper)) (a .k) (a .rem) (a .t) (w .result) (w .ensures) (a .row) (now (a .cells)) h i (c .block .result) (lt-trans l (n .1)) (c .block .ensures) in
     let more = sum-mono f (i + 1) (partChoices (now (a .upper)) (a .k) (a .rem)) (next l (n .1)) in
-    let fits = run-fits (now (a .upper)) (a .k) (a .rem) (a .t) (w .result) (w .ensures) (a .row) (now (a .cells)) h in
-    let all = h .table .holds (suc (a .k)) (h .inside) (a .rem) (h .band) (small (fits .0)) .1 in
+    let fits = run-readable (now (a .upper)) (a .k) (a .rem) (a .t) (w .result) (w .ensures) (a .row) (now (a .cells)) h in
+    let all = h .table .holds (suc (a .k)) (h .inside) (a .rem) (h .band) (small (fits .small)) .1 in
     (is, sum-step f i, under more (count-blocks (now (a .upper)) (a .k) (a .rem) (a .t)) all)
   where
-    below : {i x n : ℕ} → i < x → x < n → i < n
-    below p q = omega arith
-
     next : {i x n : ℕ} → i < x → x < n → i + 1 ≤ n
     next p q = omega arith
 
@@ -76,13 +75,10 @@ block-requires c κs =
     let s = c .before .before .before .before .before .before in
     let a = s .args in
     let w = c .before .before .before .run-of in
-    let n = steps-at (c .before .before) .1 in
-    let f = run-fits (now (a .upper)) (a .k) (a .rem) (a .t) (w .result) (w .ensures) (a .row) (now (a .cells)) (s .pre .0) in
-    let l : c .before .loop .i < c .before .before .index .result = omega arith in
-    (f .0, f .1, rw (run-choices (now (a .upper)) (a .k) (a .rem) (a .t) (w .result) (w .ensures)) (below l n), f .2, f .3)
-  where
-    below : {i x n : ℕ} → i < x → x < n → i < n
-    below p q = omega arith
+    let l : c .before .loop .i < c .before .before .index .result = omega arith in (
+      run-readable (now (a .upper)) (a .k) (a .rem) (a .t) (w .result) (w .ensures) (a .row) (now (a .cells)) (s .pre .0),
+      rw (run-choices (now (a .upper)) (a .k) (a .rem) (a .t) (w .result) (w .ensures)) (lt-trans l (steps-at (c .before .before) .1)),
+    )
 
 returns : tie.Need-returns Inv-loop μ-loop
 returns c =

@@ -1,3 +1,4 @@
+-- `rank::walk::index` meets its contract.
 use borrow.Author.Needs.{needs}
 use Rattle.rank.proofs.walk.index.Statement.{statement}
 use Rattle.rank.proofs.walk.index.Tie as tie

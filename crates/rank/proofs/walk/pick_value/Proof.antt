@@ -1,16 +1,18 @@
-use mathlib.Core.Path.{_≡_, ap, _∙_}
+-- `rank::walk::pick_value` meets its contract. The rank is the blocks passed and what is left of it.
+use mathlib.Core.Path.{_≡_}
 use Prim.Native.Nat.{ℕ, suc, _+_, _-_, _≤_, _<_}
+use native.Mathlib.Nat.{le-trans}
 use native.Mathlib.Omega.{arith}
 use denote.Ref.{now}
 use mir.Val.{Fits}
 use mir.Syntax.{w64}
-use borrow.Author.Needs.{needs}
 use Rattle.walsh.specs.Sums.{sum}
 use Rattle.walsh.specs.Order.{partChoices}
 use Rattle.walsh.specs.Rank.{blockSize}
 use Rattle.walsh.proofs.Listing.{count-blocks}
 use Rattle.walsh.proofs.Window.{sum-step}
-use Rattle.rank.proofs.Runs.{run-choices, run-picks, run-fits, run-block}
+use Rattle.rank.specs.Walk.{Readable}
+use Rattle.rank.proofs.Runs.{run-choices, run-picks, run-readable, run-block}
 use Rattle.rank.proofs.Picks.{scan-first, scan-next, picked}
 use Rattle.rank.proofs.walk.pick_value.Statement.{statement}
 use Rattle.rank.proofs.walk.pick_value.Tie as tie
@@ -43,13 +45,14 @@ asks-at : (c : tie.After-run-of Inv-loop μ-loop) (i : ℕ)
     → let a = c .before .before .before .args in
     let w = c .run-of .result in
     i < partChoices (now (a .upper)) (a .k) (a .rem)
-    → (a .rem ≤ 255) × (w .high ≤ a .rem) × (i < suc (w .high) - w .low) × (a .row .low ≤ a .rem - w .high) × (a .row .start ≤ 6144)
+    → Readable w (a .rem) (a .row) (now (a .cells)) × (i < suc (w .high) - w .low)
 asks-at c i l =
     let s = c .before .before .before in
     let a = s .args in
-    let w = c .run-of in
-    let f = run-fits (now (a .upper)) (a .k) (a .rem) (a .t) (w .result) (w .ensures) (a .row) (now (a .cells)) (s .pre .0) in
-    (f .0, f .1, rw (run-choices (now (a .upper)) (a .k) (a .rem) (a .t) (w .result) (w .ensures)) l, f .2, f .3)
+    let w = c .run-of in (
+      run-readable (now (a .upper)) (a .k) (a .rem) (a .t) (w .result) (w .ensures) (a .row) (now (a .cells)) (s .pre .0),
+      rw (run-choices (now (a .upper)) (a .k) (a .rem) (a .t) (w .result) (w .ensures)) l,
+    )
 
 loop-holds : tie.Need-loop-holds Inv-loop μ-loop
 loop-holds c =
@@ -64,7 +67,7 @@ loop-holds c =
 add-i : tie.Need-add-i Inv-loop μ-loop
 add-i c =
     let k = asks-at (c .before .before .before) (c .before .loop .i + 1) (next-at c) in
-    fits (c .before .before .before .run-of .result .low) (k .2) (k .1) (k .0)
+    fits (c .before .before .before .run-of .result .low) (k .1) (k .0 .high) (k .0 .small)
   where
     fits : {i hi rem : ℕ} (lo : ℕ) → i < suc hi - lo → hi ≤ rem → rem ≤ 255 → Fits w64 i
     fits lo l h s = omega arith
@@ -82,10 +85,7 @@ loop-again c =
     )
 
 value-requires : tie.Need-value-requires Inv-loop μ-loop
-value-requires c κs = let k = asks-at (c .before .before .before) (c .before .loop .i) (c .before .loop .inv .0) in (le-trans′ (k .1) (k .0), k .2)
-  where
-    le-trans′ : {a b d : ℕ} → a ≤ b → b ≤ d → a ≤ d
-    le-trans′ p q = omega arith
+value-requires c κs = let k = asks-at (c .before .before .before) (c .before .loop .i) (c .before .loop .inv .0) in (le-trans (k .0 .high) (k .0 .small), k .1)
 
 returns : tie.Need-returns Inv-loop μ-loop
 returns c =

@@ -1,3 +1,4 @@
+-- `rank::walk::place` meets its contract. The sum so far and the rank of the parts that are left make up the rank.
 use mathlib.Core.Path.{_≡_, ap, _∙_}
 use Prim.Native.Nat.{ℕ, suc, _+_, _-_, _≤_, _<_}
 use native.Mathlib.Nat.{zero-add}

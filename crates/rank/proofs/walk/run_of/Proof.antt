@@ -1,3 +1,4 @@
+-- `rank::walk::run_of` meets its contract.
 use borrow.Author.Needs.{needs}
 use Rattle.rank.specs.Walk.{runOf}
 use Rattle.rank.proofs.walk.run_of.Statement.{statement}

@@ -1,3 +1,4 @@
+-- `rank::walk::value` meets its contract.
 use borrow.Author.Needs.{needs}
 use Rattle.rank.specs.Walk.{inRun}
 use Rattle.rank.proofs.walk.value.Statement.{statement}

@@ -1,7 +1,7 @@
+-- `rank::walk::write` meets its contract. What is still to be found, with the parts stored so far behind it, is the composition.
 use mathlib.Core.Path.{_≡_, refl, sym, ap, _∙_}
 use mathlib.Core.List.{[], _++_, append-nil}
 use Prim.Native.Nat.{ℕ, suc, _+_, _-_, _≤_, _<_}
-use native.Mathlib.Nat.{le-trans}
 use native.Mathlib.Omega.{arith}
 use lib.ListN.{length, length-set, getD, drop}
 use lib.Seq.{drop-length}

@@ -1,7 +1,7 @@
+-- `rank::walk::find::unrank_in` meets its contract.
 use mathlib.Core.Path.{_≡_, sym, ap, _∙_}
-use mathlib.Core.List.{List}
-use Prim.Native.Nat.{ℕ, _-_, _≤_, _<_}
-use lib.ListN.{length}
+use Prim.Native.Nat.{ℕ, _-_, _<_}
+use lib.ListN.{length, take, replicate}
 use denote.Ref.{now}
 use borrow.Author.Needs.{needs}
 use Rattle.walsh.specs.Order.{count, countOf}
@@ -13,20 +13,22 @@ use Rattle.rank.proofs.walk.find.unrank_in.Statement.{statement}
 use Rattle.rank.proofs.walk.find.unrank_in.Tie as tie
 
 place-at : (c : tie.After-nearest)
-    → let a = c .before .before .before .before .args in
+    → let a = c .before .before .before .args in
     let ms = now (a .upper) in
     let s = c .nearest .result in
     (0 < s) × (s - 1 < count ms (length ms) (a .total)) × (s ≡ clamp (countOf ms (a .total)) (a .serial))
-place-at c = let s = c .before .before .before .before in clamp-place (now (s .args .upper)) (s .args .total) _ _ _ (s .pre .1 .reached) (s .pre .2) (c .nearest .ensures)
+place-at c = let s = c .before .before .before in clamp-place (now (s .args .upper)) (s .args .total) _ _ _ (s .pre .filled .reached) (s .pre .count) (c .nearest .ensures)
+
+length-at : (c : tie.Start) → let n = length (now (c .args .upper)) in length (take {A = ℕ} n (replicate 24 0)) ≡ n
+length-at c = prefix-length (length (now (c .args .upper))) 24 (c .pre .filled .few)
 
 returns : tie.Need-returns
 unfolding compositionOf
 returns c =
-    let s = c .before .before .before .before .before .before .before in
+    let s = c .before .before .before .before .before .before in
     let w = c .before .write in
-    let n = length (now (s .args .upper)) in
-    found-entry _ _ (s .pre .0) _ (s .args .count) (s .args .serial) (c .before .before .before .nearest .result) _ (s .pre .2) (place-at (c .before .before .before) .2)
-    (in-cells (w .last .1 .1 .1 .1 .1 .0) n (w .kept .1 .1 .1 .1 .1 .0 ∙ prefix-length n 24 (s .pre .1 .few)) ∙ ap cellsOf (w .ensures))
+    found-entry _ _ (s .pre .accepted) _ (s .args .count) (s .args .serial) (c .before .before .before .nearest .result) _ (s .pre .count) (place-at (c .before .before .before) .2)
+    (in-cells (w .last .1 .1 .1 .1 .1 .0) (length (now (s .args .upper))) (w .kept .1 .1 .1 .1 .1 .0 ∙ length-at s) ∙ ap cellsOf (w .ensures))
 
 pub unrank-in-spec : {M : Type 1} → statement M
 unrank-in-spec =
@@ -34,7 +36,7 @@ unrank-in-spec =
     (tie.spec
     (λ c κs. search needs)
     (λ c. place-at c .0)
-    (λ c. c .before .before .before .before .pre .1 .few)
-    (λ c. sym (prefix-length (length (now (c .before .before .before .before .before .args .upper))) 24 (c .before .before .before .before .before .pre .1 .few)))
-    (λ c κs. (c .before .before .before .before .before .pre .1, prefix-length (length (now (c .before .before .before .before .before .args .upper))) 24 (c .before .before .before .before .before .pre .1 .few), place-at (c .before) .1))
+    (λ c. c .before .before .before .pre .filled .few)
+    (λ c. sym (length-at (c .before .before .before .before)))
+    (λ c κs. (c .before .before .before .before .pre .filled, length-at (c .before .before .before .before), place-at (c .before) .1))
     returns)

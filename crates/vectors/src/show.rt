@@ -1,0 +1,24 @@
+// Answers, a line of numbers each.
+use libc::STDOUT_FILENO;
+
+pub fn first(n: u64) {
+    io::print_decimal(STDOUT_FILENO, n);
+}
+
+pub fn next(n: u64) {
+    io::write_all(STDOUT_FILENO, b" ");
+    io::print_decimal(STDOUT_FILENO, n);
+}
+
+pub fn end() {
+    io::write_all(STDOUT_FILENO, b"\n");
+}
+
+// Each byte of a list.
+pub fn bytes(list: &[u8]) {
+    let mut i = 0;
+    while i < list.len() {
+        next(walsh::wide(list[i]) as u64);
+        i += 1;
+    }
+}
