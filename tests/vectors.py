@@ -21,6 +21,14 @@ COUNTS = [
     ([2, 2], 4294967295), ([1, 0, 61], 256), ([255] * 25, 4294967295), ([60] * 24, 255), ([6] * 24, 72), ([12] * 24, 255),
 ]
 
+# Table 1 of source document 000: the compositions of 5 under 4 3 2 1, each with its permutation
+TABLE_1 = (
+  "4100 52134 3200 43125 2300 35124 1310 25314 2210 34215 3110 42315 "
+     "4010 51324 3020 41523 2120 32514 1220 24513 0320 15423 0221 14532 "
+     "1121 23541 2021 31542 3011 41352 2111 32451 1211 24351 0311 15342 "
+     "1301 25143 2201 34152 3101 42153 4001 51243"
+).split()
+
 
 def numbers(text):
     return [] if text == "-" else [int(x) for x in text.split(",")]
@@ -83,11 +91,18 @@ def counts(oracle):
         yield f"c {listed(m)} {r}", list(a)
 
 
+def table_1():
+    for g, p in zip(TABLE_1[::2], TABLE_1[1::2]):
+        g, p = [int(x) for x in g], [int(x) for x in p]
+        yield f"o 4 4 3 2 1 5 {listed(g)} 5", [0, 0] + p
+        yield f"i 4 4 3 2 1 5 {listed(p)} 4", [0, 0] + g
+
+
 def main():
     oracle = os.path.abspath(sys.argv[1])
     count = int(sys.argv[2]) if len(sys.argv) > 2 else 60
     seed = int(sys.argv[3]) if len(sys.argv) > 3 else 7
-    cases = list(counts(oracle))
+    cases = list(counts(oracle)) + list(table_1())
     for kind in ("count", "rank", "unrank", "step", "tray", "mix-to-order", "order-to-mix", "table"):
         for line in vectors(oracle, kind, count, seed):
             found = case(*parse(line))

@@ -12,9 +12,11 @@ use Rattle.walsh.specs.Serial.{same, placeOf, serialOf, compositionOf}
 use Rattle.walsh.proofs.Tests.{both-left, both-right, every-at}
 use Rattle.walsh.proofs.Serials.{same-eq}
 use Rattle.bounds.specs.Refusal.{firstRefusal}
-use Rattle.bounds.specs.Edition.{firstOutside}
+use Rattle.bounds.specs.Edition.{firstOutside, cellsOf}
+use Rattle.model.specs.Model.{answer, after, bookFrom}
+use Rattle.model.specs.Record.{compositions}
 use Rattle.permutation.specs.Permutation.{permutationOf, lift, inversionVector}
-use Rattle.boundary.specs.Row.{Claim, lists, counts, refused, serial, next, permutations, Row, refusalOf, Means, Holds, sameAll, test, passes}
+use Rattle.boundary.specs.Row.{Claim, lists, counts, refused, serial, next, answers, permutations, Row, refusalOf, modelAnswers, callsOf, claimsOf, Means, Holds, sameAll, test, passes}
 use Rattle.boundary.specs.Rows.{rows, rowAt}
 
 same-all-eq : (gs hs : List (List ℕ)) → sameAll gs hs ≡ true → gs ≡ hs
@@ -34,13 +36,14 @@ means ms r (counts n) e =
 means ms r (refused number) e = eqb-true (refusalOf ms r) number e
 means ms r (serial g s) e = eqb-true (serialOf ms r g) s e
 means ms r (next g h) e = same-eq (compositionOf ms r (suc (serialOf ms r g))) h e
+means ms r (answers cs) e = same-all-eq (modelAnswers ms r (callsOf cs)) (claimsOf cs) e
 means ms r (permutations ps) e =
     let a : Bool = sameAll (map permutationOf (order ms r)) ps in
     let b : Bool = sameAll (map inversionVector ps) (order ms r) in
     (same-all-eq (map permutationOf (order ms r)) ps (both-left a b e), same-all-eq (map inversionVector ps) (order ms r) (both-right a b e))
 
 all-pass : every (λ i. passes (rowAt rows i)) (length rows) ≡ true
-unfolding rows sameAll same placeOf serialOf compositionOf order listing countOf count firstRefusal firstOutside permutationOf lift inversionVector
+unfolding rows sameAll same placeOf serialOf compositionOf order listing countOf count firstRefusal firstOutside permutationOf lift inversionVector bookFrom after answer compositions cellsOf
 all-pass = refl
 
 pub boundary : (i : ℕ) → i < length rows → Holds (rowAt rows i)

@@ -2,10 +2,11 @@
 use mathlib.Core.List.{List, [], _∷_}
 use Prim.Native.Nat.{ℕ, zero, suc}
 use Rattle.walsh.specs.Order.{threeTwos, seven}
-use Rattle.boundary.specs.Row.{Claim, lists, counts, refused, serial, next, permutations, Row}
+use Rattle.model.specs.Model.{peek, claim, void}
+use Rattle.boundary.specs.Row.{Claim, lists, counts, refused, serial, next, answers, permutations, Row}
 
 abbrev row : List ℕ → ℕ → Claim → Row
-row ms r claim = record { bounds = ms; total = r; claim = claim }
+row ms r what = record { bounds = ms; total = r; claim = what }
 
 unfoldable pub rows : List Row
 rows =
@@ -31,6 +32,18 @@ rows =
     ((4 ∷ 1 ∷ 2 ∷ 3 ∷ []) ∷ (3 ∷ 2 ∷ 1 ∷ 4 ∷ []) ∷ (2 ∷ 4 ∷ 1 ∷ 3 ∷ []) ∷ (1 ∷ 4 ∷ 3 ∷ 2 ∷ []) ∷ (2 ∷ 3 ∷ 4 ∷ 1 ∷ []) ∷ (3 ∷ 1 ∷ 4 ∷ 2 ∷ []) ∷ []))
     -- H: the staircase of three
     ∷ row (2 ∷ 1 ∷ []) 1 (permutations ((2 ∷ 1 ∷ 3 ∷ []) ∷ (1 ∷ 3 ∷ 2 ∷ []) ∷ []))
+    -- I: bounds 1 1 with total 1, two workers: look 1, look 1, take 1 for 1007, take 1 for 1014, take 2 for 1014, look
+    ∷ row (1 ∷ 1 ∷ []) 1
+    (answers
+    ((peek, 0 ∷ 0 ∷ 1 ∷ 1 ∷ 0 ∷ [])
+    ∷ (peek, 0 ∷ 0 ∷ 1 ∷ 1 ∷ 0 ∷ [])
+    ∷ (claim 1 1007, 0 ∷ 0 ∷ 1 ∷ 1 ∷ 0 ∷ [])
+    ∷ (claim 1 1014, 18 ∷ 1007 ∷ [])
+    ∷ (claim 2 1014, 0 ∷ 0 ∷ 2 ∷ 0 ∷ 1 ∷ [])
+    ∷ (peek, 21 ∷ [])
+    ∷ []))
+    -- J: the same edition: spoil 1, take 1 for 1007
+    ∷ row (1 ∷ 1 ∷ []) 1 (answers ((void 1, 0 ∷ 0 ∷ 1 ∷ 1 ∷ 0 ∷ []) ∷ (claim 1 1007, 18 ∷ 0 ∷ []) ∷ []))
     ∷ []
 
 -- row number i, from 0

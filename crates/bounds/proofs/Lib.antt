@@ -1,4 +1,5 @@
 pub mod Refusals
+pub mod Tables
 pub mod Editions
 pub mod Answers
 pub mod Bands

@@ -2,7 +2,7 @@
 ghost use mathlib.Core.Path.{_≡_};
 ghost use mathlib.Core.List.{[]};
 ghost use Prim.Native.Nat.{ℕ, _≤_};
-ghost use lib.ListN.{length};
+ghost use lib.ListN.{length, take};
 ghost use Rattle.bounds.specs.Edition.{whole, outside, firstOutside, shapedOf, cellsOf, boundsOf, checkOf, recordOf};
 
 pub mod band;
@@ -109,14 +109,14 @@ fn unshaped(number: u32, detail: u64) -> Shaped
     }
 }
 
-// The bounds in 24 cells, with zeros behind them.
-fn pack(upper: &[u8]) -> [u8; 24]
-    requires { ⌜ length (now upper) ≤ 24 ⌝ }
-    ensures { λ r. ⌜ r ≡ cellsOf (now (upper .entry)) ⌝ }
+// A list in 24 cells, with zeros behind it; of a longer one, the first 24.
+pub fn pack(upper: &[u8]) -> [u8; 24]
+    ensures { λ r. ⌜ r ≡ cellsOf (take 24 (now (upper .entry))) ⌝ }
 {
+    let n = walsh::lesser(upper.len(), 24);
     let mut cells = [0u8; 24];
     let mut i = 0;
-    while i < upper.len() {
+    while i < n {
         cells[i] = upper[i];
         i += 1;
     }

@@ -16,6 +16,13 @@ pub struct Listed {
     pub at: usize,
 }
 
+// An edition's number of parts and total, and where it ends.
+pub struct Bounded {
+    pub parts: usize,
+    pub total: u32,
+    pub at: usize,
+}
+
 fn is_digit(b: u8) -> bool {
     if b < 48 { false } else { b < 58 }
 }
@@ -91,7 +98,24 @@ pub fn part(s: &[u8], n: usize) -> &[u8] {
     &s[..n]
 }
 
-// The low 32 bits.
-pub fn low(n: u64) -> u32 {
-    (n % 4294967296) as u32
+// The next list and number: the upper bounds of an edition, and its total.
+pub fn bounded_by(s: &[u8], from: usize, upper: &mut [u8]) -> Bounded
+    ensures { λ r. ⌜ from ≤ r .at ⌝ }
+{
+    let m = list(s, from, upper);
+    let total = number(s, m.at);
+    Bounded {
+        parts: m.len,
+        total: (total.value % 4294967296) as u32,
+        at: total.at,
+    }
+}
+
+// The first n bytes, to be written, or all.
+pub fn lent(s: &mut [u8], n: u64) -> &mut [u8] {
+    if (s.len() as u64) < n {
+        return s;
+    }
+    let size = n as usize;
+    &mut s[..size]
 }

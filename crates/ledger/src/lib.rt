@@ -1,0 +1,277 @@
+// The ledger (document 01, "The register"): open, peek, claim and void, on a record by value and an order column that the caller lends. What a
+// list of such calls guarantees is `from-opening` in crate `model`, proofs/Whole.antt; crate `replay` runs a whole list under it.
+use bounds::Bounds;
+use model::Answer;
+use model::Claimed;
+use model::Ledger;
+use model::Opened;
+ghost use mathlib.Core.Path.{_≡_};
+ghost use mathlib.Core.Bool.{true};
+ghost use Prim.Native.Nat.{_+_, _≤_, _<_};
+ghost use lib.ListN.{length, take};
+ghost use Rattle.model.specs.Basics.{indexOf};
+ghost use Rattle.model.specs.Model.{Call, blank, answer};
+ghost use Rattle.model.specs.Record.{compositionsOf, nextComposition, blankLedger, opening, written, consistent, answered, calling, entriesOf};
+ghost use Rattle.ledger.specs.Check.{entering};
+
+mod check;
+
+// ---- opening
+
+fn unopened(number: u32, detail: u64) -> Opened
+    ensures { λ r. ⌜ r ≡ record { number = number; detail = detail; ledger = blankLedger } ⌝ }
+{
+    let bounds = Bounds {
+        parts: 0,
+        upper: [0; 24],
+        total: 0,
+    };
+    let ledger = Ledger {
+        bounds,
+        entries: 0,
+        sold: 0,
+        voided: 0,
+        next: [0; 24],
+    };
+    Opened {
+        number,
+        detail,
+        ledger,
+    }
+}
+
+// A ledger without entries. No entry of the column is written.
+pub fn open(upper: &[u8], total: u32, orders: &[u32]) -> Opened
+    ensures { λ r. ⌜ r ≡ opening (now (upper .entry)) total (now (orders .entry)) ⌝ }
+{
+    let first = rank::locate(upper, total, 1);
+    if 0 < first.number {
+        return unopened(first.number, first.detail);
+    }
+    if 1000000 < first.count {
+        return unopened(14, 0);
+    }
+    if orders.len() < first.count as usize {
+        return unopened(15, 0);
+    }
+    let bounds = Bounds {
+        parts: upper.len(),
+        upper: bounds::pack(upper),
+        total,
+    };
+    let next = first.composition;
+    let ledger = Ledger {
+        bounds,
+        entries: 0,
+        sold: 0,
+        voided: 0,
+        next,
+    };
+    Opened {
+        number: 0,
+        detail: 0,
+        ledger,
+    }
+}
+
+// ---- answers
+
+fn refused(number: u32, detail: u64) -> Answer
+    ensures { λ r. ⌜ r ≡ record { number = number; detail = detail; serial = 0; composition = blank } ⌝ }
+{
+    Answer {
+        number,
+        detail,
+        serial: 0,
+        composition: [0; 24],
+    }
+}
+
+// The next serial with its composition, which the record holds.
+fn accepted(ledger: Ledger) -> Answer
+    requires { ⌜ ledger .entries < 1000000 ⌝ }
+    ensures { λ r. ⌜ r ≡ record { number = 0; detail = 0; serial = ledger .entries + 1; composition = ledger .next } ⌝ }
+{
+    let composition = ledger.next;
+    Answer {
+        number: 0,
+        detail: 0,
+        serial: ledger.entries + 1,
+        composition,
+    }
+}
+
+// document 01: look. The next serial with its composition; nothing is reserved.
+pub fn peek(ledger: Ledger, orders: &[u32]) -> Answer
+    ensures { λ r. ⌜ r ≡ answered ledger (now (orders .entry)) Call.peek ⌝ }
+{
+    let seen = check::examine(ledger, orders, 0);
+    if !seen.fits {
+        return refused(16, 0);
+    }
+    if seen.count <= ledger.entries {
+        return refused(21, 0);
+    }
+    accepted(ledger)
+}
+
+fn wide(x: u32) -> u64
+    ensures { λ r. ⌜ r ≡ x ⌝ }
+{
+    x as u64
+}
+
+// The checks of a serial, 6, 18 and 19, which are those of a void.
+fn place(ledger: Ledger, orders: &[u32], count: u64, serial: u64) -> Answer
+    requires { ⌜ (consistent ledger (now orders) ≡ true) × (count ≡ length (compositionsOf (ledger .bounds))) ⌝ }
+    ensures { λ r. ⌜ r ≡ answer (compositionsOf (ledger .bounds)) (written ledger (now (orders .entry))) (Call.void serial) ⌝ }
+{
+    if serial == 0 {
+        return refused(6, 0);
+    }
+    if count < serial {
+        return refused(6, 0);
+    }
+    let entries = ledger.entries;
+    if serial <= entries {
+        let at = (serial - 1) as usize;
+        return refused(18, wide(orders[at]));
+    }
+    if entries + 1 < serial {
+        return refused(19, entries + 1);
+    }
+    accepted(ledger)
+}
+
+// The lowest place among the first n entries at which the order stands; n where it does not.
+fn find(orders: &[u32], n: usize, order: u32) -> usize
+    requires { ⌜ n ≤ length (now orders) ⌝ }
+    ensures { λ r. ⌜ r ≡ indexOf order (take n (now (orders .entry))) ⌝ }
+{
+    let mut i: usize = 0;
+    while i < n {
+        if orders[i] == order {
+            return i;
+        }
+        i += 1;
+    }
+    n
+}
+
+fn claim_answer(ledger: Ledger, orders: &[u32], serial: u64, order: u32) -> Answer
+    ensures { λ r. ⌜ r ≡ answered ledger (now (orders .entry)) (Call.claim serial order) ⌝ }
+{
+    let seen = check::examine(ledger, orders, order);
+    if !seen.fits {
+        return refused(16, 0);
+    }
+    if order == 0 {
+        return refused(17, 0);
+    }
+    let placed = place(ledger, orders, seen.count, serial);
+    if placed.number != 0 {
+        return placed;
+    }
+    if 0 < seen.hits {
+        let at = find(orders, ledger.entries as usize, order);
+        return refused(20, at as u64 + 1);
+    }
+    placed
+}
+
+fn void_answer(ledger: Ledger, orders: &[u32], serial: u64) -> Answer
+    ensures { λ r. ⌜ r ≡ answered ledger (now (orders .entry)) (Call.void serial) ⌝ }
+{
+    let seen = check::examine(ledger, orders, 0);
+    if !seen.fits {
+        return refused(16, 0);
+    }
+    place(ledger, orders, seen.count, serial)
+}
+
+// ---- what an accepted call writes
+
+// The composition after the record's, by one step; the last stays.
+fn following(ledger: Ledger) -> [u8; 24]
+    requires { ⌜ (ledger .bounds .parts ≤ 24)
+        × (ledger .next ≡ nextComposition (compositionsOf (ledger .bounds)) (ledger .entries))
+        × (ledger .entries < length (compositionsOf (ledger .bounds))) ⌝ }
+    ensures { λ r. ⌜ r ≡ nextComposition (compositionsOf (ledger .bounds)) (ledger .entries + 1) ⌝ }
+{
+    let bounds = ledger.bounds;
+    let n = bounds.parts;
+    let upper = bounds.upper;
+    let mut cells = ledger.next;
+    step::advance(&upper[..n], bounds.total, &mut cells[..n]);
+    cells
+}
+
+// The order in the next entry, and the record that counts it.
+fn enter(
+    ledger: Ledger,
+    orders: &mut [u32],
+    answer: Answer,
+    order: u32,
+    sold: u64,
+    voided: u64,
+) -> Claimed
+    requires { ⌜ (consistent ledger (now orders) ≡ true) × (ledger .entries < length (compositionsOf (ledger .bounds))) ⌝ }
+    ensures { λ r. ⌜ (r, now (orders .exit)) ≡ entering ledger (now (orders .entry)) answer order sold voided ⌝ }
+{
+    let at = ledger.entries as usize;
+    orders[at] = order;
+    let bounds = ledger.bounds;
+    let next = following(ledger);
+    let after = Ledger {
+        bounds,
+        entries: ledger.entries + 1,
+        sold,
+        voided,
+        next,
+    };
+    Claimed {
+        answer,
+        ledger: after,
+    }
+}
+
+// document 01: take. The serial for an order; a refused one changes neither the record nor the column.
+pub fn claim(ledger: Ledger, orders: &mut [u32], serial: u64, order: u32) -> Claimed
+    ensures { λ r. ⌜ (r, now (orders .exit)) ≡ calling ledger (now (orders .entry)) (Call.claim serial order) ⌝ }
+{
+    let answer = claim_answer(ledger, orders, serial, order);
+    if answer.number != 0 {
+        return Claimed { answer, ledger };
+    }
+    enter(
+        ledger,
+        orders,
+        answer,
+        order,
+        ledger.sold + 1,
+        ledger.voided,
+    )
+}
+
+// document 01: spoil. The serial for no order.
+pub fn void(ledger: Ledger, orders: &mut [u32], serial: u64) -> Claimed
+    ensures { λ r. ⌜ (r, now (orders .exit)) ≡ calling ledger (now (orders .entry)) (Call.void serial) ⌝ }
+{
+    let answer = void_answer(ledger, orders, serial);
+    if answer.number != 0 {
+        return Claimed { answer, ledger };
+    }
+    enter(ledger, orders, answer, 0, ledger.sold, ledger.voided + 1)
+}
+
+// The entries so far, as the beginning of the lent column itself; none where number 16 holds.
+pub fn entries(ledger: Ledger, orders: &[u32]) -> &[u32]
+    ensures { λ r. ⌜ (now r ≡ entriesOf ledger (now (orders .entry))) × (r .ptr ≡ orders .entry .ptr) ⌝ }
+{
+    let seen = check::examine(ledger, orders, 0);
+    if !seen.fits {
+        return &orders[..0];
+    }
+    let n = ledger.entries as usize;
+    &orders[..n]
+}

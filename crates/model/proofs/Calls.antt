@@ -1,0 +1,137 @@
+-- Laws of one call of the model: what an accepted answer says, and which numbers an answer can have.
+use mathlib.Core.Path.{_≡_, refl, sym, ap, _∙_}
+use mathlib.Core.Logic.{_≢_, _↔_}
+use mathlib.Core.Bool.{true, false}
+use mathlib.Core.List.{List, [], _∷_, _++_}
+use Prim.Native.Nat.{ℕ, _+_, _-_, _≤_, _<_}
+use native.Mathlib.Omega.{arith}
+use lib.Dec.{eqb, ltb}
+use lib.ListN.{length, getD}
+use borrow.Author.Tests.{ltb-false, lt-ltb, le-ltb, eqb-true, eqb-false}
+use Rattle.walsh.specs.Tests.{either}
+use Rattle.walsh.proofs.Cases.{on-test, on-less}
+use Rattle.bounds.specs.Refusal.{Check, check, firstRefusal}
+use Rattle.bounds.specs.declared.Refusal.{Refusal}
+use Rattle.bounds.proofs.Editions.{neither}
+use Rattle.bounds.proofs.Refusals.{numbered, passed, refusal-here, refusal-next, is-accepted}
+use Rattle.bounds.proofs.Tables.{refusal-lacks, not-here}
+use Rattle.model.specs.declared.Answer.{Answer}
+use Rattle.model.specs.Basics.{indexOf}
+use Rattle.model.specs.Model.{Call, peek, claim, void, next, compositionAt, placeChecks, callChecks, granted, answerBy, answer, accepted}
+use Rattle.model.specs.Trace.{writes, named}
+
+-- the accepted answer with serial s
+abbrev pub given : List (List ℕ) → ℕ → Answer
+given gs s = record { number = 0; detail = 0; serial = s; composition = compositionAt gs s }
+
+-- an answer has the number of its refusal
+pub answer-number : (v : Refusal) (gs : List (List ℕ)) (s : ℕ) → answerBy v gs s .number ≡ v .number
+answer-number v gs s = on-test (eqb (v .number) 0) (λ t. rw t (sym (eqb-true (v .number) 0 t))) (λ t. rw t)
+
+module _ (c : Check) (cs : List Check) where
+  number-here : c .holds ≡ true → firstRefusal (c ∷ cs) .number ≡ c .number
+  number-here t = ap (λ (v : Refusal). v .number) (refusal-here c cs t)
+
+  number-next : c .holds ≡ false → firstRefusal (c ∷ cs) .number ≡ firstRefusal cs .number
+  number-next t = ap (λ (v : Refusal). v .number) (refusal-next c cs t)
+
+module _ (gs : List (List ℕ)) (l : List ℕ) where
+  accepting : (c : Call) → accepted (answer gs l c) ≡ true
+      → (firstRefusal (callChecks gs l c) .number ≡ 0) × (answer gs l c ≡ given gs (granted gs l c))
+  unfolding answer
+  accepting c t =
+      is-accepted (firstRefusal (callChecks gs l c)) _ _ (λ (x : Answer). x .number) (λ (x : Answer). x .detail) refl refl refl _ refl
+      (eqb-true (answer gs l c .number) 0 t)
+
+  -- a serial that its checks accept, and what stands behind them
+  pub record InTurn (s : ℕ) (rest : List Check) : Type 0 where
+    pub serial : s ≡ next l
+    pub room : next l ≤ length gs
+    pub rest-accepts : firstRefusal rest .number ≡ 0
+
+  pub in-turn : (s : ℕ) (rest : List Check) → numbered rest ≡ true → firstRefusal (placeChecks gs l s ++ rest) .number ≡ 0 → InTurn s rest
+  in-turn s rest n e =
+      let p6 = passed _ _ n e in
+      let p18 = passed _ _ n (p6 .2) in
+      let p19 = passed _ _ n (p18 .2) in
+      let h6 = ltb-false (length gs) s (neither (eqb s 0) (ltb (length gs) s) (p6 .0) .1) in
+      let h18 = ltb-false s (next l) (p18 .0) in
+      let h19 = ltb-false (next l) s (p19 .0) in
+      record { serial = omega arith; room = omega arith; rest-accepts = p19 .2 }
+
+  -- what is known of an accepted call
+  pub record Grant (c : Call) : Type 0 where
+    pub reply : answer gs l c ≡ given gs (next l)
+    pub room : next l ≤ length gs
+    pub serial : writes c ≡ true → named c ≡ next l
+
+  pub grant : (c : Call) → accepted (answer gs l c) ≡ true → Grant c
+  grant peek t =
+      let a = accepting peek t in
+      record { reply = a .1; room = ltb-false _ _ (passed _ _ refl (a .0) .0); serial = λ w. cc }
+  grant (claim s o) t =
+      let a = accepting (claim s o) t in
+      let p = in-turn s (check 20 (ltb (indexOf o l) (length l)) (indexOf o l + 1) ∷ []) refl (passed _ _ refl (a .0) .2) in
+      record { reply = a .1 ∙ ap (given gs) (p .serial); room = p .room; serial = λ w. p .serial }
+  grant (void s) t =
+      let a = accepting (void s) t in
+      let p = in-turn s [] refl (a .0) in
+      record { reply = a .1 ∙ ap (given gs) (p .serial); room = p .room; serial = λ w. p .serial }
+
+  -- an accepted claim is for an order other than 0
+  pub for-an-order : (s o : ℕ) → accepted (answer gs l (claim s o)) ≡ true → o ≢ 0
+  for-an-order s o t = eqb-false o 0 (passed _ _ refl (accepting (claim s o) t .0) .0)
+
+  -- ---- which number an answer has
+
+  number-of : (c : Call) → answer gs l c .number ≡ firstRefusal (callChecks gs l c) .number
+  unfolding answer
+  number-of c = answer-number (firstRefusal (callChecks gs l c)) gs (granted gs l c)
+
+  pub not-16 : (c : Call) → answer gs l c .number ≢ 16
+  not-16 peek = rw (number-of peek) (refusal-lacks 16 (callChecks gs l peek) (omega arith) refl)
+  not-16 (claim s o) = rw (number-of (claim s o)) (refusal-lacks 16 (callChecks gs l (claim s o)) (omega arith) refl)
+  not-16 (void s) = rw (number-of (void s)) (refusal-lacks 16 (callChecks gs l (void s)) (omega arith) refl)
+
+  -- a peek where serials are left
+  pub peek-open : next l ≤ length gs → answer gs l peek ≡ given gs (next l)
+  unfolding answer firstRefusal
+  peek-open h = rw (le-ltb (length gs) (next l) h)
+
+  -- a peek answers 21 where every composition is written
+  pub peek-21 : (answer gs l peek .number ≡ 21) ↔ (length gs < next l)
+  peek-21 =
+      let c = check 21 (ltb (length gs) (next l)) 0 in
+      rw (number-of peek) (
+        (λ e.
+            on-less (length gs) (next l) (λ h t. h)
+            (λ h t. absurd (refusal-lacks 21 [] (omega arith) refl (sym (number-next c [] t) ∙ e)))),
+        λ h. (number-here c [] (lt-ltb _ _ h)),
+      )
+
+  -- a claim that no check before 18 refuses
+  pub already-written : (s o : ℕ)
+      → answer gs l (claim s o) .number ≢ 17
+      → answer gs l (claim s o) .number ≢ 6
+      → (answer gs l (claim s o) .number ≡ 18) ↔ ((1 ≤ s) × (s < next l))
+  already-written s o n17 n6 =
+      let e = number-of (claim s o) in
+      let h17 = not-here (check 17 (eqb o 0) 0) _ (rw e at n17) in
+      let e17 = e ∙ (number-next (check 17 (eqb o 0) 0) _ h17) in
+      let h6 = not-here (check 6 (either (eqb s 0) (ltb (length gs) s)) 0) _ (rw e17 at n6) in
+      let e6 = e17 ∙ (number-next (check 6 (either (eqb s 0) (ltb (length gs) s)) 0) _ h6) in
+      let positive : 1 ≤ s = omega (arith, eqb-false s 0 (neither (eqb s 0) (ltb (length gs) s) h6 .0)) in
+      rw e6 (decided s o positive)
+    where
+      decided : (s o : ℕ) → 1 ≤ s
+          → (firstRefusal (check 18 (ltb s (next l)) (getD l (s - 1) 0) ∷ check 19 (ltb (next l) s) (next l) ∷ check 20 (ltb (indexOf o l) (length l)) (indexOf o l + 1) ∷ []) .number ≡ 18)
+          ↔ ((1 ≤ s) × (s < next l))
+      decided s o h =
+          let c = check 18 (ltb s (next l)) (getD l (s - 1) 0) in (
+            (λ e. (
+              h,
+              on-less s (next l) (λ b t. b)
+                  (λ b t. absurd (refusal-lacks 18 _ (omega arith) refl (sym (number-next c _ t) ∙ e))),
+            )),
+            λ q. (number-here c _ (lt-ltb _ _ (q .1))),
+          )

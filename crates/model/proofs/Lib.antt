@@ -1,0 +1,11 @@
+pub mod Lists
+pub mod Cells
+pub mod Compositions
+pub mod Opening
+pub mod Calls
+pub mod Books
+pub mod Places
+pub mod Records
+pub mod Replies
+pub mod Simulation
+pub mod Whole

@@ -1,0 +1,157 @@
+-- Laws of the record and the column: what number 16 tests, and what a call leaves.
+use mathlib.Core.Path.{_≡_, refl, sym, ap}
+use mathlib.Core.Logic.{_≢_}
+use mathlib.Core.Bool.{Bool, true, false, not, false≢true}
+use mathlib.Core.List.{List, [], _∷_}
+use Prim.Native.Nat.{ℕ, zero, suc, _-_, _≤_}
+use native.Mathlib.Omega.{arith}
+use lib.ListN.{length, getD, set}
+use lib.Seq.{length-take-le}
+use borrow.Author.Tests.{ltb-false, leb-true, le-leb, eqb-true, eq-eqb, ne-eqb}
+use Rattle.walsh.specs.Serial.{same}
+use Rattle.walsh.specs.Tests.{both}
+use Rattle.walsh.proofs.Serials.{same-eq}
+use Rattle.bounds.specs.Refusal.{check, firstRefusal}
+use Rattle.bounds.specs.Edition.{recordChecks, cellsOf}
+use Rattle.bounds.specs.declared.Refusal.{Refusal}
+use Rattle.bounds.proofs.Refusals.{passed, refusal-here, refusal-next}
+use Rattle.model.specs.declared.Answer.{Answer}
+use Rattle.model.specs.declared.Claimed.{Claimed}
+use Rattle.model.specs.declared.Ledger.{Ledger}
+use Rattle.model.specs.Basics.{zeros, nonzeros, all}
+use Rattle.model.specs.Model.{Call, blank, granted, answerBy, answer}
+use Rattle.model.specs.Record.{upperOf, compositionsOf, nextComposition, written, tests, consistent, answered, counted, entered, recordAfter, columnAfter, calling, entriesOf}
+use Rattle.model.proofs.Lists.{zeros-or-not}
+
+-- ---- number 16
+
+abbrev Holds : List Bool → Type 0
+Holds [] = Unit
+Holds (b ∷ bs) = (b ≡ true) × Holds bs
+
+each : (bs : List Bool) → all bs ≡ true → Holds bs
+each [] t = tt
+each (true ∷ bs) t = (refl, each bs t)
+each (false ∷ bs) t = absurd (false≢true t)
+
+one-fails : (i : ℕ) (bs : List Bool) → getD bs i true ≡ false → all bs ≡ false
+one-fails i [] e = absurd (false≢true (sym e))
+one-fails zero (b ∷ bs) e = rw e
+one-fails (suc i) (true ∷ bs) e = one-fails i bs e
+one-fails (suc i) (false ∷ bs) e = refl
+
+-- what a record and a column meet that belong together
+pub record Consistent (r : Ledger) (col : List ℕ) : Type 0 where
+  pub sound : firstRefusal (recordChecks (r .bounds)) .number ≡ 0
+  pub small : length (compositionsOf (r .bounds)) ≤ 1000000
+  pub room : length (compositionsOf (r .bounds)) ≤ length col
+  pub entries : r .entries ≤ length (compositionsOf (r .bounds))
+  pub sold : r .sold ≡ nonzeros (written r col)
+  pub voided : r .voided ≡ zeros (written r col)
+  pub next : r .next ≡ nextComposition (compositionsOf (r .bounds)) (r .entries)
+  pub spare : r .bounds .upper ≡ cellsOf (upperOf (r .bounds))
+  pub few : r .bounds .parts ≤ 24
+  pub length-written : length (written r col) ≡ r .entries
+  pub few-sold : r .sold ≤ 1000000
+  pub few-voided : r .voided ≤ 1000000
+
+-- a refused answer
+abbrev pub refusedWith : ℕ → ℕ → Answer
+refusedWith n d = record { number = n; detail = d; serial = 0; composition = blank }
+
+module _ (r : Ledger) (col : List ℕ) where
+  abbrev gs : List (List ℕ)
+  gs = compositionsOf (r .bounds)
+
+  pub parts : consistent r col ≡ true → Consistent r col
+  unfolding consistent
+  parts t =
+      let p = each (tests r col) t in
+      let h1 = eqb-true (firstRefusal (recordChecks (r .bounds)) .number) 0 (p .0) in
+      let h2 = leb-true (length gs) 1000000 (p .1 .0) in
+      let h3 = leb-true (length gs) (length col) (p .1 .1 .0) in
+      let h4 = leb-true (r .entries) (length gs) (p .1 .1 .1 .0) in
+      let h5 = eqb-true (r .sold) (nonzeros (written r col)) (p .1 .1 .1 .1 .0) in
+      let h6 = eqb-true (r .voided) (zeros (written r col)) (p .1 .1 .1 .1 .1 .0) in
+      let n = length-take-le (r .entries) col (omega arith) in
+      let both = zeros-or-not (written r col) in
+      record {
+        sound = h1;
+        small = h2;
+        room = h3;
+        entries = h4;
+        sold = h5;
+        voided = h6;
+        next = same-eq (r .next) (nextComposition gs (r .entries)) (p .1 .1 .1 .1 .1 .1 .0);
+        spare = same-eq (r .bounds .upper) (cellsOf (upperOf (r .bounds))) (p .1 .1 .1 .1 .1 .1 .1 .0);
+        few = ltb-false 24 (r .bounds .parts) (passed _ _ refl h1 .0);
+        length-written = n;
+        few-sold = omega arith;
+        few-voided = omega arith;
+      }
+
+  -- a test that fails, by its place
+  pub fails : (i : ℕ) → getD (tests r col) i true ≡ false → consistent r col ≡ false
+  unfolding consistent
+  fails i e = one-fails i (tests r col) e
+
+  pub together :
+      firstRefusal (recordChecks (r .bounds)) .number ≡ 0
+      → length gs ≤ 1000000
+      → length gs ≤ length col
+      → r .entries ≤ length gs
+      → r .sold ≡ nonzeros (written r col)
+      → r .voided ≡ zeros (written r col)
+      → same (r .next) (nextComposition gs (r .entries)) ≡ true
+      → same (r .bounds .upper) (cellsOf (upperOf (r .bounds))) ≡ true
+      → consistent r col ≡ true
+  unfolding consistent
+  together h1 h2 h3 h4 h5 h6 h7 h8 =
+      rw (
+        eq-eqb (firstRefusal (recordChecks (r .bounds)) .number) 0 h1,
+        le-leb (length gs) 1000000 h2,
+        le-leb (length gs) (length col) h3,
+        le-leb (r .entries) (length gs) h4,
+        eq-eqb (r .sold) (nonzeros (written r col)) h5,
+        eq-eqb (r .voided) (zeros (written r col)) h6,
+        h7,
+        h8,
+      )
+
+  -- the entries that are no zeros
+  pub sold-of : r .entries ≤ length col → nonzeros (written r col) ≡ r .entries - zeros (written r col)
+  sold-of h = omega (arith, zeros-or-not (written r col), length-take-le (r .entries) col h)
+
+  -- ---- the calls
+
+  module _ (c : Call) where
+    pub answered-16 : consistent r col ≡ false → answered r col c ≡ refusedWith 16 0
+    unfolding answered
+    answered-16 f =
+        ap (λ (v : Refusal). answerBy v gs (granted gs (written r col) c)) (refusal-here (check 16 (not (consistent r col)) 0) _ (ap not f))
+
+    -- where a record and a column belong together, the answer is the model's over the lines written
+    pub answered-by : consistent r col ≡ true → answered r col c ≡ answer gs (written r col) c
+    unfolding answered answer
+    answered-by t =
+        ap (λ (v : Refusal). answerBy v gs (granted gs (written r col) c)) (refusal-next (check 16 (not (consistent r col)) 0) _ (ap not t))
+
+    module _ (a : Answer) (e : a ≡ answered r col c) where
+      pub calling-refused : a .number ≢ 0 → _≡_ {A = Claimed × List ℕ} (record { answer = a; ledger = r }, col) (calling r col c)
+      unfolding calling recordAfter columnAfter
+      calling-refused n = rw (← e, ne-eqb (a .number) 0 n)
+
+      pub calling-accepted : (r′ : Ledger) (x : ℕ) → a .number ≡ 0 → r′ ≡ counted r c → entered col c ≡ set col (r .entries) x
+          → _≡_ {A = Claimed × List ℕ} (record { answer = a; ledger = r′ }, set col (r .entries) x) (calling r col c)
+      unfolding calling recordAfter columnAfter
+      calling-accepted r′ x n p q = rw (← e, eq-eqb (a .number) 0 n, p, q)
+
+  -- ---- the lines so far
+
+  pub entries-none : consistent r col ≡ false → [] ≡ entriesOf r col
+  unfolding entriesOf
+  entries-none f = rw f
+
+  pub entries-some : consistent r col ≡ true → written r col ≡ entriesOf r col
+  unfolding entriesOf
+  entries-some t = rw t

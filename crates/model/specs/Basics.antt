@@ -1,0 +1,45 @@
+-- Counts and places in lists, which the ledger's definitions are made of.
+use mathlib.Core.Path.{_≡_}
+use mathlib.Core.Bool.{Bool, true, cond}
+use mathlib.Core.List.{List, [], _∷_, _++_}
+use Prim.Native.Nat.{ℕ, zero, suc, _<_}
+use lib.Dec.{eqb}
+use lib.ListN.{length, getD, drop}
+use Rattle.walsh.specs.Tests.{both}
+
+-- how many entries are 0
+abbrev pub zeros : List ℕ → ℕ
+zeros [] = 0
+zeros (zero ∷ l) = suc (zeros l)
+zeros (suc n ∷ l) = zeros l
+
+-- how many are not
+abbrev pub nonzeros : List ℕ → ℕ
+nonzeros [] = 0
+nonzeros (zero ∷ l) = nonzeros l
+nonzeros (suc n ∷ l) = suc (nonzeros l)
+
+-- the first place of x, from 0; the length where x does not stand in the list
+abbrev pub indexOf : ℕ → List ℕ → ℕ
+indexOf x [] = 0
+indexOf x (y ∷ l) = cond (eqb y x) 0 (suc (indexOf x l))
+
+-- every test holds
+abbrev pub all : List Bool → Bool
+all [] = true
+all (b ∷ bs) = both b (all bs)
+
+-- a list whose beginning is replaced by l
+abbrev pub over : List ℕ → List ℕ → List ℕ
+over col l = l ++ drop (length l) col
+
+-- no entry stands at two places; d is what getD answers past the end
+pub record Distinct {A : Type 0} (d : A) (l : List A) : Type 0 where
+  pub same-place : (i j : ℕ) → i < length l → j < length l → getD l i d ≡ getD l j d → i ≡ j
+
+-- x stands at one place of l and no other
+pub record Once {A : Type 0} (d x : A) (l : List A) : Type 0 where
+  pub place : ℕ
+  pub inside : place < length l
+  pub there : getD l place d ≡ x
+  pub alone : (j : ℕ) → j < length l → getD l j d ≡ x → j ≡ place

@@ -1,0 +1,5 @@
+pub mod Basics
+pub mod Model
+pub mod Record
+pub mod Trace
+pub mod Whole
