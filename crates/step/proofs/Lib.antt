@@ -7,4 +7,3 @@ pub mod Steps
 pub mod Runs
 pub mod Copies
 pub mod Batches
-pub mod Located

@@ -1,11 +1,10 @@
 -- `step::batch::onward` meets its contract.
-use mathlib.Core.Path.{_≡_, sym, ap, _∙_}
+use mathlib.Core.Path.{_≡_, sym, _∙_}
 use mathlib.Core.List.{List}
 use Prim.Native.Nat.{ℕ, _<_}
 use native.Mathlib.Omega.{arith}
 use lib.ListN.{length, set, length-set}
 use borrow.Author.Needs.{needs}
-use Rattle.step.specs.Run.{shown}
 use Rattle.step.proofs.Runs.{moves-to, run-next, set-two, two-parts}
 use Rattle.step.proofs.Copies.{turn-next}
 use Rattle.step.proofs.batch.onward.Statement.{statement}

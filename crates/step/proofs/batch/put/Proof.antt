@@ -1,7 +1,4 @@
 -- `step::batch::put` meets its contract.
-use mathlib.Core.Path.{_≡_, ap, _∙_}
-use native.Mathlib.Omega.{arith}
-use lib.ListN.{length, set}
 use borrow.Author.Needs.{needs}
 use Rattle.step.proofs.Runs.{set-two}
 use Rattle.step.proofs.batch.put.Statement.{statement}
