@@ -4,7 +4,6 @@ pub mod Ways
 pub mod Answers
 pub mod Cells
 pub mod Steps
-pub mod Riding
+pub mod Runs
 pub mod Copies
 pub mod Batches
-pub mod Located

@@ -151,7 +151,7 @@ fn write_runs(upper: &[u8], total: usize, first: [u8; 24], copies: u64, out: &mu
         let end = at + n;
         put(run, &parts[..n], &mut out[at..end]);
         run = onward(upper, total, run, &mut parts[..n]);
-        at = end;
+        at += n;
         j += 1;
     }
 }

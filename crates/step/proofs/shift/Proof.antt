@@ -8,7 +8,7 @@ use lib.ListN.{length, take, drop, replicate, length-append}
 use lib.Seq.{length-take-le, take-at}
 use borrow.Author.Needs.{needs}
 use Rattle.step.specs.Turn.{Turned}
-use Rattle.step.proofs.Cells.{in-cells}
+use Rattle.step.proofs.Cells.{replaced}
 use Rattle.step.proofs.shift.Statement.{statement}
 use Rattle.step.proofs.shift.Tie as tie
 
@@ -54,7 +54,7 @@ returns c =
       on = true;
       left = t .turn .last .1 .1 .0;
       turned = rw (c .if1 .taken) at (turned-at t);
-      is = rw (in-cells (t .turn .last .1 .1 .0) (d .copy .last .1 .0) _ (copied-at d) (left-at t));
+      is = rw (replaced (t .turn .last .1 .1 .0) (d .copy .last .1 .0) _ (copied-at d) (left-at t));
     }
 
 returns-2 : tie.Need-returns-2

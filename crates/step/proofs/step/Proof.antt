@@ -4,7 +4,8 @@ use native.Mathlib.Omega.{arith}
 use borrow.Author.Needs.{needs}
 use Rattle.walsh.specs.Order.{Composition}
 use Rattle.bounds.specs.declared.Refusal.{Refusal}
-use Rattle.bounds.proofs.Editions.{Shapely, shapely, edition-shape}
+use Rattle.bounds.proofs.Editions.{Shapely}
+use Rattle.rank.proofs.Calls.{edition-shapely}
 use Rattle.step.proofs.Answers.{step-edition, step-given, step-shifted, valid}
 use Rattle.step.proofs.step.Statement.{statement}
 use Rattle.step.proofs.step.Tie as tie
@@ -23,8 +24,7 @@ returns-2 c =
 
 -- what was given is a composition of an accepted edition
 shape-at : (c : tie.Else1) → Shapely (c .before .before .before .before .before .args .upper .now) (c .before .before .before .before .before .args .total)
-shape-at c = let a = c .before .before .before .before .before .args in
-    shapely _ _ (edition-shape (a .upper .now) (a .total) (ap (λ (v : Refusal). v .number) (sym (c .before .before .refusal .ensures)) ∙ omega arith))
+shape-at c = edition-shapely _ _ (ap (λ (v : Refusal). v .number) (sym (c .before .before .refusal .ensures)) ∙ omega arith)
 
 valid-at : (c : tie.Else2) →
     let a = c .before .before .before .before .before .before .before .before .args in

@@ -1,12 +1,11 @@
 -- `step::batch::onward` meets its contract.
-use mathlib.Core.Path.{_≡_, sym, ap, _∙_}
+use mathlib.Core.Path.{_≡_, sym, _∙_}
 use mathlib.Core.List.{List}
 use Prim.Native.Nat.{ℕ, _<_}
 use native.Mathlib.Omega.{arith}
 use lib.ListN.{length, set, length-set}
 use borrow.Author.Needs.{needs}
-use Rattle.step.specs.Run.{shown}
-use Rattle.step.proofs.Riding.{moves-to, rides, set-two, two-parts}
+use Rattle.step.proofs.Runs.{moves-to, run-next, set-two, two-parts}
 use Rattle.step.proofs.Copies.{turn-next}
 use Rattle.step.proofs.batch.onward.Statement.{statement}
 use Rattle.step.proofs.batch.onward.Tie as tie
@@ -19,7 +18,7 @@ returns c =
     rw (c .moved .ensures)
     (record {
       running = moves-to (a .upper .now) (a .total) (a .run) (start .pre .4) more .running;
-      next = λ k some l is. rides (a .upper .now) (a .total) k (a .run) (a .parts .now) (start .pre .0) some l is (start .pre .4) more;
+      next = λ k some l is. run-next (a .upper .now) (a .total) k (a .run) (a .parts .now) (start .pre .0) some l is (start .pre .4) more;
     })
 
 -- the parts that are lent to the turn

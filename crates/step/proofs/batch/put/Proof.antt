@@ -1,9 +1,6 @@
 -- `step::batch::put` meets its contract.
-use mathlib.Core.Path.{_≡_, ap, _∙_}
-use native.Mathlib.Omega.{arith}
-use lib.ListN.{length, set}
 use borrow.Author.Needs.{needs}
-use Rattle.step.proofs.Riding.{set-two}
+use Rattle.step.proofs.Runs.{set-two}
 use Rattle.step.proofs.batch.put.Statement.{statement}
 use Rattle.step.proofs.batch.put.Tie as tie
 

@@ -1,7 +1,7 @@
 -- `step::batch::run_of` meets its contract.
 use mathlib.Core.Path.{refl}
 use borrow.Author.Needs.{needs}
-use Rattle.step.proofs.Riding.{run-begins}
+use Rattle.step.proofs.Runs.{run-begins}
 use Rattle.step.proofs.batch.run_of.Statement.{statement}
 use Rattle.step.proofs.batch.run_of.Tie as tie
 

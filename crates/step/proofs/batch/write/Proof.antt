@@ -5,7 +5,7 @@ use Prim.Native.Nat.{_≤_}
 use lib.ListN.{length, take}
 use lib.Seq.{length-take-le}
 use borrow.Author.Needs.{needs}
-use Rattle.step.proofs.Riding.{single-few, single-room, single-copies}
+use Rattle.step.proofs.Runs.{single-few, single-room, single-copies}
 use Rattle.step.proofs.batch.write.Statement.{statement}
 use Rattle.step.proofs.batch.write.Tie as tie
 

@@ -12,7 +12,7 @@ use Rattle.walsh.specs.Serial.{serialOf, compositionOf}
 use Rattle.walsh.proofs.Serials.{composition-serial, serial-pos}
 use Rattle.step.specs.Batch.{copiesOf}
 use Rattle.step.specs.Run.{Running, shown}
-use Rattle.step.proofs.Riding.{two-parts}
+use Rattle.step.proofs.Runs.{two-parts}
 use Rattle.step.proofs.Copies.{part-within, part-next, part-length, put-taken, copies-none, copies-next}
 use Rattle.step.proofs.batch.write_runs.Statement.{statement}
 use Rattle.step.proofs.batch.write_runs.Tie as tie
@@ -132,6 +132,7 @@ write-runs-spec =
     (λ c. omega (arith, c .before .before .before .before .before .before .before .before .before .before .before .pre .1 .few))
     (λ c. sym (front-at (c .before .before .before .before .before .before)))
     onward-requires
+    (λ c. omega (arith, within-at (c .before .before .before .before .before .before .before .before)))
     (λ c. search needs)
     (λ c. search needs)
     loop-again

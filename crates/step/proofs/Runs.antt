@@ -1,7 +1,7 @@
 -- A run goes on: part 1 moves, and the composition is the next.
 use mathlib.Core.Path.{_≡_, refl, sym, ap, _∙_, subst}
 use mathlib.Core.Bool.{Bool, true, false, cond, true≢false}
-use mathlib.Core.List.{List, [], _∷_, _++_}
+use mathlib.Core.List.{List, [], _∷_}
 use Prim.Native.Nat.{ℕ, zero, suc, _+_, _-_, _≤_, _<_, min}
 use native.Mathlib.Nat.{le-refl, add-zero, mul-one}
 use native.Mathlib.Omega.{arith}
@@ -11,12 +11,12 @@ use borrow.Author.Tests.{lt-ltb}
 use Rattle.walsh.specs.Sums.{sumTo}
 use Rattle.walsh.specs.Order.{Composition, isOdd, least, most, countOf}
 use Rattle.walsh.specs.Serial.{serialOf, compositionOf}
-use Rattle.walsh.specs.Step.{nextValue, firstOf, Pivot, stepAt}
+use Rattle.walsh.specs.Step.{nextValue, Pivot, stepAt}
 use Rattle.walsh.proofs.Complete.{composition-low}
 use Rattle.walsh.proofs.Ends.{next-low, rest-fits}
 use Rattle.walsh.proofs.Serials.{composition-is, serial-composition, composition-serial}
 use Rattle.walsh.proofs.Successors.{successor-at, successor-none}
-use Rattle.step.specs.Turn.{Moving, canMove}
+use Rattle.step.specs.Turn.{canMove}
 use Rattle.step.specs.Run.{valuesLeft, sumOf, Running, movedOf, CanMove, shown, Asked, copiesFrom}
 use Rattle.step.specs.Batch.{copiesOf}
 use Rattle.step.specs.declared.batch.Run.{Run}
@@ -134,8 +134,8 @@ module _ (ms : List ℕ) (r k : ℕ) (x : Run) (parts : List ℕ) (wide : 1 < le
       (rw u-is (next-low (least ms 1 rem) (most ms 1 rem) (isOdd (r - rem)) (x .second) (composition-low (upTo ms r g (moving ms r g valid r (le-refl r)) 1 wide)) (part-moves ms r g 1 can)))
 
   -- the next composition
-  pub rides : shown (movedOf x) parts ≡ compositionOf ms r (k + 1)
-  rides =
+  pub run-next : shown (movedOf x) parts ≡ compositionOf ms r (k + 1)
+  run-next =
       let first : y .first ≡ x .first + x .second - y .second = omega (arith, to .sum) in
       rw first (sym (step-one ms r (x .first) (x .second) (drop 2 parts) (y .second) u-is fits)
       ∙ successor-at ms r g valid 1 wide pivot .1 ∙ ap (λ (s : ℕ). compositionOf ms r (s + 1)) (ap (serialOf ms r) is ∙ serial-composition ms r k some (omega arith)))
