@@ -20,7 +20,7 @@ use Rattle.bounds.specs.declared.Refusal.{Refusal}
 use Rattle.rank.specs.Locate.{nearest, locateOf}
 use Rattle.rank.specs.declared.Located.{Located}
 use Rattle.rank.proofs.Calls.{edition-shapely, clamp-in}
-use Rattle.step.proofs.Located.{located-refused, located-accepted}
+use Rattle.rank.proofs.Locations.{located-refused, located-accepted}
 use Rattle.lines.specs.Chunk.{listChecks, text, refusedChunk, fillOf, Ready, Filled}
 use Rattle.lines.specs.declared.Chunk.{Chunk}
 use Rattle.lines.specs.declared.Piece.{Piece}
@@ -67,7 +67,7 @@ module _ (ms : List ℕ) (r s : ℕ) where
 
     module _ (z : x .number ≡ 0) where
       told : (edition .number ≡ 0) × (x .count ≡ countOf ms r) × (x .composition ≡ nearest ms r s)
-      told = located-accepted ms r s x e z
+      told = let at = located-accepted ms r s x e z in (at .0, at .1 .count, at .1 .cells)
 
       pub fill-many : (c : Chunk) (out : List ℕ) → 1000000 < x .count → c ≡ refusedChunk (refused 14 0) → (c, out) ≡ fillOf ms r s out
       fill-many c out h ec = answer 14 0 c out (by-count (told .0) (omega (arith, told .1))) (omega arith) ec

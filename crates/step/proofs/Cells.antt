@@ -9,7 +9,7 @@ use Rattle.walsh.specs.Order.{countOf}
 use Rattle.walsh.specs.Serial.{compositionOf}
 use Rattle.walsh.proofs.Serials.{composition-is}
 use Rattle.bounds.specs.Edition.{cellsOf}
-use Rattle.rank.proofs.Finds.{in-cells}
+use Rattle.bounds.proofs.Cells.{in-cells}
 
 -- one more byte is copied
 pub copy-next : (out from : List ℕ) (i : ℕ) → i < length out → i < length from → take i out ≡ take i from
