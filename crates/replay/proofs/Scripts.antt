@@ -3,15 +3,17 @@ use mathlib.Core.Path.{_≡_, refl, ap}
 use mathlib.Core.Logic.{_≢_}
 use mathlib.Core.Bool.{true}
 use mathlib.Core.List.{List, [], _∷_}
-use Prim.Native.Nat.{ℕ, zero, suc, _*_, _<_}
+use Prim.Native.Nat.{ℕ, zero, suc, _*_, _/_, _%_, _<_}
 use native.Mathlib.Nat.{le-of-suc-le-suc, not-suc-le-zero}
 use native.Mathlib.Omega.{arith}
 use lib.ListN.{length, getD}
-use borrow.Author.Tests.{eq-eqb, ne-eqb, eqb-true}
+use borrow.Author.Tests.{eq-eqb, ne-eqb, eqb-true, eqb-false}
+use lib.Dec.{eqb}
+use Rattle.walsh.proofs.Cases.{on-test}
 use Rattle.model.specs.Basics.{all}
 use Rattle.model.specs.Model.{Call, peek}
 use Rattle.model.proofs.Records.{each}
-use Rattle.replay.specs.Replay.{Script, Buffers, callOf, callsIn, sizes}
+use Rattle.replay.specs.Replay.{Script, Buffers, callOf, callsIn, sizesOf, sizes}
 
 calls-length : (ks ss os : List ℕ) → length ss ≡ length ks → length os ≡ length ks → length (callsIn ks ss os) ≡ length ks
 calls-length [] ss os p q = refl
@@ -66,3 +68,11 @@ module _ (k s o : ℕ) where
 
   pub call-void : k ≢ 0 → k ≢ 1 → callOf k s o ≡ Call.void s
   call-void n n′ = rw (ne-eqb k 0 n, ne-eqb k 1 n′)
+
+-- the slices have the lengths asked for
+pub fits-last : (k ss os n d s m : ℕ) → ss ≡ k → os ≡ k → n ≡ k → d ≡ k → s ≡ k → m % 24 ≡ 0 → eqb (m / 24) k ≡ all (sizesOf k ss os n d s m)
+fits-last k ss os n d s m e1 e2 e3 e4 e5 e6 =
+    rw (eq-eqb ss k e1, eq-eqb os k e2, eq-eqb n k e3, eq-eqb d k e4, eq-eqb s k e5)
+    (on-test (eqb (m / 24) k)
+    (λ t. let h = eqb-true (m / 24) k t in rw (t, eq-eqb m (k * 24) (omega arith)))
+    (λ t. let h = eqb-false (m / 24) k t in rw (t, ne-eqb m (k * 24) (λ e. h (omega arith)))))

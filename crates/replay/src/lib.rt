@@ -41,7 +41,14 @@ fn put_cells(compositions: &mut [u8], at: usize, cells: [u8; 24])
 }
 
 // An answer, written at place i of the buffers.
-fn put(answer: Answer, i: usize, numbers: &mut [u32], details: &mut [u64], given: &mut [u64], compositions: &mut [u8])
+fn put(
+    answer: Answer,
+    i: usize,
+    numbers: &mut [u32],
+    details: &mut [u64],
+    given: &mut [u64],
+    compositions: &mut [u8],
+)
     requires { ⌜ (i < length (now numbers)) × (i < length (now details)) × (i < length (now given)) × (i * 24 + 24 ≤ length (now compositions)) ⌝ }
     ensures { λ _.
         ⌜ Put answer i (now (numbers .entry)) (now (numbers .exit)) (now (details .entry)) (now (details .exit)) (now (given .entry))
@@ -66,8 +73,7 @@ fn run(
     given: &mut [u64],
     compositions: &mut [u8],
 ) -> Ledger
-    requires {
-        ⌜ all (sizes (record { calls = now calls; serials = now serials; orders = now orders })
+    requires { ⌜ all (sizes (record { calls = now calls; serials = now serials; orders = now orders })
         (record { column = now column; numbers = now numbers; details = now details; given = now given; compositions = now compositions }))
         ≡ true ⌝ }
     ensures { λ l.
@@ -90,7 +96,15 @@ fn run(
 }
 
 // Whether the slices have an entry for each call, by their lengths.
-fn fits(calls: usize, serials: usize, orders: usize, numbers: usize, details: usize, given: usize, compositions: usize) -> bool
+fn fits(
+    calls: usize,
+    serials: usize,
+    orders: usize,
+    numbers: usize,
+    details: usize,
+    given: usize,
+    compositions: usize,
+) -> bool
     ensures { λ r. ⌜ r ≡ all (sizesOf calls serials orders numbers details given compositions) ⌝ }
 {
     if serials != calls {
@@ -151,7 +165,17 @@ pub fn replay(
         return ledger::unopened(13, 0);
     }
     let first = opened.ledger;
-    let last = run(first, calls, serials, orders, column, numbers, details, given, compositions);
+    let last = run(
+        first,
+        calls,
+        serials,
+        orders,
+        column,
+        numbers,
+        details,
+        given,
+        compositions,
+    );
     Opened {
         number: 0,
         detail: 0,

@@ -1,50 +1,43 @@
+-- `replay::put_cells` meets its contract.
+use mathlib.Core.Path.{_≡_, refl, sym, ap, _∙_}
+use mathlib.Core.List.{List}
+use Prim.Native.Nat.{ℕ, _+_, _-_, _≤_}
+use native.Mathlib.Numerals.{add-one}
+use native.Mathlib.Omega.{arith}
+use lib.ListN.{length, getD, set, length-set}
+use lib.Seq.{paste, paste-zero, paste-suc}
+use denote.Ref.{now}
 use borrow.Author.Needs.{needs}
 use Rattle.replay.proofs.put_cells.Statement.{statement}
 use Rattle.replay.proofs.put_cells.Tie as tie
-use Rattle.replay.proofs.put_cells.Reads as reads
-use Rattle.replay.proofs.put_cells.Lts as lts
 
 abbrev Inv-loop : tie.InvT-loop
-Inv-loop compositions₀ at cells j₀ compositions j = ?
+Inv-loop compositions₀ at cells j₀ compositions j =
+    (j ≤ 24) × (length compositions ≡ length compositions₀) × (compositions ≡ paste compositions₀ at cells j)
 
 abbrev μ-loop : tie.MeasureT-loop
-μ-loop compositions₀ at cells j₀ compositions j = ?
+μ-loop compositions₀ at cells j₀ compositions j = 24 - j
 
--- src/lib.rt:37:5
-loop-holds : tie.Need-loop-holds Inv-loop μ-loop
-loop-holds c = search needs
-
--- src/lib.rt:38:32
-array-read-compositions : tie.Need-array-read-compositions Inv-loop μ-loop
-array-read-compositions c = search needs
-
--- src/lib.rt:38:22
-add-compositions : tie.Need-add-compositions Inv-loop μ-loop
-add-compositions c = search needs
-
--- src/lib.rt:38:9
-slice-write-compositions : tie.Need-slice-write-compositions Inv-loop μ-loop
-slice-write-compositions c = search needs
-
--- src/lib.rt:39:9
-add-j : tie.Need-add-j Inv-loop μ-loop
-add-j c = search needs
-
--- src/lib.rt:37:5
-loop-less : tie.Need-loop-less Inv-loop μ-loop
-loop-less c = search needs
-
--- src/lib.rt:37:5
 loop-again : tie.Need-loop-again Inv-loop μ-loop
-loop-again c = search needs
+loop-again c =
+    let at = c .before .loop in
+    let s = c .before .before in
+    let m = s .args .t3 in
+    let k = s .args .at + at .j in
+    let size : length m ≡ 24 = s .good .1 .1 .0 .1 .0 .1 in (
+      omega arith,
+      length-set (at .compositions) k (getD m (at .j) 0) ∙ at .inv .1,
+      ap (λ (l : List ℕ). set l k (getD m (at .j) 0)) (at .inv .2)
+          ∙ paste-suc (now (s .args .compositions)) (s .args .at) m (at .j) 0 (omega arith) (omega arith)
+          ∙ ap (paste (now (s .args .compositions)) (s .args .at) m) (sym (add-one (at .j))),
+    )
 
--- src/lib.rt:32:1
-same-length : tie.Need-same-length Inv-loop μ-loop
-same-length c = search needs
-
--- src/lib.rt:32:1
 returns : tie.Need-returns Inv-loop μ-loop
-returns c = search needs
+returns c =
+    let at = c .before .loop in
+    let s = c .before .before in
+    let done : at .j ≡ 24 = omega arith in
+    (at .inv .2 ∙ ap (paste (now (s .args .compositions)) (s .args .at) (s .args .t3)) done, s .good .1 .1 .0 .1 .0 .1)
 
 pub put-cells-spec : {M : Type 1} → statement M
 put-cells-spec =
@@ -52,12 +45,12 @@ put-cells-spec =
     (tie.spec
     Inv-loop
     μ-loop
-    loop-holds
-    array-read-compositions
-    add-compositions
-    slice-write-compositions
-    add-j
-    loop-less
+    (λ c. (omega arith, refl, paste-zero (now (c .args .compositions)) (c .args .at) (c .args .t3)))
+    (λ c. search needs)
+    (λ c. search needs)
+    (λ c. search needs)
+    (λ c. search needs)
+    (λ c. search needs)
     loop-again
-    same-length
+    (λ c. c .before .loop .inv .1)
     returns)
