@@ -2,10 +2,11 @@
 use mathlib.Core.List.{List, [], _∷_}
 use Prim.Native.Nat.{ℕ, zero, suc}
 use Rattle.walsh.specs.Order.{threeTwos, seven}
-use Rattle.boundary.specs.Row.{Claim, lists, serial, next, Row}
+use Rattle.model.specs.Model.{peek, claim, void}
+use Rattle.boundary.specs.Row.{Claim, lists, counts, refused, serial, next, answers, permutations, Row}
 
 abbrev row : List ℕ → ℕ → Claim → Row
-row ms r claim = record { bounds = ms; total = r; claim = claim }
+row ms r what = record { bounds = ms; total = r; claim = what }
 
 unfoldable pub rows : List Row
 rows =
@@ -17,12 +18,32 @@ rows =
     ∷ row threeTwos 5 (lists ((2 ∷ 2 ∷ 1 ∷ []) ∷ (2 ∷ 1 ∷ 2 ∷ []) ∷ (1 ∷ 2 ∷ 2 ∷ []) ∷ []))
     -- E: one bound of 5
     ∷ row (5 ∷ []) 5 (lists ((5 ∷ []) ∷ []))
-    -- F: bounds 2 2, the smallest total and the largest
+    ∷ row (5 ∷ []) 5 (counts 1)
+    ∷ row (5 ∷ []) 6 (refused 4)
+    -- F: bounds 2 2, from the smallest total to one over the largest
     ∷ row (2 ∷ 2 ∷ []) 0 (lists ((0 ∷ 0 ∷ []) ∷ []))
-    ∷ row (2 ∷ 2 ∷ []) 4 (lists ((2 ∷ 2 ∷ []) ∷ []))
+    ∷ row (2 ∷ 2 ∷ []) 4 (counts 1)
+    ∷ row (2 ∷ 2 ∷ []) 5 (refused 4)
     -- G: the staircase of four
     ∷ row (3 ∷ 2 ∷ 1 ∷ []) 3
     (lists ((3 ∷ 0 ∷ 0 ∷ []) ∷ (2 ∷ 1 ∷ 0 ∷ []) ∷ (1 ∷ 2 ∷ 0 ∷ []) ∷ (0 ∷ 2 ∷ 1 ∷ []) ∷ (1 ∷ 1 ∷ 1 ∷ []) ∷ (2 ∷ 0 ∷ 1 ∷ []) ∷ []))
+    ∷ row (3 ∷ 2 ∷ 1 ∷ []) 3
+    (permutations
+    ((4 ∷ 1 ∷ 2 ∷ 3 ∷ []) ∷ (3 ∷ 2 ∷ 1 ∷ 4 ∷ []) ∷ (2 ∷ 4 ∷ 1 ∷ 3 ∷ []) ∷ (1 ∷ 4 ∷ 3 ∷ 2 ∷ []) ∷ (2 ∷ 3 ∷ 4 ∷ 1 ∷ []) ∷ (3 ∷ 1 ∷ 4 ∷ 2 ∷ []) ∷ []))
+    -- H: the staircase of three
+    ∷ row (2 ∷ 1 ∷ []) 1 (permutations ((2 ∷ 1 ∷ 3 ∷ []) ∷ (1 ∷ 3 ∷ 2 ∷ []) ∷ []))
+    -- I: bounds 1 1 with total 1, two workers: look 1, look 1, take 1 for 1007, take 1 for 1014, take 2 for 1014, look
+    ∷ row (1 ∷ 1 ∷ []) 1
+    (answers
+    ((peek, 0 ∷ 0 ∷ 1 ∷ 1 ∷ 0 ∷ [])
+    ∷ (peek, 0 ∷ 0 ∷ 1 ∷ 1 ∷ 0 ∷ [])
+    ∷ (claim 1 1007, 0 ∷ 0 ∷ 1 ∷ 1 ∷ 0 ∷ [])
+    ∷ (claim 1 1014, 18 ∷ 1007 ∷ [])
+    ∷ (claim 2 1014, 0 ∷ 0 ∷ 2 ∷ 0 ∷ 1 ∷ [])
+    ∷ (peek, 21 ∷ [])
+    ∷ []))
+    -- J: the same edition: spoil 1, take 1 for 1007
+    ∷ row (1 ∷ 1 ∷ []) 1 (answers ((void 1, 0 ∷ 0 ∷ 1 ∷ 1 ∷ 0 ∷ []) ∷ (claim 1 1007, 18 ∷ 0 ∷ []) ∷ []))
     ∷ []
 
 -- row number i, from 0

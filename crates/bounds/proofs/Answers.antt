@@ -1,17 +1,22 @@
 -- The answers of specs/Edition.antt and specs/Band.antt, case by case.
 use mathlib.Core.Path.{_≡_, refl, sym, ap, _∙_}
-use mathlib.Core.Bool.{true, false}
-use mathlib.Core.List.{List, [], _∷_, _++_}
-use Prim.Native.Nat.{ℕ, _≤_, _<_}
+use mathlib.Core.List.{List, [], _∷_}
+use Prim.Native.Nat.{ℕ, suc, _≤_, _<_}
 use native.Mathlib.Omega.{arith}
 use lib.Dec.{eqb, ltb}
-use lib.ListN.{take}
+use lib.ListN.{length, take}
 use borrow.Author.Tests.{eqb-true, eqb-false, lt-ltb, le-ltb}
+use Rattle.walsh.specs.Tests.{both}
 use Rattle.walsh.specs.Order.{countOf}
-use Rattle.walsh.proofs.Cases.{on-test}
+use Rattle.walsh.proofs.Cases.{on-test, on-less}
+use Rattle.mahonian.specs.Mahonian.{inTable}
+use Rattle.mahonian.specs.Staircase.{isStaircase}
+use Rattle.mahonian.specs.Read.{staircaseCountOf}
+use Rattle.mahonian.specs.declared.Entry.{Entry}
+use Rattle.mahonian.specs.declared.Entry.the-variants.{Count, Outside}
 use Rattle.bounds.specs.Refusal.{Check, check, refused, firstRefusal}
 use Rattle.bounds.specs.Edition.{whole, shapeChecks, editionChecks, boundsOf, shapedOf, checkOf, recordChecks, recordOf}
-use Rattle.bounds.specs.Band.{bandSize, surveyOf, tableChecks, numberOf, countedOf}
+use Rattle.bounds.specs.Band.{bandSize, surveyOf, tableChecks, limited, numberOf, countedOf}
 use Rattle.bounds.specs.declared.Refusal.{Refusal}
 use Rattle.bounds.specs.declared.Shaped.{Shaped}
 use Rattle.bounds.specs.declared.Bounds.{Bounds}
@@ -93,6 +98,21 @@ module _ (ms : List ℕ) (r : ℕ) where
   numbered-accepted x e z =
       let p = is-accepted edition _ _ (λ (y : Counted). y .number) (λ (y : Counted). y .detail) refl refl refl x e z in
       (p .0, ap (λ (y : Counted). y .count) (p .1))
+
+  -- N of a shape that is accepted
+  pub number-limited : shape .number ≡ 0 → limited (countOf ms r) ≡ numberOf ms r
+  number-limited e =
+      on-less 9223372036854775807 (countOf ms r)
+      (λ l t. rw t (number-refused 5 0 (edition-over e l) (omega arith)))
+      (λ l t. rw t (number-accepted (countOf ms r) (edition-none e l) refl))
+
+  -- and of a staircase
+  pub staircase-number : (x : Entry) (n : ℕ) → x ≡ staircaseCountOf ms r → x ≡ Count n → n ≡ countOf ms r
+  unfolding staircaseCountOf
+  staircase-number x n e q =
+      on-test (both (isStaircase ms) (inTable (suc (length ms)) r))
+      (λ t. let c : x ≡ Count (countOf ms r) = rw t at e in cc)
+      (λ t. let c : x ≡ Outside = rw t at e in cc)
 
   -- the refusal alone
   pub number-refusal : (x : Counted) → x ≡ numberOf ms r → refused (x .number) (x .detail) ≡ edition

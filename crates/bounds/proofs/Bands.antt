@@ -1,22 +1,16 @@
 -- Laws of the band: every count there is at most N, what leaves a sum of the band, and the places of its cells.
-use mathlib.Core.Path.{_≡_, refl, sym, ap, _∙_, subst}
+use mathlib.Core.Path.{_≡_}
 use mathlib.Core.List.{List}
-use Prim.Native.Nat.{ℕ, zero, suc, _+_, _-_, _*_, _≤_, _<_, min, max}
+use Prim.Native.Nat.{ℕ, zero, suc, _+_, _-_, _*_, _≤_, _<_, min}
 use native.Mathlib.Omega.{arith}
-use native.Mathlib.Nat.{add-comm, le-refl}
 use native.Mathlib.Numerals.{add-one}
-use lib.ListN.{length, getD, set}
-use lib.Seq.{getD-set-same, getD-set-other}
-use Rattle.walsh.specs.Sums.{sum, sumTo}
+use lib.ListN.{length, getD}
+use Rattle.walsh.specs.Sums.{sumTo}
 use Rattle.walsh.specs.Order.{count, least, most, isOdd, partValue, partChoices}
-use Rattle.walsh.proofs.Cases.{on-less}
 use Rattle.walsh.proofs.Lists.{sum-mono, value-low, value-high}
-use Rattle.walsh.proofs.Listing.{count-none}
-use Rattle.walsh.proofs.Window.{sum-at, sum-step, sum-to-mono, count-zero, count-window, count-grows}
+use Rattle.walsh.proofs.Window.{sum-to-mono, count-grows}
 use Rattle.bounds.specs.Edition.{whole}
-use Rattle.bounds.specs.Band.{InBand, lowest, highest, width, rowStart, bandSize, cellIndex, cap, Row-holds, Rows-hold, Band, IsRow}
-use Rattle.bounds.specs.Window.{Slid}
-use Rattle.bounds.specs.declared.band.Row.{Row}
+use Rattle.bounds.specs.Band.{InBand, lowest, highest, width, rowStart, bandSize, cellIndex}
 
 module _ (ms : List ℕ) (r : ℕ) where
   -- the next part takes as much as it can of what is missing
@@ -52,9 +46,6 @@ module _ (ms : List ℕ) (r : ℕ) where
   band-value k rem t i l b h =
       band-down k rem (partValue ms k rem t i) l b (value-low (least ms k rem) (most ms k rem) (isOdd t) i h) (value-high (least ms k rem) (most ms k rem) (isOdd t) i h)
 
-  pub band-between : (k a b t : ℕ) → InBand ms r k a → InBand ms r k b → a ≤ t → t ≤ b → InBand ms r k t
-  band-between k a b t x y l h = record { low = omega (arith, x .low); high = omega (arith, y .high); inside = omega (arith, y .inside) }
-
   pub band-ends : (k t : ℕ) → lowest ms r k ≤ t → t ≤ highest ms r k → InBand ms r k t
   band-ends k t l h = record { low = omega arith; high = omega arith; inside = omega arith }
 
@@ -85,3 +76,10 @@ low-high ms r k reach l =
 
 pub whole-band : (ms : List ℕ) (r : ℕ) → r ≤ whole ms → InBand ms r (length ms) r
 whole-band ms r reach = record { low = omega arith; high = omega arith; inside = reach }
+
+-- and rises by no more than the bound
+pub low-next : (ms : List ℕ) (r k : ℕ) → k < length ms → lowest ms r (k + 1) ≤ lowest ms r k + getD ms k 0
+low-next ms r k l = rw add-one (go (whole ms) (sumTo ms k) (getD ms k 0) (sum-to-mono ms (suc k) (length ms) l))
+  where
+    go : (n a m : ℕ) → a + m ≤ n → r - (n - (a + m)) ≤ r - (n - a) + m
+    go n a m l = omega arith

@@ -1,26 +1,20 @@
 -- Laws of the place 'mix given' (specs/Places.antt): it refuses nothing exactly if a composition is given.
 use mathlib.Core.Path.{_≡_, refl, sym, ap, _∙_}
-use mathlib.Core.Bool.{Bool, true, false, cond, not}
-use mathlib.Core.Logic.{_↔_}
+use mathlib.Core.Bool.{true, false, not}
 use mathlib.Core.List.{List}
-use Prim.Native.Nat.{ℕ, suc, _+_, _-_, _≤_, _<_}
-use native.Mathlib.Numerals.{add-one}
-use native.Mathlib.Decide.{decLe}
-use native.Mathlib.Omega.{arith}
-use lib.Dec.{eqb, leb}
+use Prim.Native.Nat.{ℕ}
+use lib.Dec.{eqb}
 use lib.ListN.{length, getD}
-use borrow.Author.Tests.{eqb-true, leb-true, le-leb, lt-leb, eq-eqb, ne-eqb, not-false}
+use borrow.Author.Tests.{eqb-true, leb-true, le-leb, eq-eqb, not-false}
 use Rattle.walsh.specs.Sums.{sumTo}
-use Rattle.walsh.specs.Tests.{either, every}
+use Rattle.walsh.specs.Tests.{every}
 use Rattle.walsh.specs.Order.{Composition}
 use Rattle.walsh.proofs.Tests.{every-at}
-use Rattle.walsh.proofs.Every.{every-all, every-not}
-use Rattle.walsh.proofs.Lists.{sum-mono}
-use Rattle.bounds.specs.Refusal.{Check, refused, firstRefusal}
+use Rattle.walsh.proofs.Every.{every-all}
+use Rattle.bounds.specs.Refusal.{refused, firstRefusal}
 use Rattle.bounds.specs.Edition.{whole}
-use Rattle.bounds.specs.Places.{isWithin, isOther, compositionChecks, lentChecks, filling}
-use Rattle.bounds.specs.declared.Refusal.{Refusal}
-use Rattle.bounds.proofs.Refusals.{numbered, passed, refusal-none}
+use Rattle.bounds.specs.Places.{isWithin, isOther, compositionChecks}
+use Rattle.bounds.proofs.Refusals.{passed}
 use Rattle.bounds.proofs.Editions.{neither}
 
 -- ---- 'mix given' refuses nothing exactly if g is a composition

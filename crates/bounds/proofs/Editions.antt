@@ -1,5 +1,5 @@
 -- Laws of the definitions in specs/Edition.antt.
-use mathlib.Core.Path.{_≡_, refl, sym, ap, _∙_}
+use mathlib.Core.Path.{_≡_, refl, sym, ap}
 use mathlib.Core.Bool.{Bool, true, false, false≢true}
 use mathlib.Core.List.{List, [], _∷_, _++_}
 use Prim.Native.Nat.{ℕ, zero, suc, _+_, _-_, _≤_, _<_}
@@ -12,7 +12,7 @@ use lib.Seq.{drop-cons, take-length}
 use borrow.Author.Tests.{eqb-true, eqb-false, ltb-false}
 use Rattle.walsh.specs.Tests.{either}
 use Rattle.walsh.proofs.Cases.{on-test}
-use Rattle.bounds.specs.Refusal.{refused, firstRefusal}
+use Rattle.bounds.specs.Refusal.{firstRefusal}
 use Rattle.bounds.specs.Edition.{whole, outside, firstOutside, cellsOf, shapeChecks, editionChecks}
 use Rattle.bounds.proofs.Refusals.{passed, refusal-first}
 

@@ -1,21 +1,19 @@
 -- Laws of the code's numbers of a row, and of the cells stored so far.
-use mathlib.Core.Path.{_≡_, refl, sym, ap, _∙_, subst}
+use mathlib.Core.Path.{_≡_, sym, ap, _∙_, subst}
 use mathlib.Core.List.{List}
-use Prim.Native.Nat.{ℕ, zero, suc, _+_, _-_, _*_, _≤_, _<_, min, max}
+use Prim.Native.Nat.{ℕ, suc, _+_, _-_, _*_, _≤_, _<_, min}
 use native.Mathlib.Omega.{arith}
-use native.Mathlib.Nat.{add-comm, le-refl}
+use native.Mathlib.Nat.{add-comm}
 use native.Mathlib.Numerals.{add-one}
 use lib.ListN.{length, getD, set}
 use lib.Seq.{getD-set-same, getD-set-other}
-use Rattle.walsh.specs.Sums.{sum, sumTo}
-use Rattle.walsh.specs.Order.{count, least, most, isOdd, partValue, partChoices}
+use Rattle.walsh.specs.Sums.{sumTo}
+use Rattle.walsh.specs.Order.{count}
 use Rattle.walsh.proofs.Cases.{on-less}
-use Rattle.walsh.proofs.Lists.{sum-mono, value-low, value-high}
 use Rattle.walsh.proofs.Listing.{count-none}
-use Rattle.walsh.proofs.Window.{sum-at, sum-step, sum-to-mono, count-zero, count-window, count-grows}
+use Rattle.walsh.proofs.Window.{sum-step, sum-to-mono, count-zero}
 use Rattle.bounds.specs.Edition.{whole}
-use Rattle.bounds.specs.Band.{InBand, lowest, highest, width, rowStart, bandSize, cellIndex, cap, Row-holds, Rows-hold, Band, IsRow}
-use Rattle.bounds.specs.Window.{Slid}
+use Rattle.bounds.specs.Band.{InBand, lowest, highest, width, rowStart, bandSize, cellIndex, cap, Row-holds, Rows-hold, IsRow}
 use Rattle.bounds.specs.declared.band.Row.{Row}
 use Rattle.bounds.proofs.Bands.{start-small, cell-lt, cell-room, cell-earlier, cell-differs}
 

@@ -1,20 +1,19 @@
 -- Laws of the window that slides along a row of the band.
-use mathlib.Core.Path.{_≡_, refl, sym, ap, _∙_, subst}
+use mathlib.Core.Path.{_≡_}
 use mathlib.Core.List.{List}
-use Prim.Native.Nat.{ℕ, zero, suc, _+_, _-_, _*_, _≤_, _<_, min, max}
+use Prim.Native.Nat.{ℕ, suc, _+_, _-_, _≤_, _<_, max}
 use native.Mathlib.Omega.{arith}
-use native.Mathlib.Nat.{add-comm, le-refl}
+use native.Mathlib.Nat.{le-trans}
 use native.Mathlib.Numerals.{add-one}
-use lib.ListN.{length, getD, set}
-use lib.Seq.{getD-set-same, getD-set-other}
+use lib.ListN.{length, getD}
 use Rattle.walsh.specs.Sums.{sum, sumTo}
-use Rattle.walsh.specs.Order.{count, least, most, isOdd, partValue, partChoices}
-use Rattle.walsh.proofs.Cases.{on-less}
-use Rattle.walsh.proofs.Lists.{sum-mono, value-low, value-high}
+use Rattle.walsh.specs.Order.{count}
+use Rattle.walsh.proofs.Lists.{sum-mono}
 use Rattle.walsh.proofs.Listing.{count-none}
-use Rattle.walsh.proofs.Window.{sum-at, sum-step, sum-to-mono, count-zero, count-window, count-grows}
+use Rattle.walsh.proofs.Peel.{sum-stop}
+use Rattle.walsh.proofs.Window.{sum-at, sum-step, sum-to-mono, count-window}
 use Rattle.bounds.specs.Edition.{whole}
-use Rattle.bounds.specs.Band.{InBand, lowest, highest, width, rowStart, bandSize, cellIndex, cap, Row-holds, Rows-hold, Band, IsRow}
+use Rattle.bounds.specs.Band.{InBand, lowest, highest, IsRow}
 use Rattle.bounds.specs.Window.{Slid}
 use Rattle.bounds.specs.declared.band.Row.{Row}
 use Rattle.bounds.proofs.Bands.{band-most, band-ends}
@@ -95,6 +94,22 @@ module _ (ms : List ℕ) (r : ℕ) where
       where
         join : {c a b n : ℕ} → c + a ≡ b → sum (count ms k) (t + 1) ≤ b → a ≤ sum (count ms k) (max (lowest ms r k) (t + 1 - (getD ms k 0 + 1))) → c ≤ n → w ≤ n
         join p q x y = omega arith
+
+  -- sums that the first k parts do not reach add nothing
+  pub slid-jump : (k t u w : ℕ) → Slid ms r k t w → t ≤ u → u ≤ lowest ms r k + getD ms k 0 + 1 → sumTo ms k < t → Slid ms r k u w
+  slid-jump k t u w s l h over =
+      let m = getD ms k 0 in
+      let f = count ms k in
+      let none = sum-stop f t u l (λ i a b. count-none ms k i (omega arith)) in
+      let e = sum-at f (max (lowest ms r k) (t - (m + 1))) (lowest ms r k) (lowest-max _ _ _ (le-trans l h)) in
+      let e′ = sum-at f (max (lowest ms r k) (u - (m + 1))) (lowest ms r k) (lowest-max _ _ _ h) in
+      join s none e e′
+    where
+      lowest-max : (lo u m : ℕ) → u ≤ lo + m + 1 → max lo (u - (m + 1)) ≡ lo
+      lowest-max lo u m l = omega arith
+
+      join : {a a′ b c d : ℕ} → w + a ≡ c → d ≡ c → a ≡ b → a′ ≡ b → w + a′ ≡ d
+      join p q e e′ = omega arith
 
   pub slid-start : (k : ℕ) → Slid ms r k (lowest ms r k) 0
   slid-start k = let e = sum-at (count ms k) (max (lowest ms r k) (lowest ms r k - (getD ms k 0 + 1))) (lowest ms r k) (omega arith) in omega arith

@@ -96,6 +96,10 @@ countedBy v ms r =
     (record { number = 0; detail = 0; count = countOf ms r })
     (record { number = v .number; detail = v .detail; count = 0 })
 
+-- N of an edition whose shape is accepted
+abbrev pub limited : ℕ → Counted
+limited n = cond (ltb 9223372036854775807 n) (record { number = 5; detail = 0; count = 0 }) (record { number = 0; detail = 0; count = n })
+
 -- N, or the refusal of the edition
 unfoldable pub numberOf : List ℕ → ℕ → Counted
 numberOf ms r = countedBy (firstRefusal (editionChecks ms r)) ms r

@@ -1,6 +1,6 @@
 -- Document 01, "Editions and their number" and "Refusals by place of checking", place 'edition'. An edition is the list ms of its ceilings
 -- (bounds), n being their number, and its total r.
-use mathlib.Core.Bool.{Bool, true, false, cond}
+use mathlib.Core.Bool.{Bool, cond}
 use mathlib.Core.List.{List, [], _∷_, _++_}
 use Prim.Native.Nat.{ℕ, _+_, _-_}
 use lib.Dec.{ltb, eqb}

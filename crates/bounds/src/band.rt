@@ -8,7 +8,7 @@ ghost use Rattle.walsh.specs.Sums.{sum, sumTo};
 ghost use Rattle.walsh.specs.Order.{count};
 ghost use Rattle.bounds.specs.Edition.{whole, shapeChecks};
 ghost use Rattle.bounds.specs.Refusal.{firstRefusal};
-ghost use Rattle.bounds.specs.Band.{lowest, highest, InBand, bandSize, cap, Row-holds, Rows-hold, Band, IsRow, surveyOf, numberOf, countedOf};
+ghost use Rattle.bounds.specs.Band.{lowest, highest, InBand, bandSize, cap, Row-holds, Rows-hold, Band, IsRow, surveyOf, limited, numberOf, countedOf};
 ghost use Rattle.bounds.specs.Window.{Slid};
 
 const MOST: u64 = 9_223_372_036_854_775_807;
@@ -104,40 +104,16 @@ fn cell(upper: &[u8], total: usize, k: usize, row: Row, cells: &[u64], t: usize)
     cells[row.start + (t - row.low)]
 }
 
-// The same, and 0 above the band.
-fn cell_or_none(upper: &[u8], total: usize, k: usize, row: Row, cells: &[u64], t: usize) -> u64
-    requires { ⌜ (k ≤ length (now upper)) × (k ≤ 24) × (total ≤ 255) × (lowest (now upper) total k ≤ t) × (t ≤ total) × IsRow (now upper) total k row × (bandSize (now upper) total ≤ length (now cells)) × Row-holds (now upper) total (now cells) k 256 ⌝ }
-    ensures { λ r. ⌜ (r ≡ count (now (upper .entry)) k t) × (r < cap) ⌝ }
-{
-    if t <= row.high {
-        return cell(upper, total, k, row, cells, t);
-    }
-    0
-}
-
-// The window over row `k` moved from the sum `t` to `t + 1`.
-fn slide(upper: &[u8], total: usize, k: usize, row: Row, cells: &[u64], t: usize, w: u64) -> u64
-    requires { ⌜ (k < length (now upper)) × (k < 24) × (total ≤ 255) × (total ≤ whole (now upper)) × (lowest (now upper) total k ≤ t) × (t ≤ highest (now upper) total (k + 1)) × (w < cap) × IsRow (now upper) total k row × Slid (now upper) total k t w × (bandSize (now upper) total ≤ length (now cells)) × Row-holds (now upper) total (now cells) k 256 ⌝ }
-    ensures { λ r. ⌜ Slid (now (upper .entry)) total k (t + 1) r ⌝ }
-{
-    let m = bound(upper, k);
-    let e = cell_or_none(upper, total, k, row, cells, t);
-    if row.low + m < t {
-        let rest = w - cell(upper, total, k, row, cells, t - (m + 1));
-        return rest + e;
-    }
-    w + e
-}
-
 // The window before the first sum of the row after, or a number over 2^63 - 1.
 fn head(upper: &[u8], total: usize, k: usize, row: Row, next: Row, cells: &[u64]) -> u64
     requires { ⌜ (k < length (now upper)) × (k < 24) × (total ≤ 255) × (total ≤ whole (now upper)) × IsRow (now upper) total k row × IsRow (now upper) total (k + 1) next × (bandSize (now upper) total ≤ length (now cells)) × Row-holds (now upper) total (now cells) k 256 ⌝ }
     ensures { λ r. ⌜ (r < cap → Slid (now (upper .entry)) total k (next .low) r) × (cap ≤ r → cap ≤ count (now (upper .entry)) (length (now (upper .entry))) total) ⌝ }
 {
+    let end = walsh::lesser(next.low, row.high + 1);
     let mut w: u64 = 0;
     let mut t = row.low;
-    while t < next.low {
-        w = slide(upper, total, k, row, cells, t, w);
+    while t < end {
+        w += cell(upper, total, k, row, cells, t);
         if MOST < w {
             return w;
         }
@@ -146,7 +122,7 @@ fn head(upper: &[u8], total: usize, k: usize, row: Row, next: Row, cells: &[u64]
     w
 }
 
-// `slide` where it is known whether a cell enters the window and whether one leaves it.
+// The window over row `k` moved from the sum `t` to `t + 1`, where it is known whether a cell enters it and whether one leaves it.
 fn step(
     upper: &[u8],
     total: usize,
@@ -232,7 +208,8 @@ fn fill_row(upper: &[u8], total: usize, k: usize, row: Row, next: Row, cells: &m
     let m = bound(upper, k);
     let full = row.low + m;
     let end = next.high + 1;
-    let first = between(next.low, walsh::lesser(row.high, full), end);
+    let least = walsh::lesser(row.high, full);
+    let first = between(next.low, least, end);
     let w1 = fill_part(
         upper,
         total,
@@ -250,42 +227,8 @@ fn fill_row(upper: &[u8], total: usize, k: usize, row: Row, next: Row, cells: &m
     if MOST < w1 {
         return false;
     }
-    if full < row.high {
-        let second = between(first, row.high, end);
-        let w2 = fill_part(
-            upper,
-            total,
-            k,
-            m,
-            row,
-            next,
-            cells,
-            first,
-            second,
-            w1,
-            true,
-            true,
-        );
-        if MOST < w2 {
-            return false;
-        }
-        let w3 = fill_part(
-            upper,
-            total,
-            k,
-            m,
-            row,
-            next,
-            cells,
-            second,
-            end,
-            w2,
-            false,
-            true,
-        );
-        return w3 <= MOST;
-    }
-    let second = between(first, full, end);
+    let both = full < row.high;
+    let second = between(first, row.high + full - least, end);
     let w2 = fill_part(
         upper,
         total,
@@ -297,8 +240,8 @@ fn fill_row(upper: &[u8], total: usize, k: usize, row: Row, next: Row, cells: &m
         first,
         second,
         w1,
-        false,
-        false,
+        both,
+        both,
     );
     if MOST < w2 {
         return false;
@@ -350,6 +293,20 @@ fn uncounted(number: u32, detail: u64) -> Counted
     }
 }
 
+// N, or 5 where it is over the limit.
+fn within_limit(n: u64) -> Counted
+    ensures { λ r. ⌜ r ≡ limited n ⌝ }
+{
+    if MOST < n {
+        return uncounted(5, 0);
+    }
+    Counted {
+        number: 0,
+        detail: 0,
+        count: n,
+    }
+}
+
 // The checks 1 to 4, and how many cells the table has.
 pub fn survey(upper: &[u8], total: u32) -> Surveyed
     ensures { λ r. ⌜ r ≡ surveyOf (now (upper .entry)) total ⌝ }
@@ -377,15 +334,8 @@ fn fill_shaped(upper: &[u8], total: u32, all: usize, cells: &mut [u64]) -> Count
     requires { ⌜ (firstRefusal (shapeChecks (now upper) total) .number ≡ 0) × (all ≡ whole (now upper)) × (bandSize (now upper) total ≤ length (now cells)) ⌝ }
     ensures { λ r. ⌜ (r ≡ numberOf (now (upper .entry)) total) × (r .number ≡ 0 → Band (now (upper .entry)) total (now (cells .exit))) ⌝ }
 {
-    let count = fill_rows(upper, total as usize, all, cells);
-    if MOST < count {
-        return uncounted(5, 0);
-    }
-    Counted {
-        number: 0,
-        detail: 0,
-        count,
-    }
+    let n = fill_rows(upper, total as usize, all, cells);
+    within_limit(n)
 }
 
 // Fills the table and answers N, or the first of the refusals 1 to 4, 13 where `cells` is too short, and 5.
@@ -403,32 +353,44 @@ pub fn fill(upper: &[u8], total: u32, cells: &mut [u64]) -> Counted
     fill_shaped(upper, total, s.all, cells)
 }
 
-// N, or the refusal: with a table of its own.
-pub fn count(upper: &[u8], total: u32) -> Counted
+// N of a shape that is accepted, by a table that is as large as it has to be.
+fn count_by_table(upper: &[u8], total: u32, all: usize) -> Counted
+    requires { ⌜ (firstRefusal (shapeChecks (now upper) total) .number ≡ 0) × (all ≡ whole (now upper)) ⌝ }
     ensures { λ r. ⌜ r ≡ numberOf (now (upper .entry)) total ⌝ }
 {
-    let s = survey(upper, total);
-    if 0 < s.number {
-        return uncounted(s.number, s.detail);
-    }
-    let size = s.size;
-    let all = s.all;
-    if size <= 64 {
+    let row = last(upper, total as usize, all);
+    let start = row.start;
+    if start < 64 {
         let mut cells = [0u64; 64];
         return fill_shaped(upper, total, all, &mut cells);
     }
-    if size <= 256 {
+    if start < 256 {
         let mut cells = [0u64; 256];
         return fill_shaped(upper, total, all, &mut cells);
     }
-    if size <= 1024 {
+    if start < 1024 {
         let mut cells = [0u64; 1024];
         return fill_shaped(upper, total, all, &mut cells);
     }
-    if size <= 2048 {
+    if start < 2048 {
         let mut cells = [0u64; 2048];
         return fill_shaped(upper, total, all, &mut cells);
     }
     let mut cells = [0u64; 6145];
     fill_shaped(upper, total, all, &mut cells)
+}
+
+// N, or the refusal. "N of a puzzle edition of 2 to 16 sheets is read from" the constant table.
+pub fn count(upper: &[u8], total: u32) -> Counted
+    ensures { λ r. ⌜ r ≡ numberOf (now (upper .entry)) total ⌝ }
+{
+    let s = crate::shape(upper, total);
+    if 0 < s.number {
+        return uncounted(s.number, s.detail);
+    }
+    let e = mahonian::staircase_count(upper, total);
+    if let mahonian::Entry::Count(n) = e {
+        return within_limit(n);
+    }
+    count_by_table(upper, total, s.all)
 }

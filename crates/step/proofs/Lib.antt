@@ -1,3 +1,9 @@
 pub mod Turns
 pub mod Refills
-pub mod Forward
+pub mod Ways
+pub mod Answers
+pub mod Cells
+pub mod Steps
+pub mod Copies
+pub mod Batches
+pub mod Located

@@ -1,2 +1,4 @@
+pub mod Steps
 pub mod Advance
+pub mod Batch
 pub mod Turn

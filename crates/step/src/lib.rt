@@ -1,6 +1,10 @@
 // Forward and backward step (document 01, "Serial and mix"). The first part that is not at its last value takes its next value, and the parts
 // to its left start anew (source document 000, section 2). Backward is the same with one more than the total: every sum to the right is then
 // one more, so every part runs the other way.
+pub mod batch;
+
+use bounds::limit;
+use places::composition_refusal;
 use walsh::first_value;
 use walsh::is_odd;
 use walsh::lesser;
@@ -9,14 +13,24 @@ use walsh::over;
 use walsh::wide;
 ghost use mathlib.Core.Path.{_≡_};
 ghost use mathlib.Core.Bool.{cond};
-ghost use mathlib.Core.List.{_++_};
-ghost use Prim.Native.Nat.{ℕ, _≤_, _<_};
+ghost use mathlib.Core.List.{[], _++_};
+ghost use Prim.Native.Nat.{ℕ, _+_, _≤_, _<_};
 ghost use lib.Dec.{ltb};
 ghost use lib.ListN.{length, drop};
 ghost use Rattle.walsh.specs.Sums.{sumTo};
 ghost use Rattle.walsh.specs.Step.{firstOf};
+ghost use Rattle.bounds.specs.Edition.{cellsOf};
+ghost use Rattle.step.specs.Steps.{successorOf, predecessorOf};
 ghost use Rattle.step.specs.Advance.{Advances};
-ghost use Rattle.step.specs.Turn.{Moving, Found-at, Turned};
+ghost use Rattle.step.specs.Turn.{Found-at, Turned, Shifted, stepOf};
+
+// A composition in 24 cells, or a refusal's number and detail with all else 0.
+#[repr(C)]
+pub struct Stepped {
+    pub number: u32,
+    pub detail: u64,
+    pub composition: [u8; 24],
+}
 
 // Part `at`, the sum of the bounds to its left, that of the parts up to it, itself included, and that of the parts to its right.
 struct Found {
@@ -122,4 +136,83 @@ pub fn advance(upper: &[u8], total: u32, parts: &mut [u8]) -> bool
         return false;
     }
     turn(upper, total as usize, parts)
+}
+
+fn copy(from: &[u8], out: &mut [u8])
+    requires { ⌜ length (now out) ≡ length (now from) ⌝ }
+    ensures { λ _. ⌜ now (out .exit) ≡ now (from .entry) ⌝ }
+{
+    let mut i = 0;
+    while i < from.len() {
+        out[i] = from[i];
+        i += 1;
+    }
+}
+
+fn stopped(number: u32, detail: u64) -> Stepped
+    ensures { λ r. ⌜ r ≡ record { number = number; detail = detail; composition = cellsOf [] } ⌝ }
+{
+    Stepped {
+        number,
+        detail,
+        composition: [0; 24],
+    }
+}
+
+// The total from which the sums to the right are counted.
+fn side(total: u32, back: bool) -> usize
+    ensures { λ r. ⌜ (r ≡ cond back (total + 1) total) × (r ≤ 4294967296) ⌝ }
+{
+    if back {
+        total as usize + 1
+    } else {
+        total as usize
+    }
+}
+
+// The step from parts that are not to be changed.
+fn shift(upper: &[u8], total: usize, parts: &[u8]) -> Stepped
+    requires { ⌜ (0 < length (now upper)) × (length (now upper) ≤ 24) × (length (now parts) ≡ length (now upper)) × (total ≤ 4294967296) ⌝ }
+    ensures { λ r. ⌜ Shifted (now (upper .entry)) total (now (parts .entry)) r ⌝ }
+{
+    let n = upper.len();
+    let mut cells = [0u8; 24];
+    copy(parts, &mut cells[..n]);
+    if turn(upper, total, &mut cells[..n]) {
+        return Stepped {
+            number: 0,
+            detail: 0,
+            composition: cells,
+        };
+    }
+    stopped(9, 0)
+}
+
+// Both ways in one.
+fn step(upper: &[u8], total: u32, composition: &[u8], back: bool) -> Stepped
+    ensures { λ r. ⌜ r ≡ stepOf back (now (upper .entry)) total (now (composition .entry)) ⌝ }
+{
+    let edition = limit::refusal(upper, total);
+    if 0 < edition.number {
+        return stopped(edition.number, edition.detail);
+    }
+    let given = composition_refusal(upper, total, composition);
+    if 0 < given.number {
+        return stopped(given.number, given.detail);
+    }
+    shift(upper, side(total, back), composition)
+}
+
+// The composition one serial on.
+pub fn successor(upper: &[u8], total: u32, composition: &[u8]) -> Stepped
+    ensures { λ r. ⌜ r ≡ successorOf (now (upper .entry)) total (now (composition .entry)) ⌝ }
+{
+    step(upper, total, composition, false)
+}
+
+// The composition one serial back.
+pub fn predecessor(upper: &[u8], total: u32, composition: &[u8]) -> Stepped
+    ensures { λ r. ⌜ r ≡ predecessorOf (now (upper .entry)) total (now (composition .entry)) ⌝ }
+{
+    step(upper, total, composition, true)
 }

@@ -165,7 +165,7 @@ raise ms (suc k) rem t h = go (λ ρ τ l. raise ms k ρ τ l) (value-step ms k 
 
 -- ---- one unit from one part to another
 
-neighbours-sym : {g h : List ℕ} {a b : ℕ} → Neighbours g h a b → Neighbours h g b a
+pub neighbours-sym : {g h : List ℕ} {a b : ℕ} → Neighbours g h a b → Neighbours h g b a
 neighbours-sym n =
     record {
       apart = λ e. n .apart (sym e);

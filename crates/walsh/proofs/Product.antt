@@ -1,20 +1,18 @@
 -- A bound on the count that costs nothing: a composition is known by all its parts but one, so there are at most as many as the product of
 -- the numbers of values of all parts but one. The part that is left out may be chosen anew at each part.
-use mathlib.Core.Path.{_≡_, refl, sym, ap, _∙_}
-use mathlib.Core.Bool.{true, false}
+use mathlib.Core.Path.{_≡_, refl, sym, _∙_}
 use mathlib.Core.List.{List}
 use Prim.Native.Nat.{ℕ, zero, suc, _+_, _-_, _*_, _≤_, _<_, min}
-use native.Mathlib.Nat.{suc-mul, mul-comm, mul-right-comm, mul-le-mul-left, mul-le-mul-right, le-refl, le-trans, zero-lt-suc}
+use native.Mathlib.Nat.{suc-mul, mul-comm, mul-right-comm, mul-le-mul-right, le-refl, le-trans}
 use native.Mathlib.Decide.{decLe}
-use native.Mathlib.Numerals.{add-one}
 use native.Mathlib.Omega.{arith}
 use lib.ListN.{getD}
 use Rattle.walsh.specs.Sums.{sum}
 use Rattle.walsh.specs.Order.{count}
 use Rattle.walsh.proofs.Cases.{on-less}
-use Rattle.walsh.proofs.Lists.{sum-same, sum-le, sum-mono}
+use Rattle.walsh.proofs.Lists.{sum-same, sum-mono}
 use Rattle.walsh.proofs.Peel.{sum-swap, after, after-le, after-lt, sum-after}
-use Rattle.walsh.proofs.Window.{sum-at, sum-zero, sum-suc, sum-step, count-zero, count-suc, count-window}
+use Rattle.walsh.proofs.Window.{sum-at, sum-zero, sum-suc, count-zero, count-suc, count-window}
 
 -- n numbers that are at most p
 sum-most : (f : ℕ → ℕ) (p n : ℕ) → ((i : ℕ) → i < n → f i ≤ p) → sum f n ≤ n * p

@@ -1,5 +1,4 @@
 -- `places::lent_refusal` meets its contract.
-use mathlib.Core.Path.{_∙_, sym}
 use borrow.Author.Needs.{needs}
 use borrow.Author.Tests.{eq-eqb, ne-eqb}
 use Rattle.bounds.specs.Refusal.{firstRefusal}

@@ -2,7 +2,7 @@
 use native.Mathlib.Nat.{le-refl}
 use native.Mathlib.Omega.{arith}
 use borrow.Author.Needs.{needs}
-use Rattle.step.proofs.Forward.{moving, advanced, advanced-none}
+use Rattle.step.proofs.Ways.{moving, advanced, advanced-none}
 use Rattle.step.proofs.advance.Statement.{statement}
 use Rattle.step.proofs.advance.Tie as tie
 

@@ -1,12 +1,12 @@
+-- `bounds::band::cell` meets its contract.
 use Prim.Native.Nat.{ℕ, suc, _+_, _-_, _*_, _≤_, _<_}
 use mathlib.Core.Path.{_≡_, ap, _∙_}
 use native.Mathlib.Omega.{arith}
-use lib.ListN.{length, getD}
+use lib.ListN.{getD}
 use denote.Ref.{now}
 use Rattle.bounds.proofs.Bands.{cell-room}
 use Rattle.bounds.proofs.Rows.{at-low, at-place, at-small}
 use Rattle.bounds.specs.Band.{bandSize, cellIndex}
-use borrow.Author.Needs.{needs}
 use Rattle.bounds.proofs.band.cell.Statement.{statement}
 use Rattle.bounds.proofs.band.cell.Tie as tie
 

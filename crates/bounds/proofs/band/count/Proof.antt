@@ -1,53 +1,38 @@
 -- `bounds::band::count` meets its contract.
-use mathlib.Core.Path.{_≡_, _∙_}
+use mathlib.Core.Path.{_≡_, ap, _∙_}
 use Prim.Native.Nat.{ℕ, _≤_}
 use native.Mathlib.Omega.{arith}
 use denote.Ref.{now}
 use borrow.Author.Needs.{needs}
 use Rattle.bounds.specs.Refusal.{firstRefusal}
 use Rattle.bounds.specs.Edition.{whole, shapeChecks}
-use Rattle.bounds.specs.Band.{bandSize}
-use Rattle.bounds.proofs.Editions.{shapely}
-use Rattle.bounds.proofs.Rows.{size-small}
-use Rattle.bounds.proofs.Answers.{surveyed-refused, surveyed-accepted, edition-refused, number-refused}
+use Rattle.bounds.specs.Band.{limited}
+use Rattle.bounds.proofs.Answers.{shaped-refused, shaped-accepted, edition-refused, number-refused, number-limited, staircase-number}
 use Rattle.bounds.proofs.band.count.Statement.{statement}
 use Rattle.bounds.proofs.band.count.Tie as tie
 
 zero-of : {n : ℕ} → n ≤ 0 → n ≡ 0
 zero-of l = omega arith
 
-survey-at : (c : tie.Else1)
+shape-at : (c : tie.Else1)
     → let a = c .before .before .before .before .args in
-    let s = c .before .before .survey .result in
-    (firstRefusal (shapeChecks (now (a .upper)) (a .total)) .number ≡ 0) × (s .all ≡ whole (now (a .upper))) × (s .size ≡ bandSize (now (a .upper)) (a .total))
-survey-at c = let s = c .before .before .survey in surveyed-accepted _ _ (s .result) (s .ensures) (zero-of (c .if1 .left))
+    (firstRefusal (shapeChecks (now (a .upper)) (a .total)) .number ≡ 0) × (c .before .before .shape .result .all ≡ whole (now (a .upper)))
+shape-at c = let s = c .before .before .shape in shaped-accepted _ _ (s .result) (s .ensures) (zero-of (c .if1 .left))
 
 returns : tie.Need-returns
 returns c =
     let a = c .before .before .before .before .before .args in
-    let s = c .before .before .before .survey in
+    let s = c .before .before .before .shape in
     let l = c .before .if1 .taken in
-    let e = edition-refused (now (a .upper)) (a .total) _ _ (surveyed-refused _ _ (s .result) (s .ensures) l) l in
+    let e = edition-refused (now (a .upper)) (a .total) _ _ (shaped-refused _ _ (s .result) (s .ensures) l) l in
     c .uncounted .ensures ∙ number-refused (now (a .upper)) (a .total) _ _ e l
 
-fill-shaped-requires : tie.Need-fill-shaped-requires
-fill-shaped-requires c κs = let k = survey-at (c .before .before) in (k .0, k .1, rw (k .2) at (c .before .if2 .taken))
-
-fill-shaped-requires-2 : tie.Need-fill-shaped-requires-2
-fill-shaped-requires-2 c κs = let k = survey-at (c .before .before .before) in (k .0, k .1, rw (k .2) at (c .before .if3 .taken))
-
-fill-shaped-requires-3 : tie.Need-fill-shaped-requires-3
-fill-shaped-requires-3 c κs = let k = survey-at (c .before .before .before .before) in (k .0, k .1, rw (k .2) at (c .before .if4 .taken))
-
-fill-shaped-requires-4 : tie.Need-fill-shaped-requires-4
-fill-shaped-requires-4 c κs = let k = survey-at (c .before .before .before .before .before) in (k .0, k .1, rw (k .2) at (c .before .if5 .taken))
-
-fill-shaped-requires-5 : tie.Need-fill-shaped-requires-5
-fill-shaped-requires-5 c κs =
+returns-2 : tie.Need-returns-2
+returns-2 c =
     let a = c .before .before .before .before .before .before .before .before .before .args in
-    let k = survey-at (c .before .before .before .before .before) in
-    let p = shapely (now (a .upper)) (a .total) (k .0) in
-    (k .0, k .1, size-small (now (a .upper)) (a .total) (p .reached) (p .small) (p .few))
+    let m = c .before .before .before .before .staircase-count in
+    let n = staircase-number (now (a .upper)) (a .total) (m .result) _ (m .ensures) (c .before .before .e .given .1) in
+    c .within-limit .ensures ∙ ap limited n ∙ number-limited (now (a .upper)) (a .total) (shape-at (c .before .before .before .before .before) .0)
 
 pub count-spec : {M : Type 1} → statement M
 count-spec =
@@ -56,18 +41,10 @@ count-spec =
     (λ c κs. search needs)
     (λ c κs. search needs)
     returns
+    (λ c κs. search needs)
     (λ c. search needs)
-    fill-shaped-requires
+    (λ c κs. search needs)
+    returns-2
     (λ c. search needs)
-    (λ c. search needs)
-    fill-shaped-requires-2
-    (λ c. search needs)
-    (λ c. search needs)
-    fill-shaped-requires-3
-    (λ c. search needs)
-    (λ c. search needs)
-    fill-shaped-requires-4
-    (λ c. search needs)
-    (λ c. search needs)
-    fill-shaped-requires-5
+    (λ c κs. shape-at (c .before .before .before))
     (λ c. search needs))

@@ -1,14 +1,14 @@
+-- `bounds::band::fill_part` meets its contract.
 use Prim.Native.Nat.{ℕ, suc, _+_, _-_, _*_, _≤_, _<_, min}
 use mir.Val.{Fits}
 use mir.Syntax.{w64}
-use mathlib.Core.Path.{_≡_, refl, sym, ap, _∙_, subst}
-use mathlib.Core.Bool.{false≢true}
+use mathlib.Core.Path.{_≡_, refl, _∙_, subst}
 use native.Mathlib.Omega.{arith}
 use native.Mathlib.Nat.{le-refl, le-trans}
 use lib.ListN.{length, length-set}
 use denote.Ref.{now}
 use Rattle.bounds.proofs.Bands.{band-ends, cell-room, low-high}
-use Rattle.bounds.proofs.Rows.{at-low, at-place, at-small, row-filled, row-none, store-row, store-rows}
+use Rattle.bounds.proofs.Rows.{at-low, at-place, at-small, store-row, store-rows}
 use Rattle.bounds.proofs.Slides.{slid-done, slid-most}
 use Rattle.bounds.specs.Band.{InBand, Row-holds, Rows-hold, bandSize, cap, cellIndex, highest, lowest}
 use Rattle.bounds.specs.Window.{Slid}

@@ -1,17 +1,14 @@
-use Prim.Native.Nat.{ℕ, suc, _+_, _-_, _≤_, _<_, min}
-use mathlib.Core.Path.{_≡_, refl, sym, ap, _∙_, subst}
-use mathlib.Core.Bool.{true, false}
+-- `bounds::band::fill_rows` meets its contract.
+use Prim.Native.Nat.{ℕ, _-_, _≤_, _<_, min}
+use mathlib.Core.Path.{_≡_, refl, _∙_, subst}
 use native.Mathlib.Omega.{arith}
 use native.Mathlib.Nat.{le-refl}
 use lib.ListN.{length, length-set}
 use denote.Ref.{now}
-use Rattle.bounds.specs.declared.band.Row.{Row}
 use borrow.Author.Tests.{not-true, not-false}
 use Rattle.bounds.proofs.Bands.{whole-band}
 use Rattle.bounds.proofs.Rows.{base-room, base-rows, row-first}
 use Rattle.bounds.specs.Band.{IsRow, Rows-hold, bandSize, cap}
-use Rattle.walsh.proofs.Cases.{closer}
-use Rattle.walsh.specs.Order.{count}
 use borrow.Author.Needs.{needs}
 use Rattle.bounds.proofs.band.fill_rows.Statement.{statement}
 use Rattle.bounds.proofs.band.fill_rows.Tie as tie

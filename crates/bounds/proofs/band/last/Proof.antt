@@ -1,9 +1,9 @@
+-- `bounds::band::last` meets its contract.
 use Prim.Native.Nat.{ℕ, _+_, _-_, _≤_, _<_}
 use mathlib.Core.Path.{_≡_, subst}
 use native.Mathlib.Omega.{arith}
 use lib.ListN.{length}
 use denote.Ref.{now}
-use Rattle.bounds.specs.declared.band.Row.{Row}
 use Rattle.bounds.proofs.Rows.{row-first}
 use Rattle.bounds.specs.Band.{IsRow}
 use borrow.Author.Needs.{needs}

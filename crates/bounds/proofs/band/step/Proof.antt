@@ -1,8 +1,9 @@
+-- `bounds::band::step` meets its contract.
 use Prim.Native.Nat.{ℕ, _+_, _-_, _≤_, _<_, min}
-use mathlib.Core.Path.{_≡_, sym, subst, _∙_}
+use mathlib.Core.Path.{_≡_, sym, subst}
 use mathlib.Core.Bool.{true, false}
 use native.Mathlib.Omega.{arith}
-use native.Mathlib.Nat.{le-of-lt, add-zero, le-trans}
+use native.Mathlib.Nat.{le-of-lt, add-zero}
 use denote.Ref.{now}
 use mir.Val.{Fits}
 use mir.Syntax.{w64}

@@ -1,8 +1,7 @@
 -- `bounds::band::survey` meets its contract.
 use mathlib.Core.Path.{_≡_}
-use Prim.Native.Nat.{ℕ, _+_, _≤_}
+use Prim.Native.Nat.{ℕ, _≤_}
 use native.Mathlib.Omega.{arith}
-use lib.ListN.{length}
 use denote.Ref.{now}
 use mir.Val.{Fits}
 use mir.Syntax.{w64}

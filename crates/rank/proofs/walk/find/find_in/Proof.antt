@@ -9,7 +9,7 @@ use Rattle.bounds.specs.declared.Refusal.{Refusal}
 use Rattle.bounds.specs.Refusal.{firstRefusal}
 use Rattle.bounds.specs.Edition.{editionChecks}
 use Rattle.bounds.proofs.Editions.{shapely}
-use Rattle.bounds.proofs.Answers.{numbered-refused, numbered-accepted, counted-number}
+use Rattle.bounds.proofs.Answers.{counted-number, numbered-refused, numbered-accepted}
 use Rattle.rank.specs.Walk.{Filled}
 use Rattle.rank.specs.Find.{foundOf}
 use Rattle.rank.specs.declared.walk.find.Task.{Task}
@@ -25,11 +25,12 @@ returns c =
     let s = c .before .before .before .before .before .before .before .before .before .before in
     let ms = now (s .args .upper) in
     let f = c .before .before .before .before .before .fill in
-    let is = f .ensures .0 ∙ counted-number ms (s .args .total) (length (now (s .args .cells))) (s .pre .1) in
+    let r = s .args .total in
+    let counted = f .ensures .0 ∙ counted-number ms r (length (now (s .args .cells))) (s .pre .1) in
     let l = c .before .if1 .taken in
     c .nothing .ensures
     ∙ found-edition ms (s .args .total) (s .args .task) _ (f .result .number) (f .result .detail)
-    (numbered-refused ms (s .args .total) (f .result) is l) l
+    (numbered-refused ms r (f .result) counted l) l
 
 -- what both directions ask for
 accepted-at : (c : tie.Else1)

@@ -1,0 +1,11 @@
+pub mod Counts
+pub mod Smaller
+pub mod Inverse
+pub mod Vectors
+pub mod Exchanges
+pub mod Raised
+pub mod Serials
+pub mod Turns
+pub mod ByInversions
+pub mod Tables
+pub mod RoundTrips

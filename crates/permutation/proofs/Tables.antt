@@ -1,0 +1,129 @@
+-- What the tables of the two calls say where they refuse nothing, for any reading.
+use mathlib.Core.Path.{_≡_, refl, sym, ap, _∙_}
+use mathlib.Core.Bool.{Bool, true, false}
+use mathlib.Core.List.{List, _++_}
+use Prim.Native.Nat.{ℕ, _+_, _-_, _≤_, _<_}
+use native.Mathlib.Omega.{arith}
+use lib.ListN.{length, getD}
+use borrow.Author.Tests.{eqb-true, eq-eqb, lt-ltb, not-false}
+use Rattle.walsh.specs.Order.{Composition}
+use Rattle.bounds.specs.Refusal.{refused, firstRefusal}
+use Rattle.bounds.specs.Edition.{shapeChecks, editionChecks}
+use Rattle.bounds.specs.Places.{compositionChecks, lentChecks}
+use Rattle.bounds.specs.declared.Refusal.{Refusal}
+use Rattle.bounds.proofs.Refusals.{numbered, passed}
+use Rattle.bounds.proofs.Editions.{shapely}
+use Rattle.bounds.proofs.Compositions.{composition-passed, composition-passes}
+use Rattle.bounds.proofs.Chains.{Accepts, accepts-split, accepts-join}
+use Rattle.mahonian.specs.Staircase.{isStaircase}
+use Rattle.permutation.specs.Reading.{Reading, PermutationWith}
+use Rattle.permutation.specs.Conversions.{staircaseChecks, permutationChecks, toPermutationChecks, toCompositionChecks}
+use Rattle.permutation.proofs.Counts.{is-permutation}
+use Rattle.permutation.proofs.Vectors.{composition-fits}
+
+-- ---- the bounds
+
+-- the bounds are a staircase of 1 to 24 parts
+pub record Staircase (ms : List ℕ) (r : ℕ) : Type 0 where
+  pub edition : Accepts (editionChecks ms r)
+  pub stairs : isStaircase ms ≡ true
+
+-- what the test t says of the table
+module _ (ms : List ℕ) {t : Bool} (e : t ≡ isStaircase ms) {v : Refusal} where
+  pub staircase-yes : t ≡ true → v ≡ refused 0 0 → v ≡ firstRefusal (staircaseChecks ms)
+  unfolding firstRefusal
+  staircase-yes h is = rw (← e, h) is
+
+  pub staircase-no : t ≡ false → v ≡ refused 10 0 → v ≡ firstRefusal (staircaseChecks ms)
+  unfolding firstRefusal
+  staircase-no h is = rw (← e, h) is
+
+module _ (ms : List ℕ) (r : ℕ) where
+  staircase-passed : Accepts (editionChecks ms r) → Accepts (staircaseChecks ms) → Staircase ms r
+  staircase-passed e s = record { edition = e; stairs = not-false _ (passed _ _ refl s .0) }
+
+  staircase-passes : isStaircase ms ≡ true → Accepts (staircaseChecks ms)
+  unfolding firstRefusal
+  staircase-passes e = rw e
+
+  edition-few : Accepts (editionChecks ms r) → length ms ≤ 24
+  edition-few e = shapely ms r (accepts-split (shapeChecks ms r) _ refl e .0) .few
+
+  pub staircase-few : {v : Refusal} → v ≡ firstRefusal (editionChecks ms r ++ staircaseChecks ms) → v .number ≡ 0 → length ms ≤ 24
+  staircase-few {v} e none = edition-few (accepts-split (editionChecks ms r) _ refl (ap (λ (w : Refusal). w .number) (sym e) ∙ none) .0)
+
+-- ---- the lent part
+
+lent-passed : (want have : ℕ) → Accepts (lentChecks want have) → have ≡ want
+lent-passed want have e = eqb-true have want (not-false _ (passed _ _ refl e .0))
+
+lent-passes : (want have : ℕ) → have ≡ want → Accepts (lentChecks want have)
+unfolding firstRefusal
+lent-passes want have e = rw (eq-eqb have want e)
+
+-- ---- mix to order
+
+module _ (ms : List ℕ) (r : ℕ) (g : List ℕ) (room : ℕ) where
+  pub to-permutation-passed : Accepts (toPermutationChecks ms r g room) → Staircase ms r × Composition ms r g × (room ≡ length ms + 1)
+  to-permutation-passed e =
+      let a = accepts-split (editionChecks ms r) _ refl e in
+      let b = accepts-split (staircaseChecks ms) _ refl (a .1) in
+      let c = accepts-split (compositionChecks ms r g) _ refl (b .1) in
+      (staircase-passed ms r (a .0) (b .0), composition-passed ms r g (c .0), lent-passed (length ms + 1) room (c .1))
+
+  pub to-permutation-passes : Staircase ms r → Composition ms r g → room ≡ length ms + 1 → Accepts (toPermutationChecks ms r g room)
+  to-permutation-passes s comp fits =
+      accepts-join (editionChecks ms r) _ refl (s .edition)
+      (accepts-join (staircaseChecks ms) _ refl (staircase-passes ms r (s .stairs))
+      (accepts-join (compositionChecks ms r g) _ refl (ap (λ (v : Refusal). v .number) (composition-passes ms r g comp)) (lent-passes (length ms + 1) room fits)))
+
+  -- what `fill_permutation` asks
+  pub to-permutation-ready : {v : Refusal} → v ≡ firstRefusal (toPermutationChecks ms r g room) → v .number ≡ 0
+      → (length g ≤ 24) × (room ≡ length g + 1) × ((i : ℕ) → i < length g → getD g i 0 ≤ length g - i)
+  to-permutation-ready {v} e none =
+      let known = to-permutation-passed (ap (λ (w : Refusal). w .number) (sym e) ∙ none) in
+      (omega (arith, known .1 .size, edition-few ms r (known .0 .edition)), omega (arith, known .1 .size, known .2), composition-fits ms (known .0 .stairs) (known .1))
+
+-- ---- order to mix
+
+module _ (reading : Reading) (refuses : 0 < reading .number) (ms : List ℕ) (r : ℕ) (p : List ℕ) where
+  given-numbered : numbered (permutationChecks reading ms r p) ≡ true
+  given-numbered = rw (lt-ltb 0 (reading .number) refuses)
+
+  given-passed : Accepts (permutationChecks reading ms r p) → PermutationWith reading (length ms + 1) r p
+  given-passed e =
+      let p11 = passed _ _ given-numbered e in
+      let p12 = passed _ _ (p11 .1) (p11 .2) in
+      record {
+        is = is-permutation (length ms + 1) p .0 (not-false _ (p11 .0));
+        total = eqb-true (reading .statistic p) r (not-false _ (p12 .0));
+      }
+
+  given-passes : PermutationWith reading (length ms + 1) r p → Accepts (permutationChecks reading ms r p)
+  unfolding firstRefusal
+  given-passes perm = rw (is-permutation (length ms + 1) p .1 (perm .is), eq-eqb (reading .statistic p) r (perm .total))
+
+  module _ (room : ℕ) where
+    pub to-composition-numbered : numbered (toCompositionChecks reading ms r p room) ≡ true
+    to-composition-numbered = rw (lt-ltb 0 (reading .number) refuses)
+
+    pub to-composition-passed : Accepts (toCompositionChecks reading ms r p room) → Staircase ms r × PermutationWith reading (length ms + 1) r p × (room ≡ length ms)
+    to-composition-passed e =
+        let a = accepts-split (editionChecks ms r) _ refl e in
+        let b = accepts-split (staircaseChecks ms) _ refl (a .1) in
+        let c = accepts-split (permutationChecks reading ms r p) _ given-numbered (b .1) in
+        (staircase-passed ms r (a .0) (b .0), given-passed (c .0), lent-passed (length ms) room (c .1))
+
+    pub to-composition-passes : Staircase ms r → PermutationWith reading (length ms + 1) r p → room ≡ length ms → Accepts (toCompositionChecks reading ms r p room)
+    to-composition-passes s perm fits =
+        accepts-join (editionChecks ms r) _ refl (s .edition)
+        (accepts-join (staircaseChecks ms) _ refl (staircase-passes ms r (s .stairs))
+        (accepts-join (permutationChecks reading ms r p) _ given-numbered (given-passes perm) (lent-passes (length ms) room fits)))
+
+    -- what `fill_inversions` asks
+    pub to-composition-ready : {v : Refusal} → v ≡ firstRefusal (toCompositionChecks reading ms r p room) → v .number ≡ 0
+        → (length p ≤ 25) × (length p ≡ room + 1)
+    to-composition-ready {v} e none =
+        let known = to-composition-passed (ap (λ (w : Refusal). w .number) (sym e) ∙ none) in
+        let size = known .1 .is .size in
+        (omega (arith, edition-few ms r (known .0 .edition)), omega (arith, known .2))

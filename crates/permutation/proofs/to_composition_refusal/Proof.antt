@@ -1,0 +1,36 @@
+-- `permutation::to_composition_refusal` meets its contract. Each place's refusal stands for the rest, or the next place is looked at.
+use mathlib.Core.Path.{refl}
+use borrow.Author.Needs.{needs}
+use Rattle.bounds.proofs.Chains.{answer-first, answer-later}
+use Rattle.permutation.proofs.Tables.{staircase-few}
+use Rattle.permutation.proofs.to_composition_refusal.Statement.{statement}
+use Rattle.permutation.proofs.to_composition_refusal.Tie as tie
+
+returns : tie.Need-returns
+returns c = answer-first _ _ (c .before .before .staircase-refusal .ensures) (c .if1 .taken)
+
+permutation-refusal-requires : tie.Need-permutation-refusal-requires
+permutation-refusal-requires c κs = let stairs = c .before .before in
+    let args = stairs .before .before .before .args in
+    staircase-few (args .upper .now) (args .total) (stairs .staircase-refusal .ensures) (c .if1 .left)
+
+returns-2 : tie.Need-returns-2
+returns-2 c = let given = c .before .before in
+    let stairs = given .before .before .before in
+    answer-later _ _ (stairs .staircase-refusal .ensures) refl (given .before .if1 .left) (answer-first _ _ (given .permutation-refusal .ensures) (c .if2 .taken))
+
+returns-3 : tie.Need-returns-3
+returns-3 c = let given = c .before .before .before in
+    let stairs = given .before .before .before in
+    answer-later _ _ (stairs .staircase-refusal .ensures) refl (given .before .if1 .left) (answer-later _ _ (given .permutation-refusal .ensures) refl (c .before .if2 .left) (c .lent-refusal .ensures))
+
+pub to-composition-refusal-spec : {M : Type 1} → statement M
+to-composition-refusal-spec =
+    tie.close
+    (tie.spec
+    (λ c κs. search needs)
+    returns
+    permutation-refusal-requires
+    returns-2
+    (λ c κs. search needs)
+    returns-3)

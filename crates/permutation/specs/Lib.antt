@@ -1,0 +1,4 @@
+pub mod Permutation
+pub mod Exchange
+pub mod Reading
+pub mod Conversions

@@ -1,0 +1,68 @@
+-- The answers of a step, from those of the places that are checked before.
+use mathlib.Core.Path.{_≡_, refl, sym, ap, _∙_}
+use mathlib.Core.Bool.{Bool, true, false, cond}
+use mathlib.Core.List.{List, [], _++_}
+use Prim.Native.Nat.{ℕ, _+_, _<_}
+use native.Mathlib.Omega.{arith}
+use lib.Dec.{eqb}
+use borrow.Author.Tests.{ne-eqb}
+use Rattle.walsh.specs.Order.{Composition, countOf}
+use Rattle.walsh.specs.Serial.{serialOf, compositionOf}
+use Rattle.bounds.specs.Refusal.{Check, refused, firstRefusal}
+use Rattle.bounds.specs.Edition.{editionChecks, cellsOf}
+use Rattle.bounds.specs.Places.{compositionChecks}
+use Rattle.bounds.specs.declared.Refusal.{Refusal}
+use Rattle.bounds.proofs.Refusals.{refusal-here, refusal-next}
+use Rattle.bounds.proofs.Chains.{answer-first, answer-later}
+use Rattle.bounds.proofs.Compositions.{composition-passed}
+use Rattle.step.specs.Turn.{Turn, shiftedBy, Shifted, nextSerial, endChecks, stepOf}
+use Rattle.step.specs.declared.Stepped.{Stepped}
+use Rattle.step.proofs.Ways.{way-reached, moving, way-on, way-off}
+
+module _ (back : Bool) (ms : List ℕ) (r : ℕ) (g : List ℕ) where
+  abbrev given : List Check
+  given = compositionChecks ms r g
+
+  abbrev ends : List Check
+  ends = endChecks back ms r g
+
+  -- by the whole table
+  refused-by : (v : Refusal) → v ≡ firstRefusal (editionChecks ms r ++ (given ++ ends)) → (v .number ≡ 0 → ⊥)
+      → record { number = v .number; detail = v .detail; composition = cellsOf [] } ≡ stepOf back ms r g
+  unfolding stepOf
+  refused-by v e some = rw (← e, ne-eqb (v .number) 0 some)
+
+  -- refused as an edition
+  pub step-edition : (v : Refusal) → v ≡ firstRefusal (editionChecks ms r) → 0 < v .number
+      → record { number = v .number; detail = v .detail; composition = cellsOf [] } ≡ stepOf back ms r g
+  step-edition v e some = refused-by v (answer-first (editionChecks ms r) (given ++ ends) e (λ z. omega arith)) (λ z. omega arith)
+
+  module _ (edition : Refusal) (ee : edition ≡ firstRefusal (editionChecks ms r)) (ez : edition .number ≡ 0) where
+    -- what was given is refused
+    pub step-given : (v : Refusal) → v ≡ firstRefusal (compositionChecks ms r g) → 0 < v .number
+        → record { number = v .number; detail = v .detail; composition = cellsOf [] } ≡ stepOf back ms r g
+    step-given v e some =
+        refused-by v (answer-later (editionChecks ms r) (given ++ ends) ee refl ez (answer-first given ends e (λ z. omega arith))) (λ z. omega arith)
+
+    module _ (v : Refusal) (ev : v ≡ firstRefusal (compositionChecks ms r g)) (vz : v .number ≡ 0) where
+      pub valid : Composition ms r g
+      valid = composition-passed ms r g (ap (λ (w : Refusal). w .number) (sym ev) ∙ vz)
+
+      table : {w : Refusal} → w ≡ firstRefusal (endChecks back ms r g) → w ≡ firstRefusal (editionChecks ms r ++ (given ++ ends))
+      table e = answer-later (editionChecks ms r) (given ++ ends) ee refl ez (answer-later given ends ev refl vz e)
+
+      -- not at the end
+      pub step-goes : eqb (serialOf ms r g) (cond back 1 (countOf ms r)) ≡ false
+          → record { number = 0; detail = 0; composition = cellsOf (compositionOf ms r (nextSerial back (serialOf ms r g))) } ≡ stepOf back ms r g
+      unfolding stepOf firstRefusal
+      step-goes on =
+          let none : refused 0 0 ≡ firstRefusal (editionChecks ms r ++ (given ++ ends)) = table (sym (refusal-next _ [] on)) in
+          rw (← none)
+
+      turned : (b : Bool) (h : List ℕ) → Turn ms (cond back (r + 1) r) g b h → shiftedBy b h ≡ stepOf back ms r g
+      turned true h t = let on = way-on ms r g valid back h t in rw (on .1) (step-goes (on .0))
+      turned false h t = refused-by (refused 9 0) (table (sym (refusal-here _ [] (way-off ms r g valid back h t)))) (λ z. omega arith)
+
+      -- the step itself
+      pub step-shifted : (w : ℕ) → w ≡ cond back (r + 1) r → (x : Stepped) → Shifted ms w g x → x ≡ stepOf back ms r g
+      step-shifted w e x s = s .is ∙ turned (s .on) (s .left) (rw e at (s .turned (moving ms r g valid w (way-reached back r w e))))

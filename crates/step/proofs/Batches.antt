@@ -1,0 +1,60 @@
+-- The answers of a batch, from those of the places that are checked.
+use mathlib.Core.Path.{_≡_, refl, sym, ap, _∙_}
+use mathlib.Core.List.{List, _++_}
+use Prim.Native.Nat.{ℕ, _+_, _-_, _*_, _≤_, _<_}
+use native.Mathlib.Omega.{arith}
+use lib.Dec.{eqb, ltb}
+use lib.ListN.{length}
+use borrow.Author.Tests.{eqb-true, eqb-false, ltb-false, not-false}
+use Rattle.walsh.specs.Tests.{either}
+use Rattle.walsh.specs.Order.{countOf}
+use Rattle.bounds.specs.Refusal.{Check, firstRefusal}
+use Rattle.bounds.specs.Edition.{editionChecks}
+use Rattle.bounds.specs.Places.{lentChecks}
+use Rattle.bounds.specs.declared.Refusal.{Refusal}
+use Rattle.bounds.proofs.Refusals.{passed}
+use Rattle.bounds.proofs.Editions.{neither}
+use Rattle.bounds.proofs.Chains.{answer-first, answer-later}
+use Rattle.bounds.proofs.Filling.{filling-refused, filling-done}
+use Rattle.step.specs.Batch.{rangeChecks, batchChecks, copiesOf, batchOf}
+
+-- what an accepted range of serials, and an accepted lent part of `have` bytes, are
+pub record Ranged (all n s c have : ℕ) : Type 0 where
+  pub some : 0 < s
+  pub within : s ≤ all
+  pub few : s + c ≤ all + 1
+  pub room : have ≡ c * n
+
+pub ranged : (all n s c have : ℕ) {v : Refusal} → v ≡ firstRefusal (rangeChecks all s c ++ lentChecks (c * n) have) → v .number ≡ 0 → Ranged all n s c have
+ranged all n s c have e z =
+    let p6 = passed _ _ refl (ap (λ (w : Refusal). w .number) (sym e) ∙ z) in
+    let p13 = passed _ _ refl (p6 .2) in
+    let far = neither (either (eqb s 0) (ltb all s)) (ltb (all - s + 1) c) (p6 .0) in
+    let outside = neither (eqb s 0) (ltb all s) (far .0) in
+    let least = eqb-false s 0 (outside .0) in
+    let most = ltb-false all s (outside .1) in
+    let last = ltb-false (all - s + 1) c (far .1) in
+    record { some = omega arith; within = most; few = omega arith; room = eqb-true have (c * n) (not-false _ (p13 .0)) }
+
+module _ (ms : List ℕ) (r s c : ℕ) (out : List ℕ) where
+  abbrev range : List Check
+  range = batchChecks ms r s c ++ lentChecks (c * length ms) (length out)
+
+  pub batch-edition : {v : Refusal} → v ≡ firstRefusal (editionChecks ms r) → 0 < v .number → _≡_ {A = Refusal × List ℕ} (v, out) (batchOf ms r s c out)
+  unfolding batchOf
+  batch-edition {v} e some =
+      filling-refused (editionChecks ms r ++ range) (copiesOf ms r s c) out (answer-first (editionChecks ms r) range e (λ z. omega arith)) (λ z. omega arith)
+
+  -- past the edition: `all` is N
+  module _ (accepted : firstRefusal (editionChecks ms r) .number ≡ 0) {all : ℕ} (count : all ≡ countOf ms r) {v : Refusal}
+      (e : v ≡ firstRefusal (rangeChecks all s c ++ lentChecks (c * length ms) (length out))) where
+    table : v ≡ firstRefusal (editionChecks ms r ++ range)
+    table = answer-later (editionChecks ms r) range {v = firstRefusal (editionChecks ms r)} refl refl accepted (rw (← count) e)
+
+    pub batch-range : 0 < v .number → _≡_ {A = Refusal × List ℕ} (v, out) (batchOf ms r s c out)
+    unfolding batchOf
+    batch-range some = filling-refused (editionChecks ms r ++ range) (copiesOf ms r s c) out table (λ z. omega arith)
+
+    pub batch-done : v .number ≡ 0 → {bytes : List ℕ} → bytes ≡ copiesOf ms r s c → _≡_ {A = Refusal × List ℕ} (v, bytes) (batchOf ms r s c out)
+    unfolding batchOf
+    batch-done none is = filling-done (editionChecks ms r ++ range) (copiesOf ms r s c) out table none is

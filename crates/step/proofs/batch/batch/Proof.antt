@@ -1,0 +1,89 @@
+-- `step::batch::batch` meets its contract: the laws of proofs/Batches at each return.
+use mathlib.Core.Path.{_≡_, sym, ap, _∙_}
+use Prim.Native.Nat.{ℕ}
+use native.Mathlib.Omega.{arith}
+use lib.ListN.{length, take}
+use borrow.Author.Needs.{needs}
+use Rattle.walsh.specs.Order.{countOf}
+use Rattle.walsh.specs.Serial.{compositionOf}
+use Rattle.walsh.proofs.Serials.{composition-is, serial-composition}
+use Rattle.bounds.specs.Refusal.{firstRefusal}
+use Rattle.bounds.specs.Edition.{editionChecks, cellsOf}
+use Rattle.bounds.proofs.Editions.{Shapely, shapely, edition-shape}
+use Rattle.rank.specs.Locate.{nearest}
+use Rattle.rank.proofs.Calls.{clamp-in}
+use Rattle.step.proofs.Located.{located-refused, located-accepted}
+use Rattle.step.proofs.Cells.{cells-front}
+use Rattle.step.proofs.Batches.{Ranged, ranged, batch-edition, batch-range, batch-done}
+use Rattle.step.proofs.batch.batch.Statement.{statement}
+use Rattle.step.proofs.batch.batch.Tie as tie
+
+returns : tie.Need-returns
+returns c =
+    let first = c .before .before .locate in
+    batch-edition _ _ _ _ _ (sym (located-refused _ _ _ (first .result) (first .ensures) (c .if1 .taken))) (c .if1 .taken)
+
+-- an accepted edition
+accepted : (c : tie.Else1) →
+    let a = c .before .before .before .before .before .args in
+    let x = c .before .before .locate .result in
+    (firstRefusal (editionChecks (a .upper .now) (a .total)) .number ≡ 0) × (x .count ≡ countOf (a .upper .now) (a .total)) × (x .composition ≡ nearest (a .upper .now) (a .total) (a .serial))
+accepted c = let first = c .before .before .locate in located-accepted _ _ _ (first .result) (first .ensures) (omega arith)
+
+shape-at : (c : tie.Else1) → Shapely (c .before .before .before .before .before .args .upper .now) (c .before .before .before .before .before .args .total)
+shape-at c = let a = c .before .before .before .before .before .args in shapely (a .upper .now) (a .total) (edition-shape (a .upper .now) (a .total) (accepted c .0))
+
+returns-2 : tie.Need-returns-2
+returns-2 c =
+    let at = accepted (c .before .before .before) in
+    batch-range _ _ _ _ _ (at .0) (at .1) (c .before .before .room-refusal .ensures) (c .if2 .taken)
+
+-- an accepted range
+range-at : (c : tie.Else2) →
+    let a = c .before .before .before .before .before .before .before .before .args in
+    Ranged (countOf (a .upper .now) (a .total)) (length (a .upper .now)) (a .serial) (a .copies) (length (a .out .now))
+range-at c =
+    let a = c .before .before .before .before .before .before .before .before .args in
+    let room = c .before .before .room-refusal in
+    rw (accepted (c .before .before .before) .1) at (ranged _ (length (a .upper .now)) (a .serial) (a .copies) (length (a .out .now)) (room .ensures) (omega arith))
+
+-- the composition that the copies begin with
+first-at : (c : tie.Else2) →
+    let a = c .before .before .before .before .before .before .before .before .args in
+    take (length (a .upper .now)) (c .before .before .before .before .before .locate .result .composition) ≡ compositionOf (a .upper .now) (a .total) (a .serial)
+first-at c =
+    let a = c .before .before .before .before .before .before .before .before .args in
+    let p = range-at c in
+    cells-front (a .upper .now) (a .total) (a .serial) _ (p .some) (p .within)
+    (accepted (c .before .before .before) .2 ∙ ap (λ (k : ℕ). cellsOf (compositionOf (a .upper .now) (a .total) k)) (clamp-in _ _ (p .some) (p .within)))
+
+write-requires : tie.Need-write-requires
+write-requires c κs =
+    let e = c .before .before in
+    let a = e .before .before .before .before .before .before .before .before .args in
+    let p = range-at e in
+    let s = shape-at (e .before .before .before) in
+    let valid = composition-is (a .upper .now) (a .total) (a .serial) (p .some) (p .within) in
+    let number = serial-composition (a .upper .now) (a .total) (a .serial) (p .some) (p .within) in
+    (s .some, s .few, s .small, rw (first-at e) valid, rw (first-at e, number) (p .few), p .room)
+
+returns-3 : tie.Need-returns-3
+returns-3 c =
+    let e = c .before .before .before .before .before in
+    let a = e .before .before .before .before .before .before .before .before .args in
+    let at = accepted (e .before .before .before) in
+    let p = range-at e in
+    batch-done _ _ _ _ _ (at .0) (at .1) (e .before .before .room-refusal .ensures) (omega arith)
+    (c .before .before .write .ensures ∙ rw (first-at e, serial-composition (a .upper .now) (a .total) (a .serial) (p .some) (p .within)))
+
+pub batch-spec : {M : Type 1} → statement M
+batch-spec =
+    tie.close
+    (tie.spec
+    (λ c κs. search needs)
+    returns
+    (λ c κs. shape-at c .some)
+    returns-2
+    write-requires
+    (λ c. search needs)
+    returns-3)

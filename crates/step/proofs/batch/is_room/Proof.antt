@@ -1,0 +1,14 @@
+-- `step::batch::is_room` meets its contract.
+use borrow.Author.Needs.{needs}
+use Rattle.step.proofs.Copies.{room-rest, room-parts}
+use Rattle.step.proofs.batch.is_room.Statement.{statement}
+use Rattle.step.proofs.batch.is_room.Tie as tie
+
+pub is-room-spec : {M : Type 1} → statement M
+is-room-spec =
+    tie.close
+    (tie.spec
+    (λ c. search needs)
+    (λ c. room-rest _ _ _ (c .before .pre) (c .if1 .taken))
+    (λ c. search needs)
+    (λ c. room-parts _ _ _ (c .before .pre) (c .if1 .left)))

@@ -1,0 +1,184 @@
+// Runs vectors from outside through the library. Standard input has a command a line, a letter and numbers (a list has its length in front); each is
+// answered by a line of numbers. tests/vectors.py writes the commands and the expected answers from an independent implementation.
+ghost use Prim.Native.Nat.{_≤_};
+
+mod read;
+mod show;
+
+use libc::STDIN_FILENO;
+
+// What a lent part holds before a call.
+const FILL: u8 = 170;
+
+// count: c, upper, total: number, detail, N
+fn count(s: &[u8], from: usize) -> usize
+    ensures { λ r. ⌜ from ≤ r ⌝ }
+{
+    let mut upper = [0u8; 64];
+    let e = read::bounded_by(s, from, &mut upper);
+    let c = bounds::check(read::part(&upper, e.parts), e.total);
+    show::three(c.number, c.detail, c.count);
+    e.at
+}
+
+// table: t, k, r: M(k, r), and nothing outside the table
+fn table(s: &[u8], from: usize) -> usize
+    ensures { λ r. ⌜ from ≤ r ⌝ }
+{
+    let k = read::number(s, from);
+    let r = read::number(s, k.at);
+    match mahonian::read((k.value % 65536) as usize, (r.value % 65536) as usize) {
+        mahonian::Entry::Count(n) => show::first(n),
+        mahonian::Entry::Outside => {}
+    }
+    show::end();
+    r.at
+}
+
+// rank: r, upper, total, composition: number, detail, serial
+fn rank(s: &[u8], from: usize) -> usize
+    ensures { λ r. ⌜ from ≤ r ⌝ }
+{
+    let mut upper = [0u8; 64];
+    let mut composition = [0u8; 64];
+    let e = read::bounded_by(s, from, &mut upper);
+    let g = read::list(s, e.at, &mut composition);
+    match rank::rank(
+        read::part(&upper, e.parts),
+        e.total,
+        read::part(&composition, g.len),
+    ) {
+        rank::Ranked::Serial(serial) => show::three(0, 0, serial),
+        rank::Ranked::Refused(number, detail) => show::three(number, detail, 0),
+    }
+    g.at
+}
+
+// unrank: u, upper, total, serial, length: number, detail, the lent part
+fn unrank(s: &[u8], from: usize) -> usize
+    ensures { λ r. ⌜ from ≤ r ⌝ }
+{
+    let mut upper = [0u8; 64];
+    let mut out = [FILL; 1024];
+    let e = read::bounded_by(s, from, &mut upper);
+    let serial = read::number(s, e.at);
+    let size = read::number(s, serial.at);
+    let lent = read::lent(&mut out, size.value);
+    let r = rank::unrank(read::part(&upper, e.parts), e.total, serial.value, lent);
+    show::lent(r, lent);
+    size.at
+}
+
+// step: s forward or p backward, upper, total, composition: number, detail, 24 cells
+fn step(s: &[u8], from: usize, back: bool) -> usize
+    ensures { λ r. ⌜ from ≤ r ⌝ }
+{
+    let mut upper = [0u8; 64];
+    let mut given = [0u8; 64];
+    let e = read::bounded_by(s, from, &mut upper);
+    let g = read::list(s, e.at, &mut given);
+    let ms = read::part(&upper, e.parts);
+    let composition = read::part(&given, g.len);
+    if back {
+        show::stepped(step::predecessor(ms, e.total, composition));
+    } else {
+        show::stepped(step::successor(ms, e.total, composition));
+    }
+    g.at
+}
+
+// batch: b, upper, total, serial, copies, length: number, detail, the lent part
+fn batch(s: &[u8], from: usize) -> usize
+    ensures { λ r. ⌜ from ≤ r ⌝ }
+{
+    let mut upper = [0u8; 64];
+    let mut out = [FILL; 1024];
+    let e = read::bounded_by(s, from, &mut upper);
+    let serial = read::number(s, e.at);
+    let copies = read::number(s, serial.at);
+    let size = read::number(s, copies.at);
+    let lent = read::lent(&mut out, size.value);
+    let r = step::batch::batch(
+        read::part(&upper, e.parts),
+        e.total,
+        serial.value,
+        copies.value,
+        lent,
+    );
+    show::lent(r, lent);
+    size.at
+}
+
+// permutation: o, upper, total, composition, length: number, detail, the lent part
+fn permutation(s: &[u8], from: usize) -> usize
+    ensures { λ r. ⌜ from ≤ r ⌝ }
+{
+    let mut upper = [0u8; 64];
+    let mut given = [0u8; 64];
+    let mut out = [FILL; 1024];
+    let e = read::bounded_by(s, from, &mut upper);
+    let g = read::list(s, e.at, &mut given);
+    let size = read::number(s, g.at);
+    let lent = read::lent(&mut out, size.value);
+    let r = permutation::permutation(
+        read::part(&upper, e.parts),
+        e.total,
+        read::part(&given, g.len),
+        lent,
+    );
+    show::lent(r, lent);
+    size.at
+}
+
+// inversions: i, upper, total, permutation, length: number, detail, the lent part
+fn inversions(s: &[u8], from: usize) -> usize
+    ensures { λ r. ⌜ from ≤ r ⌝ }
+{
+    let mut upper = [0u8; 64];
+    let mut given = [0u8; 64];
+    let mut out = [FILL; 1024];
+    let e = read::bounded_by(s, from, &mut upper);
+    let p = read::list(s, e.at, &mut given);
+    let size = read::number(s, p.at);
+    let lent = read::lent(&mut out, size.value);
+    let r = permutation::inversions(
+        read::part(&upper, e.parts),
+        e.total,
+        read::part(&given, p.len),
+        lent,
+    );
+    show::lent(r, lent);
+    size.at
+}
+
+// The command at a letter; any other byte is passed over.
+fn command(s: &[u8], letter: u8, from: usize) -> usize
+    ensures { λ r. ⌜ from ≤ r ⌝ }
+{
+    match letter {
+        b'c' => count(s, from),
+        b't' => table(s, from),
+        b'r' => rank(s, from),
+        b'u' => unrank(s, from),
+        b's' => step(s, from, false),
+        b'p' => step(s, from, true),
+        b'b' => batch(s, from),
+        b'o' => permutation(s, from),
+        b'i' => inversions(s, from),
+        _ => from,
+    }
+}
+
+// Every command.
+fn run(s: &[u8]) {
+    let mut at = 0;
+    while at < s.len() {
+        at = command(s, s[at], at + 1);
+    }
+}
+
+fn main() {
+    let mut input = io::large_buffer();
+    let got = io::read_full(STDIN_FILENO, &mut input);
+    run(read::part(&input, got));
+}
