@@ -18,7 +18,8 @@ mod check;
 
 // ---- opening
 
-fn unopened(number: u32, detail: u64) -> Opened
+// A refused opening: a record of zeros.
+pub fn unopened(number: u32, detail: u64) -> Opened
     ensures { λ r. ⌜ r ≡ record { number = number; detail = detail; ledger = blankLedger } ⌝ }
 {
     let bounds = Bounds {

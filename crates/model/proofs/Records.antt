@@ -25,16 +25,16 @@ use Rattle.model.proofs.Lists.{zeros-or-not}
 
 -- ---- number 16
 
-abbrev Holds : List Bool → Type 0
+abbrev pub Holds : List Bool → Type 0
 Holds [] = Unit
 Holds (b ∷ bs) = (b ≡ true) × Holds bs
 
-each : (bs : List Bool) → all bs ≡ true → Holds bs
+pub each : (bs : List Bool) → all bs ≡ true → Holds bs
 each [] t = tt
 each (true ∷ bs) t = (refl, each bs t)
 each (false ∷ bs) t = absurd (false≢true t)
 
-one-fails : (i : ℕ) (bs : List Bool) → getD bs i true ≡ false → all bs ≡ false
+pub one-fails : (i : ℕ) (bs : List Bool) → getD bs i true ≡ false → all bs ≡ false
 one-fails i [] e = absurd (false≢true (sym e))
 one-fails zero (b ∷ bs) e = rw e
 one-fails (suc i) (true ∷ bs) e = one-fails i bs e

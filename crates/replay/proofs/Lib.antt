@@ -1,0 +1,4 @@
+pub mod Scripts
+pub mod Traces
+pub mod Steps
+pub mod Promise

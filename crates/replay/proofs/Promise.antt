@@ -1,0 +1,106 @@
+-- What the code left behind is the run of the list, and the statement about the whole list holds of it.
+use mathlib.Core.Path.{_≡_, refl, sym, ap, _∙_, subst⁻¹}
+use mathlib.Core.Logic.{_≢_}
+use mathlib.Core.Bool.{true, false, not}
+use mathlib.Core.List.{List, [], _∷_, _++_, map}
+use Prim.Native.Nat.{ℕ, _<_}
+use native.Mathlib.Omega.{arith}
+use lib.ListN.{length}
+use Rattle.bounds.specs.Refusal.{Check, check, refused, firstRefusal}
+use Rattle.bounds.specs.declared.Refusal.{Refusal}
+use Rattle.bounds.proofs.Refusals.{refusal-here, refusal-next, refusal-first, refusal-later, by-refusal, is-refused, is-accepted}
+use Rattle.model.specs.Basics.{over, all}
+use Rattle.model.specs.Model.{Call}
+use Rattle.model.specs.Record.{openingChecks, opening, opened, blankLedger, Run, run}
+use Rattle.model.specs.Whole.{ran, secondList, Whole}
+use Rattle.model.specs.declared.Ledger.{Ledger}
+use Rattle.model.specs.declared.Opened.{Opened}
+use Rattle.model.proofs.Opening.{opens}
+use Rattle.model.proofs.Whole.{whole}
+use Rattle.replay.specs.Replay.{Script, Buffers, callsOf, shown, seen, sizes, replayChecks, Replayed, Replays}
+use Rattle.replay.specs.Progress.{Ran}
+use Rattle.replay.proofs.Traces.{cellsIn, read-back, run-calls}
+
+observed : (r : Ledger) (cs : List Call) (b b′ : Buffers) (l : Ledger) → Ran r cs b b′ l → seen cs l b′ ≡ run r (b .column) cs
+observed r cs b b′ l w =
+    let t = run r (b .column) cs .trace in
+    let p : shown cs (b′ .numbers) (b′ .details) (b′ .given) (b′ .compositions) ≡ t =
+    rw (w .numbers, w .details, w .given, w .compositions)
+    (ap (λ (c : List Call). shown c (over (b .numbers) (map (λ x. x .reply .number) t)) (over (b .details) (map (λ x. x .reply .detail) t)) (over (b .given) (map (λ x. x .reply .serial) t)) (over (b .compositions) (cellsIn t))) (sym (run-calls r (b .column) cs))
+    ∙ read-back t _ _ _ _ (w .full)) in
+    λ i. record { trace = p i; ledger = w .ledger i; column = w .column i }
+
+module _ (ms : List ℕ) (r : ℕ) (x : Script) (b : Buffers) (o : Opened) (e : o ≡ opening ms r (b .column)) where
+  abbrev checks : Refusal
+  checks = firstRefusal (openingChecks ms r (length (b .column)))
+
+  abbrev lent : List Check
+  lent = check 13 (not (all (sizes x b))) 0 ∷ []
+
+  -- the opening's own refusal
+  pub replay-unopened : o .number ≢ 0 → Replays ms r x b b o
+  unfolding opening
+  replay-unopened n =
+      let some : 0 < o .number = omega (arith, n) in
+      let v = is-refused checks _ _ (λ (y : Opened). y .number) (λ (y : Opened). y .detail) refl refl refl o e some in
+      let first = refusal-first (openingChecks ms r (length (b .column))) lent (λ z. n (ap (λ (y : Refusal). y .number) (sym v) ∙ z)) ∙ v in
+      record {
+        number = ap (λ (y : Refusal). y .number) (sym first);
+        detail = ap (λ (y : Refusal). y .detail) (sym first);
+        refused = λ _. (ap (λ (y : Opened). y .ledger) (e ∙ by-refusal checks _ _ (o .number) (o .detail) v some), refl);
+        accepted = λ z. absurd (n z);
+      }
+
+  module _ (z : o .number ≡ 0) where
+    opening-accepted : opening ms r (b .column) .number ≡ 0
+    opening-accepted = ap (λ (y : Opened). y .number) (sym e) ∙ z
+
+    fitting : firstRefusal (replayChecks ms r x b) ≡ firstRefusal lent
+    unfolding opening
+    fitting =
+        let a = is-accepted checks _ _ (λ (y : Opened). y .number) (λ (y : Opened). y .detail) refl refl refl o e z in
+        refusal-later (openingChecks ms r (length (b .column))) lent refl (a .0)
+
+    -- slices that do not fit together
+    pub replay-unfit : all (sizes x b) ≡ false → (o′ : Opened) → o′ ≡ record { number = 13; detail = 0; ledger = blankLedger } → Replays ms r x b b o′
+    replay-unfit f o′ is =
+        let first = fitting ∙ refusal-here (check 13 (not (all (sizes x b))) 0) [] (ap not f) in
+        rw is
+        (record {
+          number = ap (λ (y : Refusal). y .number) (sym first);
+          detail = ap (λ (y : Refusal). y .detail) (sym first);
+          refused = λ _. (refl, refl);
+          accepted = λ q. absurd (omega (arith, q));
+        })
+
+    pub replay-done : (b′ : Buffers) (l : Ledger) → all (sizes x b) ≡ true → Ran (o .ledger) (callsOf x) b b′ l
+        → Replays ms r x b b′ (record { number = 0; detail = 0; ledger = l })
+    unfolding firstRefusal
+    replay-done b′ l t w =
+        let first : firstRefusal (replayChecks ms r x b) ≡ refused 0 0 = fitting ∙ rw t in
+        let q = opens ms r (b .column) opening-accepted in
+        let start : o .ledger ≡ opened ms r = ap (λ (y : Opened). y .ledger) e ∙ q .1 in
+        let p : seen (callsOf x) l b′ ≡ ran ms r (b .column) (callsOf x) =
+        observed (o .ledger) (callsOf x) b b′ l w ∙ ap (λ (y : Ledger). run y (b .column) (callsOf x)) start in
+        record {
+          number = ap (λ (y : Refusal). y .number) (sym first);
+          detail = ap (λ (y : Refusal). y .detail) (sym first);
+          refused = λ n. absurd (n refl);
+          accepted = λ _.
+              record {
+                run = p;
+                whole =
+                    subst⁻¹ (λ (y : Run). Whole ms r (b .column) (callsOf x) y (ran ms r (b .column) (secondList y))) p
+                    (whole ms r (b .column) (q .0) (callsOf x));
+              };
+        }
+
+-- two runs of the code, of a list and of its second list over a column of the same values
+pub two-runs : (ms : List ℕ) (r : ℕ) (cs : List Call) (b b₁ b₂ b₃ : Buffers) (l₁ l₂ : Ledger)
+    → b₂ .column ≡ b .column
+    → Replayed ms r cs b b₁ l₁
+    → Replayed ms r (secondList (seen cs l₁ b₁)) b₂ b₃ l₂
+    → Whole ms r (b .column) cs (seen cs l₁ b₁) (seen (secondList (seen cs l₁ b₁)) l₂ b₃)
+two-runs ms r cs b b₁ b₂ b₃ l₁ l₂ e p q =
+    subst⁻¹ (λ (v : Run). Whole ms r (b .column) cs (seen cs l₁ b₁) v)
+    (q .run ∙ ap (λ (col : List ℕ). ran ms r col (secondList (seen cs l₁ b₁))) e) (p .whole)

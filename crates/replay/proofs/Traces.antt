@@ -1,0 +1,100 @@
+-- A list of calls one call longer, and a trace read back from the buffers that hold it.
+use mathlib.Core.Path.{_≡_, refl, sym, ap, _∙_}
+use mathlib.Core.List.{List, [], _∷_, _++_, map, map-append, append-assoc, append-nil}
+use Prim.Native.Nat.{ℕ, suc, _*_, _<_}
+use native.Mathlib.Omega.{arith}
+use lib.ListN.{length, drop, set, length-append, length-map}
+use lib.Seq.{paste, take-append-seam, drop-append-add, drop-drop, take-length, take-at, drop-at}
+use Rattle.model.specs.Basics.{over}
+use Rattle.model.specs.Model.{Call, Event}
+use Rattle.model.specs.Record.{answered, recordAfter, columnAfter, run}
+use Rattle.model.specs.declared.Ledger.{Ledger}
+use Rattle.model.proofs.Lists.{set-over}
+use Rattle.replay.specs.Replay.{shown}
+use Rattle.replay.specs.Progress.{joined, Full}
+
+-- one call more
+pub record Snoc (r : Ledger) (col : List ℕ) (cs : List Call) (c : Call) : Type 0 where
+  pub trace : run r col (cs ++ (c ∷ [])) .trace
+      ≡ run r col cs .trace ++ (record { call = c; reply = answered (run r col cs .ledger) (run r col cs .column) c } ∷ [])
+  pub ledger : run r col (cs ++ (c ∷ [])) .ledger ≡ recordAfter (run r col cs .ledger) (run r col cs .column) c
+  pub column : run r col (cs ++ (c ∷ [])) .column ≡ columnAfter (run r col cs .ledger) (run r col cs .column) c
+  pub size : length (run r col cs .trace) ≡ length cs
+
+pub snoc : (r : Ledger) (col : List ℕ) (cs : List Call) (c : Call) → Snoc r col cs c
+unfolding run
+snoc r col [] c = record { trace = refl; ledger = refl; column = refl; size = refl }
+snoc r col (x ∷ cs) c =
+    let i = snoc (recordAfter r col x) (columnAfter r col x) cs c in
+    record {
+      trace = ap {B = List Event} (λ t. record { call = x; reply = answered r col x } ∷ t) (i .trace);
+      ledger = i .ledger;
+      column = i .column;
+      size = ap suc (i .size);
+    }
+
+-- ---- buffers
+
+-- one number for each call
+pub numbers-snoc : (d : List ℕ) (f : Event → ℕ) (t : List Event) (x : Event) → length t < length d → set (over d (map f t)) (length t) (f x) ≡ over d (map f (t ++ (x ∷ [])))
+numbers-snoc d f t x h =
+    let e = length-map t f in
+    let p : set (over d (map f t)) (length (map f t)) (f x) ≡ over d (map f t ++ (f x ∷ [])) = set-over d (map f t) (f x) (omega arith) in
+    ap (λ (k : ℕ). set (over d (map f t)) k (f x)) (sym e) ∙ p ∙ ap (over d) (sym (map-append f t (x ∷ [])))
+
+-- the cells of the compositions so far
+abbrev pub cellsIn : List Event → List ℕ
+cellsIn t = joined (map (λ x. x .reply .composition) t)
+
+joined-snoc : (ls : List (List ℕ)) (l : List ℕ) → joined (ls ++ (l ∷ [])) ≡ joined ls ++ l
+joined-snoc [] l = append-nil l
+joined-snoc (k ∷ ls) l = ap (λ (t : List ℕ). k ++ t) (joined-snoc ls l) ∙ sym (append-assoc k (joined ls) l)
+
+cells-snoc : (t : List Event) (x : Event) → cellsIn (t ++ (x ∷ [])) ≡ cellsIn t ++ x .reply .composition
+cells-snoc t x =
+    ap joined (map-append (λ y. y .reply .composition) t (x ∷ [])) ∙ joined-snoc (map (λ y. y .reply .composition) t) (x .reply .composition)
+
+paste-over : (d l m : List ℕ) → paste (over d l) (length l) m (length m) ≡ over d (l ++ m)
+paste-over d l m =
+    rw (
+      take-append-seam l (drop (length l) d),
+      take-length m,
+      drop-append-add l (drop (length l) d) (length m),
+      drop-drop (length m) (length l) d,
+      length-append l m,
+    )
+
+full-length : (t : List Event) → Full t → length (cellsIn t) ≡ length t * 24
+full-length [] f = refl
+full-length (x ∷ t) f = length-append (x .reply .composition) (cellsIn t) ∙ omega (arith, f .0, full-length t (f .1))
+
+pub cells-more : (m : List ℕ) (t : List Event) (x : Event) → Full t → length (x .reply .composition) ≡ 24
+    → paste (over m (cellsIn t)) (length t * 24) (x .reply .composition) 24 ≡ over m (cellsIn (t ++ (x ∷ [])))
+cells-more m t x f h =
+    ap (λ (i : ℕ). paste (over m (cellsIn t)) i (x .reply .composition) 24) (sym (full-length t f))
+    ∙ ap (paste (over m (cellsIn t)) (length (cellsIn t)) (x .reply .composition)) (sym h)
+    ∙ paste-over m (cellsIn t) (x .reply .composition)
+    ∙ ap (over m) (sym (cells-snoc t x))
+
+pub full-snoc : (t : List Event) (x : Event) → Full t → length (x .reply .composition) ≡ 24 → Full (t ++ (x ∷ []))
+full-snoc [] x f h = (h, tt)
+full-snoc (y ∷ t) x f h = (f .0, full-snoc t x (f .1) h)
+
+-- the buffers show the trace
+pub read-back : (t : List Event) (n d s m : List ℕ) → Full t
+    → shown (map (λ x. x .call) t) (map (λ x. x .reply .number) t ++ n) (map (λ x. x .reply .detail) t ++ d)
+    (map (λ x. x .reply .serial) t ++ s) (cellsIn t ++ m)
+    ≡ t
+read-back [] n d s m f = refl
+read-back (x ∷ t) n d s m f =
+    rw (
+      append-assoc (x .reply .composition) (cellsIn t) m,
+      take-at (x .reply .composition) (cellsIn t ++ m) 24 (f .0),
+      drop-at (x .reply .composition) (cellsIn t ++ m) 24 (f .0),
+      read-back t n d s m (f .1),
+    )
+
+pub run-calls : (r : Ledger) (col : List ℕ) (cs : List Call) → map (λ x. x .call) (run r col cs .trace) ≡ cs
+unfolding run
+run-calls r col [] = refl
+run-calls r col (c ∷ cs) = ap {B = List Call} (λ l. c ∷ l) (run-calls (recordAfter r col c) (columnAfter r col c) cs)

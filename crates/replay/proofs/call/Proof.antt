@@ -1,0 +1,39 @@
+-- `replay::call` meets its contract.
+use mathlib.Core.Path.{_≡_}
+use denote.Ref.{now}
+use borrow.Author.Needs.{needs}
+use Rattle.replay.proofs.Scripts.{call-peek, call-claim, call-void}
+use Rattle.replay.proofs.Steps.{calling-peek}
+use Rattle.replay.proofs.call.Statement.{statement}
+use Rattle.replay.proofs.call.Tie as tie
+
+returns : tie.Need-returns
+returns c =
+    let a = c .before .before .before .before .args in
+    rw (call-peek (a .which) (a .serial) (a .order) (c .before .before .if1 .taken)) (calling-peek (a .ledger) (now (a .column)) (c .peek .result) (c .peek .ensures))
+
+returns-2 : tie.Need-returns-2
+returns-2 c =
+    let a = c .before .before .before .before .before .before .before .args in
+    let t = c .before .before .before .before in
+    rw (call-claim (a .which) (a .serial) (a .order) (t .before .if1 .left) (t .if2 .taken)) (c .before .before .claim .ensures)
+
+returns-3 : tie.Need-returns-3
+returns-3 c =
+    let a = c .before .before .before .before .before .before .before .args in
+    let t = c .before .before .before .before in
+    rw (call-void (a .which) (a .serial) (a .order) (t .before .if1 .left) (t .if2 .left)) (c .before .before .void .ensures)
+
+pub call-spec : {M : Type 1} → statement M
+call-spec =
+    tie.close
+    (tie.spec
+    (λ c κs. search needs)
+    (λ c. search needs)
+    returns
+    (λ c κs. search needs)
+    (λ c. search needs)
+    returns-2
+    (λ c κs. search needs)
+    (λ c. search needs)
+    returns-3)

@@ -1,0 +1,90 @@
+-- Document 01, "The register": a whole list of calls, run by the code over slices that the caller lends. What the code promises of it is the
+-- statement about the list as a whole (crate `model`, specs/Whole.antt), of what stands in the slices afterwards.
+use mathlib.Core.Path.{_≡_}
+use mathlib.Core.Logic.{_≢_}
+use mathlib.Core.Bool.{Bool, cond, not}
+use mathlib.Core.List.{List, [], _∷_, _++_}
+use Prim.Native.Nat.{ℕ, _*_}
+use lib.Dec.{eqb}
+use lib.ListN.{length, getD, take, drop}
+use Rattle.bounds.specs.Refusal.{Check, check, firstRefusal}
+use Rattle.model.specs.Basics.{all}
+use Rattle.model.specs.Model.{Call, peek, claim, void, Event}
+use Rattle.model.specs.Record.{blankLedger, openingChecks, Run}
+use Rattle.model.specs.Whole.{ran, secondList, Whole}
+use Rattle.model.specs.declared.Ledger.{Ledger}
+use Rattle.model.specs.declared.Opened.{Opened}
+
+-- ---- the slices
+
+-- the calls, written down in three lists
+pub record Script : Type 0 where
+  pub calls : List ℕ
+  pub serials : List ℕ
+  pub orders : List ℕ
+
+-- the column, and the buffers for the answers, a composition in 24 places of the last
+pub record Buffers : Type 0 where
+  pub column : List ℕ
+  pub numbers : List ℕ
+  pub details : List ℕ
+  pub given : List ℕ
+  pub compositions : List ℕ
+
+-- a call as three numbers: 0 is a peek, 1 a claim, any other a void
+abbrev pub callOf : ℕ → ℕ → ℕ → Call
+callOf k s o = cond (eqb k 0) peek (cond (eqb k 1) (claim s o) (void s))
+
+abbrev pub callsIn : List ℕ → List ℕ → List ℕ → List Call
+callsIn [] ss os = []
+callsIn (k ∷ ks) [] os = []
+callsIn (k ∷ ks) (s ∷ ss) [] = []
+callsIn (k ∷ ks) (s ∷ ss) (o ∷ os) = callOf k s o ∷ callsIn ks ss os
+
+abbrev pub callsOf : Script → List Call
+callsOf x = callsIn (x .calls) (x .serials) (x .orders)
+
+-- the answers that the buffers hold for the calls of a list, in turn
+abbrev pub shown : List Call → (n d s m : List ℕ) → List Event
+shown [] n d s m = []
+shown (c ∷ cs) n d s m =
+    let t = shown cs (drop 1 n) (drop 1 d) (drop 1 s) (drop 24 m) in
+    record { call = c; reply = record { number = getD n 0 0; detail = getD d 0 0; serial = getD s 0 0; composition = take 24 m } } ∷ t
+
+-- a run as the record, the column and the buffers show it
+abbrev pub seen : List Call → Ledger → Buffers → Run
+seen cs l b = record { trace = shown cs (b .numbers) (b .details) (b .given) (b .compositions); ledger = l; column = b .column }
+
+-- ---- refusals: those of the opening, then the place 'lent part'
+
+-- slices of these lengths have an entry for each of k calls, the last 24
+abbrev pub sizesOf : (k serials orders numbers details given compositions : ℕ) → List Bool
+sizesOf k serials orders numbers details given compositions =
+    eqb serials k
+    ∷ eqb orders k
+    ∷ eqb numbers k
+    ∷ eqb details k
+    ∷ eqb given k
+    ∷ eqb compositions (k * 24)
+    ∷ []
+
+abbrev pub sizes : Script → Buffers → List Bool
+sizes x b =
+    sizesOf (length (x .calls)) (length (x .serials)) (length (x .orders)) (length (b .numbers)) (length (b .details)) (length (b .given))
+    (length (b .compositions))
+
+abbrev pub replayChecks : List ℕ → ℕ → Script → Buffers → List Check
+replayChecks ms r x b = openingChecks ms r (length (b .column)) ++ (check 13 (not (all (sizes x b))) 0 ∷ [])
+
+-- ---- the promise: with b lent, o is answered and b′ left
+
+-- what is seen is the run of the list, with all that is said of the list as a whole
+pub record Replayed (ms : List ℕ) (r : ℕ) (cs : List Call) (b b′ : Buffers) (l : Ledger) : Type 0 where
+  pub run : seen cs l b′ ≡ ran ms r (b .column) cs
+  pub whole : Whole ms r (b .column) cs (seen cs l b′) (ran ms r (b .column) (secondList (seen cs l b′)))
+
+pub record Replays (ms : List ℕ) (r : ℕ) (x : Script) (b b′ : Buffers) (o : Opened) : Type 0 where
+  pub number : o .number ≡ firstRefusal (replayChecks ms r x b) .number
+  pub detail : o .detail ≡ firstRefusal (replayChecks ms r x b) .detail
+  pub refused : o .number ≢ 0 → (o .ledger ≡ blankLedger) × (b′ ≡ b)
+  pub accepted : o .number ≡ 0 → Replayed ms r (callsOf x) b b′ (o .ledger)

@@ -1,0 +1,184 @@
+// A whole list of calls on a newly opened ledger. The promise of `replay` is the statement about the list as a whole (document 01, "The
+// register"), so a program that breaks it cannot be built.
+use model::Answer;
+use model::Claimed;
+use model::Ledger;
+use model::Opened;
+ghost use mathlib.Core.Path.{_≡_};
+ghost use mathlib.Core.Bool.{true};
+ghost use Prim.Native.Nat.{_+_, _*_, _≤_, _<_};
+ghost use lib.ListN.{length};
+ghost use lib.Seq.{paste};
+ghost use Rattle.model.specs.Basics.{all};
+ghost use Rattle.model.specs.Record.{calling};
+ghost use Rattle.replay.specs.Replay.{callOf, callsOf, sizesOf, sizes, Replays};
+ghost use Rattle.replay.specs.Progress.{Put, Ran};
+
+// One call: 0 is a peek, 1 a claim, any other a void.
+pub fn call(ledger: Ledger, column: &mut [u32], which: u8, serial: u64, order: u32) -> Claimed
+    ensures { λ r. ⌜ (r, now (column .exit)) ≡ calling ledger (now (column .entry)) (callOf which serial order) ⌝ }
+{
+    if which == 0 {
+        let answer = ledger::peek(ledger, column);
+        return Claimed { answer, ledger };
+    }
+    if which == 1 {
+        return ledger::claim(ledger, column, serial, order);
+    }
+    ledger::void(ledger, column, serial)
+}
+
+// A composition, written from place `at` on.
+fn put_cells(compositions: &mut [u8], at: usize, cells: [u8; 24])
+    requires { ⌜ at + 24 ≤ length (now compositions) ⌝ }
+    ensures { λ _. ⌜ (now (compositions .exit) ≡ paste (now (compositions .entry)) at cells 24) × (length cells ≡ 24) ⌝ }
+{
+    let mut j: usize = 0;
+    while j < 24 {
+        compositions[at + j] = cells[j];
+        j += 1;
+    }
+}
+
+// An answer, written at place i of the buffers.
+fn put(
+    answer: Answer,
+    i: usize,
+    numbers: &mut [u32],
+    details: &mut [u64],
+    given: &mut [u64],
+    compositions: &mut [u8],
+)
+    requires { ⌜ (i < length (now numbers)) × (i < length (now details)) × (i < length (now given)) × (i * 24 + 24 ≤ length (now compositions)) ⌝ }
+    ensures { λ _.
+        ⌜ Put answer i (now (numbers .entry)) (now (numbers .exit)) (now (details .entry)) (now (details .exit)) (now (given .entry))
+        (now (given .exit)) (now (compositions .entry)) (now (compositions .exit)) ⌝ }
+{
+    numbers[i] = answer.number;
+    details[i] = answer.detail;
+    given[i] = answer.serial;
+    let cells = answer.composition;
+    put_cells(compositions, i * 24, cells);
+}
+
+// The calls in turn, each on the record and the column as the one before it left them.
+fn run(
+    ledger: Ledger,
+    calls: &[u8],
+    serials: &[u64],
+    orders: &[u32],
+    column: &mut [u32],
+    numbers: &mut [u32],
+    details: &mut [u64],
+    given: &mut [u64],
+    compositions: &mut [u8],
+) -> Ledger
+    requires { ⌜ all (sizes (record { calls = now calls; serials = now serials; orders = now orders })
+        (record { column = now column; numbers = now numbers; details = now details; given = now given; compositions = now compositions }))
+        ≡ true ⌝ }
+    ensures { λ l.
+        ⌜ Ran ledger
+        (callsOf (record { calls = now (calls .entry); serials = now (serials .entry); orders = now (orders .entry) }))
+        (record { column = now (column .entry); numbers = now (numbers .entry); details = now (details .entry); given = now (given .entry); compositions = now (compositions .entry) })
+        (record { column = now (column .exit); numbers = now (numbers .exit); details = now (details .exit); given = now (given .exit); compositions = now (compositions .exit) })
+        l ⌝ }
+{
+    let mut l = ledger;
+    let mut i: usize = 0;
+    while i < calls.len() {
+        let done = call(l, column, calls[i], serials[i], orders[i]);
+        let answer = done.answer;
+        put(answer, i, numbers, details, given, compositions);
+        l = done.ledger;
+        i += 1;
+    }
+    l
+}
+
+// Whether the slices have an entry for each call, by their lengths.
+fn fits(
+    calls: usize,
+    serials: usize,
+    orders: usize,
+    numbers: usize,
+    details: usize,
+    given: usize,
+    compositions: usize,
+) -> bool
+    ensures { λ r. ⌜ r ≡ all (sizesOf calls serials orders numbers details given compositions) ⌝ }
+{
+    if serials != calls {
+        return false;
+    }
+    if orders != calls {
+        return false;
+    }
+    if numbers != calls {
+        return false;
+    }
+    if details != calls {
+        return false;
+    }
+    if given != calls {
+        return false;
+    }
+    if compositions % 24 != 0 {
+        return false;
+    }
+    compositions / 24 == calls
+}
+
+// A list of calls on a newly opened ledger over `column`: which call, its serial and its order. The answers go into the lent buffers, which have an
+// entry for each call, the last 24. A refusal writes nothing.
+pub fn replay(
+    upper: &[u8],
+    total: u32,
+    calls: &[u8],
+    serials: &[u64],
+    orders: &[u32],
+    column: &mut [u32],
+    numbers: &mut [u32],
+    details: &mut [u64],
+    given: &mut [u64],
+    compositions: &mut [u8],
+) -> Opened
+    ensures { λ r.
+        ⌜ Replays (now (upper .entry)) total
+        (record { calls = now (calls .entry); serials = now (serials .entry); orders = now (orders .entry) })
+        (record { column = now (column .entry); numbers = now (numbers .entry); details = now (details .entry); given = now (given .entry); compositions = now (compositions .entry) })
+        (record { column = now (column .exit); numbers = now (numbers .exit); details = now (details .exit); given = now (given .exit); compositions = now (compositions .exit) })
+        r ⌝ }
+{
+    let opened = ledger::open(upper, total, column);
+    if opened.number != 0 {
+        return opened;
+    }
+    if !fits(
+        calls.len(),
+        serials.len(),
+        orders.len(),
+        numbers.len(),
+        details.len(),
+        given.len(),
+        compositions.len(),
+    ) {
+        return ledger::unopened(13, 0);
+    }
+    let first = opened.ledger;
+    let last = run(
+        first,
+        calls,
+        serials,
+        orders,
+        column,
+        numbers,
+        details,
+        given,
+        compositions,
+    );
+    Opened {
+        number: 0,
+        detail: 0,
+        ledger: last,
+    }
+}
