@@ -258,11 +258,14 @@ pub fn claim(ledger: Ledger, orders: &mut [u32], serial: u64, order: u32) -> Cla
 pub fn void(ledger: Ledger, orders: &mut [u32], serial: u64) -> Claimed
     ensures { λ r. ⌜ (r, now (orders .exit)) ≡ calling ledger (now (orders .entry)) (Call.void serial) ⌝ }
 {
-    let answer = void_answer(ledger, orders, serial);
-    if answer.number != 0 {
-        return Claimed { answer, ledger };
+    let reply = void_answer(ledger, orders, serial);
+    if reply.number != 0 {
+        return Claimed {
+            answer: reply,
+            ledger,
+        };
     }
-    enter(ledger, orders, answer, 0, ledger.sold, ledger.voided + 1)
+    enter(ledger, orders, reply, 0, ledger.sold, ledger.voided + 1)
 }
 
 // The entries so far, as the beginning of the lent column itself; none where number 16 holds.

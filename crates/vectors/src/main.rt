@@ -2,10 +2,10 @@
 // answered by a line of numbers. tests/vectors.py writes the commands and the expected answers from an independent implementation.
 ghost use Prim.Native.Nat.{_≤_};
 
-mod read;
 mod show;
 
 use libc::STDIN_FILENO;
+use text::read;
 
 // What a lent part holds before a call.
 const FILL: u8 = 170;
@@ -17,7 +17,7 @@ fn count(s: &[u8], from: usize) -> usize
     let mut upper = [0u8; 64];
     let e = read::bounded_by(s, from, &mut upper);
     let c = bounds::check(read::part(&upper, e.parts), e.total);
-    show::three(c.number, c.detail, c.count);
+    text::show::three(c.number, c.detail, c.count);
     e.at
 }
 
@@ -28,10 +28,10 @@ fn table(s: &[u8], from: usize) -> usize
     let k = read::number(s, from);
     let r = read::number(s, k.at);
     match mahonian::read((k.value % 65536) as usize, (r.value % 65536) as usize) {
-        mahonian::Entry::Count(n) => show::first(n),
+        mahonian::Entry::Count(n) => text::show::first(n),
         mahonian::Entry::Outside => {}
     }
-    show::end();
+    text::show::end();
     r.at
 }
 
@@ -48,8 +48,8 @@ fn rank(s: &[u8], from: usize) -> usize
         e.total,
         read::part(&composition, g.len),
     ) {
-        rank::Ranked::Serial(serial) => show::three(0, 0, serial),
-        rank::Ranked::Refused(number, detail) => show::three(number, detail, 0),
+        rank::Ranked::Serial(serial) => text::show::three(0, 0, serial),
+        rank::Ranked::Refused(number, detail) => text::show::three(number, detail, 0),
     }
     g.at
 }

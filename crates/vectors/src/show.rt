@@ -1,49 +1,19 @@
 // Answers, a line of numbers each.
-use libc::STDOUT_FILENO;
-
-pub fn first(n: u64) {
-    io::print_decimal(STDOUT_FILENO, n);
-}
-
-fn next(n: u64) {
-    io::write_all(STDOUT_FILENO, b" ");
-    io::print_decimal(STDOUT_FILENO, n);
-}
-
-pub fn end() {
-    io::write_all(STDOUT_FILENO, b"\n");
-}
-
-// A line of three.
-pub fn three(number: u32, detail: u64, value: u64) {
-    first(number as u64);
-    next(detail);
-    next(value);
-    end();
-}
-
-// Each byte of a list.
-fn bytes(list: &[u8]) {
-    let mut i = 0;
-    while i < list.len() {
-        next(walsh::wide(list[i]) as u64);
-        i += 1;
-    }
-}
+use text::show;
 
 // A line of a refusal and the bytes of a lent part.
 pub fn lent(refusal: bounds::Refusal, out: &[u8]) {
-    first(refusal.number as u64);
-    next(refusal.detail);
-    bytes(out);
-    end();
+    show::first(refusal.number as u64);
+    show::next(refusal.detail);
+    show::bytes(out);
+    show::end();
 }
 
 // A line of a step's answer.
 pub fn stepped(answer: step::Stepped) {
     let composition = answer.composition;
-    first(answer.number as u64);
-    next(answer.detail);
-    bytes(&composition);
-    end();
+    show::first(answer.number as u64);
+    show::next(answer.detail);
+    show::bytes(&composition);
+    show::end();
 }

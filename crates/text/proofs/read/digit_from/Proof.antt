@@ -1,11 +1,11 @@
 use Prim.Native.Nat.{_≤_, _-_}
 use lib.ListN.{length}
 use borrow.Author.Needs.{needs}
-use Rattle.vectors.proofs.read.digit_from.Statement.{statement}
-use Rattle.vectors.proofs.read.digit_from.Tie as tie
-use Rattle.vectors.proofs.read.digit_from.Reads as reads
-use Rattle.vectors.proofs.read.digit_from.Lts as lts
-use Rattle.vectors.proofs.read.is_digit.Reads as is-digit-reads
+use Rattle.text.proofs.read.digit_from.Statement.{statement}
+use Rattle.text.proofs.read.digit_from.Tie as tie
+use Rattle.text.proofs.read.digit_from.Reads as reads
+use Rattle.text.proofs.read.digit_from.Lts as lts
+use Rattle.text.proofs.read.is_digit.Reads as is-digit-reads
 
 abbrev Inv-loop : tie.InvT-loop
 Inv-loop s from at₀ at = from ≤ at

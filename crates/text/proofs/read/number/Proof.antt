@@ -1,13 +1,13 @@
 use Prim.Native.Nat.{_≤_, _-_}
 use lib.ListN.{length}
 use borrow.Author.Needs.{needs}
-use Rattle.vectors.proofs.read.number.Statement.{statement}
-use Rattle.vectors.proofs.read.number.Tie as tie
-use Rattle.vectors.proofs.read.number.Reads as reads
-use Rattle.vectors.proofs.read.number.Lts as lts
-use Rattle.vectors.proofs.read.digit_from.Reads as digit-from-reads
-use Rattle.vectors.proofs.read.is_digit.Reads as is-digit-reads
-use Rattle.vectors.proofs.read.with_digit.Reads as with-digit-reads
+use Rattle.text.proofs.read.number.Statement.{statement}
+use Rattle.text.proofs.read.number.Tie as tie
+use Rattle.text.proofs.read.number.Reads as reads
+use Rattle.text.proofs.read.number.Lts as lts
+use Rattle.text.proofs.read.digit_from.Reads as digit-from-reads
+use Rattle.text.proofs.read.is_digit.Reads as is-digit-reads
+use Rattle.text.proofs.read.with_digit.Reads as with-digit-reads
 
 abbrev Inv-loop : tie.InvT-loop
 Inv-loop s from at₀ value₀ at value = from ≤ at

@@ -40,8 +40,8 @@ fn with_digit(n: u64, b: u8) -> u64 {
     tens + digit
 }
 
-// Where the next digit stands.
-fn digit_from(s: &[u8], from: usize) -> usize
+// Where the next digit stands; the end where there is none.
+pub fn digit_from(s: &[u8], from: usize) -> usize
     ensures { λ r. ⌜ from ≤ r ⌝ }
 {
     let mut at = from;

@@ -2,11 +2,11 @@ use Prim.Native.Nat.{_≤_, _-_}
 use mathlib.Core.Path.{_≡_}
 use lib.ListN.{length}
 use borrow.Author.Needs.{needs}
-use Rattle.vectors.proofs.read.list.Statement.{statement}
-use Rattle.vectors.proofs.read.list.Tie as tie
-use Rattle.vectors.proofs.read.list.Reads as reads
-use Rattle.vectors.proofs.read.list.Lts as lts
-use Rattle.vectors.proofs.read.number.Reads as number-reads
+use Rattle.text.proofs.read.list.Statement.{statement}
+use Rattle.text.proofs.read.list.Tie as tie
+use Rattle.text.proofs.read.list.Reads as reads
+use Rattle.text.proofs.read.list.Lts as lts
+use Rattle.text.proofs.read.number.Reads as number-reads
 
 abbrev Inv-loop : tie.InvT-loop
 Inv-loop s from out₀ n at₀ i₀ out at i = (from ≤ at) × (i ≤ length out₀) × (length out ≡ length out₀)

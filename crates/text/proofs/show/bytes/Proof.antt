@@ -1,11 +1,11 @@
 use Prim.Native.Nat.{_≤_, _-_}
 use lib.ListN.{length}
 use borrow.Author.Needs.{needs}
-use Rattle.vectors.proofs.show.bytes.Statement.{statement}
-use Rattle.vectors.proofs.show.bytes.Tie as tie
-use Rattle.vectors.proofs.show.bytes.Reads as reads
-use Rattle.vectors.proofs.show.bytes.Lts as lts
-use Rattle.vectors.proofs.show.next.Reads as next-reads
+use Rattle.text.proofs.show.bytes.Statement.{statement}
+use Rattle.text.proofs.show.bytes.Tie as tie
+use Rattle.text.proofs.show.bytes.Reads as reads
+use Rattle.text.proofs.show.bytes.Lts as lts
+use Rattle.text.proofs.show.next.Reads as next-reads
 use Rattle.walsh.proofs.wide.Reads as wide-reads
 
 abbrev Inv-loop : tie.InvT-loop

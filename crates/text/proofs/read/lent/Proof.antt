@@ -3,8 +3,8 @@ use mathlib.Core.Path.{sym}
 use native.Mathlib.Omega.{arith}
 use borrow.Author.Needs.{needs}
 use lib.Seq.{length-take-le}
-use Rattle.vectors.proofs.read.lent.Statement.{statement}
-use Rattle.vectors.proofs.read.lent.Tie as tie
+use Rattle.text.proofs.read.lent.Statement.{statement}
+use Rattle.text.proofs.read.lent.Tie as tie
 
 slice-aggregate-result : tie.Need-slice-aggregate-result
 slice-aggregate-result c = sym (length-take-le (c .before .before .args .n) (c .before .before .args .s .now) (omega arith))
