@@ -1,12 +1,13 @@
 /* The numbering engine, for C and for all that can call C.
  *
  * Every function is total: any values are answered, and a wrong one gets its refusal. What is left to the caller is C's own: a pointer has the number of
- * readable (or, without `const`, writable) elements that is passed behind it, and a part that is written overlaps no other.
+ * readable (or, without `const`, writable) elements that is passed behind it (a lent record is one), and a part that is written overlaps no other.
  *
  *   number   0: accepted; else the number of document 01's refusal
  *   detail   what document 01 names for that number, else 0
  *
- * A refused call writes no lent byte. Structures go by value, 64-bit little endian, with C's own alignment; crate `engine` has the same in Rattle.
+ * A refused call changes no lent byte. Structures go by value where no pointer stands, 64-bit little endian, with C's own alignment; crate `engine` has
+ * the same in Rattle.
  */
 #ifndef HUZTIRAL_H
 #define HUZTIRAL_H
@@ -101,7 +102,7 @@ huz_done huz_permutation(const uint8_t *upper, size_t parts, uint32_t total, con
 huz_done huz_inversions(const uint8_t *upper, size_t parts, uint32_t total, const uint8_t *permutation, size_t len, uint8_t *out, size_t out_len);
 
 /* The register. The caller keeps the record and the column of order numbers; `orders` and `len` are that column, entry s - 1 the line of serial s. Calls on
- * one register come one after another, each with the record that the call before answered. */
+ * one register come one after another, each with the record that the call before answered or updated. */
 
 /* A new record: 1 to 5, 14, 15. The column is not written. */
 huz_opened huz_open(const uint8_t *upper, size_t parts, uint32_t total, const uint32_t *orders, size_t len);
@@ -111,6 +112,10 @@ huz_peeked huz_peek(huz_ledger ledger, const uint32_t *orders, size_t len);
 huz_claimed huz_claim(huz_ledger ledger, uint32_t *orders, size_t len, uint64_t serial, uint32_t order);
 /* Spoil a serial: its line is written with 0. 16, 6, 18, 19. */
 huz_claimed huz_void(huz_ledger ledger, uint32_t *orders, size_t len, uint64_t serial);
+/* The same on a record that is lent: `ledger` points to one record, which the call updates there. The answers are those of huz_claim and huz_void; a
+ * refused call changes neither the record nor the column. Calls in both forms may follow one another on one register. */
+huz_peeked huz_claim_in(huz_ledger *ledger, uint32_t *orders, size_t len, uint64_t serial, uint32_t order);
+huz_peeked huz_void_in(huz_ledger *ledger, uint32_t *orders, size_t len, uint64_t serial);
 /* How many lines are written, which are as many entries of the column from its first; 0 where 16 holds. */
 uint64_t huz_entries(huz_ledger ledger, const uint32_t *orders, size_t len);
 

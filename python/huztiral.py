@@ -66,6 +66,8 @@ FUNCTIONS = {
     "huz_peek": (Peeked, [Ledger] + ORDERS),
     "huz_claim": (Claimed, [Ledger] + ORDERS + [c_uint64, c_uint32]),
     "huz_void": (Claimed, [Ledger] + ORDERS + [c_uint64]),
+    "huz_claim_in": (Peeked, [POINTER(Ledger)] + ORDERS + [c_uint64, c_uint32]),
+    "huz_void_in": (Peeked, [POINTER(Ledger)] + ORDERS + [c_uint64]),
     "huz_entries": (c_uint64, [Ledger] + ORDERS),
 }
 
@@ -171,7 +173,7 @@ class Edition:
 
 
 class Register:
-    """The register of an edition: its record and its column of order numbers, in memory. One call finishes before another begins."""
+    """The register of an edition: its record and its column of order numbers, in memory, lent to each take and spoil. One call finishes before another begins."""
 
     def __init__(self, edition):
         self.edition = edition
@@ -184,21 +186,17 @@ class Register:
     def _answer(self, answer):
         return answer.serial, self.edition._cells(answer)
 
-    def _written(self, answer):
-        self.ledger = answer.ledger  # a refused call answers the record that went in
-        return self._answer(answer)
-
     def peek(self):
         """document 01's look: the next serial and its mix; nothing is reserved"""
         return self._answer(C.huz_peek(*self._record()))
 
     def claim(self, serial, order):
         """document 01's take: the serial for this order number, with its mix"""
-        return self._written(C.huz_claim(*self._record(), _fits(serial, 64), _fits(order, 32)))
+        return self._answer(C.huz_claim_in(*self._record(), _fits(serial, 64), _fits(order, 32)))
 
     def void(self, serial):
         """document 01's spoil: the serial is written off, its line is 0"""
-        return self._written(C.huz_void(*self._record(), _fits(serial, 64)))
+        return self._answer(C.huz_void_in(*self._record(), _fits(serial, 64)))
 
     def entries(self):
         """the order numbers of the lines so far, 0 for a spoilt one"""

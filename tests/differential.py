@@ -13,7 +13,7 @@ from collections import Counter
 
 import inputs
 import reference as ref
-from lent import Lent, Null, call, flat, huztiral, ledger_of
+from lent import Lent, LentRecord, Null, call, flat, huztiral, ledger_of
 
 FILL = 170
 cases = Counter()
@@ -122,12 +122,17 @@ CALLS = {"look": "huz_peek", "take": "huz_claim", "spoil": "huz_void"}
 
 
 def on_record(rng, record, column, name, *arguments):
+    """one call; a take or a spoil by value and on a lent record"""
     lent = lend(rng, column, 4)
     answer, record_after, column_after = ref.call(record, column, name, arguments)
-    if name != "look":
-        answer = (*answer, *record_after)
+    given = (record, column[:40], arguments)
     got = call(CALLS[name], ledger_of(record), lent, *arguments)
-    compare(name, (record, column[:40], arguments), got, answer, (lent, column_after))
+    compare(name, given, got, answer if name == "look" else (*answer, *record_after), (lent, column_after))
+    if name != "look":
+        lent, place = lend(rng, column, 4), LentRecord(ledger_of(record))
+        before = place.raw()
+        got = call(CALLS[name] + "_in", place, lent, *arguments)
+        compare(name + " lent", given, (*got, *flat(place.ledger)), (*answer, *record_after), (lent, column_after), (place, before if answer[0] else None))
 
 
 def lines_so_far(rng, record, column):
@@ -149,34 +154,36 @@ def any_call(rng):
 
 
 class Running:
-    """a register of the engine, with its record and its column kept from call to call"""
+    """a register of the engine, with its record and its column kept from call to call; each take and spoil comes by value or on the lent record"""
 
     def __init__(self, rng, ms, r, values):
-        self.column, self.values = Lent(values, 4), values
+        self.rng, self.column, self.values = rng, Lent(values, 4), values
         answer = huztiral.C.huz_open(*Lent(ms).passed(), r, *self.column.passed())
-        self.ledger = answer.ledger
+        self.place = LentRecord(answer.ledger)
         compare("open", (ms, r, "a register"), flat(answer), (0, 0, *ref.record_of(ms, r, [])), (self.column, values))
 
     def call(self, name, *arguments):
-        answer = getattr(huztiral.C, CALLS[name])(self.ledger, *self.column.passed(), *arguments)
-        if name == "look":
-            return flat(answer)
-        self.ledger = answer.ledger
-        return flat(answer)[:4]
+        """the answer, and the form in which the call came"""
+        form = " lent" if name != "look" and self.rng.random() < 0.5 else ""
+        function = CALLS[name] + ("_in" if form else "")
+        answer = getattr(huztiral.C, function)(self.place.ledger, *self.column.passed(), *arguments)
+        if name != "look" and not form:
+            self.place.write(answer.ledger, self.place.ledger)
+        return flat(answer)[:4], form
 
 
 def agree(running, paper, name, arguments, given):
     """one call on both, and the whole state afterwards; the answer"""
-    expected = getattr(paper, name)(*arguments)
-    got = running.call(name, *arguments)
+    expected, before = getattr(paper, name)(*arguments), running.place.raw()
+    got, form = running.call(name, *arguments)
     state = ref.record_of(paper.ms, paper.r, paper.lines)
-    compare("interleaved " + name, (given, len(paper.lines), arguments), (*got, *flat(running.ledger)), (*expected, *state),
-            (running.column, paper.lines + running.values[len(paper.lines):]))
+    compare("interleaved " + name + form, (given, len(paper.lines), arguments), (*got, *flat(running.place.ledger)), (*expected, *state),
+            (running.column, paper.lines + running.values[len(paper.lines):]), (running.place, before if expected[0] or name == "look" else None))
     return expected
 
 
 def interleaving(rng):
-    """several workers on one register, each with the serial that it saw last; then the accepted calls alone, with a look before each"""
+    """several workers on one register, each with the serial that it saw last, in either form; then the accepted calls alone, with a look before each"""
     ms, r = inputs.sound(rng, small=True)
     n = ref.number(ms, r)
     values = [rng.getrandbits(32) if rng.random() < 0.7 else rng.randint(0, 30) for _ in range(n + rng.randint(0, 3))]
@@ -200,9 +207,10 @@ def interleaving(rng):
             done.append((name, arguments, answer))
     again = Running(rng, ms, r, values)
     for name, arguments, answer in done:
-        compare("second list", (ms, r), again.call("look")[2], arguments[0])
-        compare("second list", (ms, r), again.call(name, *arguments), answer)
-    compare("second list", (ms, r), flat(again.ledger), flat(running.ledger), (again.column, paper.lines + values[len(paper.lines):]))
+        compare("second list", (ms, r), again.call("look")[0][2], arguments[0])
+        compare("second list", (ms, r), again.call(name, *arguments)[0], answer)
+    compare("second list", (ms, r), flat(again.place.ledger), flat(running.place.ledger), (again.column, paper.lines + values[len(paper.lines):]),
+            (again.place, None))
 
 
 def large_register(rng):

@@ -45,6 +45,33 @@ class Null:
         return len(values) == 0
 
 
+class LentRecord:
+    """a lent record of the register, with guard bytes; what lies between its fields is filled too"""
+
+    def __init__(self, ledger):
+        self.whole = ctypes.create_string_buffer(PATTERN * 3, 2 * GUARD + ctypes.sizeof(ledger))
+        ctypes.memmove(ctypes.addressof(self.whole) + GUARD + ctypes.sizeof(ledger), PATTERN, GUARD)
+        self.ledger = huztiral.Ledger.from_buffer(self.whole, GUARD)
+        self.write(ledger, self.ledger)
+
+    def write(self, given, to):
+        """field by field, so that no byte between two fields is written"""
+        for name, _ in given._fields_:
+            value = getattr(given, name)
+            self.write(value, getattr(to, name)) if isinstance(value, ctypes.Structure) else setattr(to, name, value)
+
+    def passed(self):
+        return (self.ledger,)
+
+    def raw(self):
+        return self.whole.raw
+
+    def holds(self, raw):
+        """the guards are whole; with raw, every byte is as it was then"""
+        now = self.raw()
+        return now[:GUARD] == PATTERN and now[-GUARD:] == PATTERN and raw in (None, now)
+
+
 def flat(answer):
     """the fields of a structure in their order, an array as a tuple"""
     if not isinstance(answer, ctypes.Structure):

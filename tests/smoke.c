@@ -77,7 +77,17 @@ int main(void) {
     claimed = huz_void(claimed.ledger, orders, 2, 2);
     expect(claimed.number == 0 && orders[1] == 0 && claimed.ledger.voided == 1, "huz_void");
     expect(huz_entries(claimed.ledger, orders, 2) == 2, "huz_entries");
+
+    huz_ledger lent = opened.ledger, before;
+    orders[0] = orders[1] = 5;
+    peeked = huz_claim_in(&lent, orders, 2, 1, 1007);
+    expect(peeked.number == 0 && peeked.serial == 1 && is(peeked.composition, 1, 0, 0) && orders[0] == 1007 && lent.sold == 1, "huz_claim_in");
+    before = lent;
+    peeked = huz_claim_in(&lent, orders, 2, 1, 1014);
+    expect(peeked.number == 18 && peeked.detail == 1007 && memcmp(&before, &lent, sizeof lent) == 0 && orders[0] == 1007 && orders[1] == 5, "a second huz_claim_in");
+    peeked = huz_void_in(&lent, orders, 2, 2);
+    expect(peeked.number == 0 && peeked.serial == 2 && orders[1] == 0 && lent.voided == 1 && lent.entries == 2, "huz_void_in");
     if (!failed)
-        puts("smoke: 13 functions");
+        puts("smoke: 15 functions");
     return failed;
 }

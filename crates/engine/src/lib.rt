@@ -142,6 +142,30 @@ pub extern "C" fn huz_void(ledger: Ledger, orders: &mut [u32], serial: u64) -> C
     ledger::void(ledger, orders, serial)
 }
 
+// The record is lent, and updated there.
+#[no_mangle]
+pub extern "C" fn huz_claim_in(
+    ledger: &mut Ledger,
+    orders: &mut [u32],
+    serial: u64,
+    order: u32,
+) -> Answer
+    ensures { λ r.
+        ⌜ (record { answer = r; ledger = now (ledger .exit) }, now (orders .exit))
+        ≡ calling (now (ledger .entry)) (now (orders .entry)) (Call.claim serial order) ⌝ }
+{
+    lent::claim_in(ledger, orders, serial, order)
+}
+
+#[no_mangle]
+pub extern "C" fn huz_void_in(ledger: &mut Ledger, orders: &mut [u32], serial: u64) -> Answer
+    ensures { λ r.
+        ⌜ (record { answer = r; ledger = now (ledger .exit) }, now (orders .exit))
+        ≡ calling (now (ledger .entry)) (now (orders .entry)) (Call.void serial) ⌝ }
+{
+    lent::void_in(ledger, orders, serial)
+}
+
 // How many entries `ledger::entries` hands back: C has the column already.
 #[no_mangle]
 pub extern "C" fn huz_entries(ledger: Ledger, orders: &[u32]) -> u64

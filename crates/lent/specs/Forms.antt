@@ -10,15 +10,15 @@ use Rattle.model.specs.declared.Claimed.{Claimed}
 use Rattle.model.specs.declared.Ledger.{Ledger}
 
 -- the functions that can be called: `ledger::peek`, `ledger::claim`, `ledger::void`, and `lent::claim_in`, `lent::void_in`
-pub data Step : Type 0 where
-  peek : Step
-  claim : ℕ → ℕ → Step
-  void : ℕ → Step
-  claim-in : ℕ → ℕ → Step
-  void-in : ℕ → Step
+pub data Invocation : Type 0 where
+  peek : Invocation
+  claim : ℕ → ℕ → Invocation
+  void : ℕ → Invocation
+  claim-in : ℕ → ℕ → Invocation
+  void-in : ℕ → Invocation
 
 -- which of document 01's calls it is
-abbrev pub callOf : Step → Call
+abbrev pub callOf : Invocation → Call
 callOf peek = Call.peek
 callOf (claim s o) = Call.claim s o
 callOf (void s) = Call.void s
@@ -48,7 +48,7 @@ pub record Peeks (x : State) (a : Answer) (y : State) : Type 0 where
   pub meets : a ≡ answered (x .ledger) (x .column) Call.peek
   pub kept : y ≡ x
 
-abbrev pub Does : Step → State → Answer → State → Type 0
+abbrev pub Does : Invocation → State → Answer → State → Type 0
 Does peek = Peeks
 Does (claim s o) = ByValue (Call.claim s o)
 Does (void s) = ByValue (Call.void s)
@@ -58,12 +58,12 @@ Does (void-in s) = Lent (Call.void s)
 -- ---- a list of calls
 
 -- w is a run of the list from x: "Each call is handed the column and the record as the one before it left them"
-abbrev pub Runs : State → List Step → Run → Type 0
+abbrev pub Runs : State → List Invocation → Run → Type 0
 Runs x [] w = w ≡ record { trace = []; ledger = x .ledger; column = x .column }
 Runs x (s ∷ ss) w =
     (a : Answer) × (y : State) × (v : Run) × Does s x a y × Runs y ss v
     × (w ≡ record { trace = record { call = callOf s; reply = a } ∷ v .trace; ledger = v .ledger; column = v .column })
 
 -- "the column and the record of an accepted opening"
-abbrev pub opened : List ℕ → ℕ → List ℕ → State
-opened ms r col = record { ledger = opening ms r col .ledger; column = col }
+abbrev pub start : List ℕ → ℕ → List ℕ → State
+start ms r col = record { ledger = opening ms r col .ledger; column = col }

@@ -23,7 +23,7 @@ pub fn void_in(ledger: &mut Ledger, orders: &mut [u32], serial: u64) -> Answer
         ⌜ (record { answer = r; ledger = now (ledger .exit) }, now (orders .exit))
         ≡ calling (now (ledger .entry)) (now (orders .entry)) (Call.void serial) ⌝ }
 {
-    let claimed = ledger::void(*ledger, orders, serial);
-    *ledger = claimed.ledger;
-    claimed.answer
+    let voided = ledger::void(*ledger, orders, serial);
+    *ledger = voided.ledger;
+    voided.answer
 }
