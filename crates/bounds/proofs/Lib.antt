@@ -2,12 +2,8 @@ pub mod Refusals
 pub mod Tables
 pub mod Editions
 pub mod Answers
-pub mod Bands
-pub mod Slides
-pub mod Rows
 pub mod Compositions
 pub mod Filling
 pub mod Chains
-pub mod Nonempty
 pub mod Places
 pub mod Cells

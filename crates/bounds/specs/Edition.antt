@@ -11,7 +11,6 @@ use Rattle.walsh.specs.Order.{countOf}
 use Rattle.bounds.specs.Refusal.{Check, check, firstRefusal}
 use Rattle.bounds.specs.declared.Refusal.{Refusal}
 use Rattle.bounds.specs.declared.Bounds.{Bounds}
-use Rattle.bounds.specs.declared.Checked.{Checked}
 use Rattle.bounds.specs.declared.Shaped.{Shaped}
 
 -- "a ceiling is outside 1..60"
@@ -57,20 +56,7 @@ cellsOf ms = ms ++ replicate (24 - length ms) 0
 abbrev pub boundsOf : List ℕ → ℕ → Bounds
 boundsOf ms r = record { parts = length ms; upper = cellsOf ms; total = r }
 
--- an accepted edition's record and N, and all zeros with the number and detail of a refusal
-abbrev pub checkedBy : Refusal → List ℕ → ℕ → Checked
-checkedBy v ms r =
-    cond (eqb (v .number) 0)
-    (record { number = 0; detail = 0; bounds = boundsOf ms r; count = countOf ms r })
-    (record { number = v .number; detail = v .detail; bounds = boundsOf [] 0; count = 0 })
-
-unfoldable pub checkOf : List ℕ → ℕ → Checked
-checkOf ms r = checkedBy (firstRefusal (editionChecks ms r)) ms r
-
 -- ---- an edition's record that nobody has checked: more than 24 parts have no cells
 
 abbrev pub recordChecks : Bounds → List Check
 recordChecks b = check 1 (ltb 24 (b .parts)) 0 ∷ editionChecks (take (b .parts) (b .upper)) (b .total)
-
-unfoldable pub recordOf : Bounds → Checked
-recordOf b = checkedBy (firstRefusal (recordChecks b)) (take (b .parts) (b .upper)) (b .total)

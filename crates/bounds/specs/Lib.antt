@@ -1,5 +1,3 @@
 pub mod Refusal
 pub mod Edition
-pub mod Band
-pub mod Window
 pub mod Places

@@ -1,12 +1,8 @@
-// Editions (document 01, "Editions and their number"): the checks 1 to 5, and N.
+// Editions (document 01, "Editions and their number"): the record, refusals as tables, and the checks 1 to 4. Check 5 asks for N: crate `count`.
 ghost use mathlib.Core.Path.{_≡_};
-ghost use mathlib.Core.List.{[]};
 ghost use Prim.Native.Nat.{ℕ, _≤_};
 ghost use lib.ListN.{length, take};
-ghost use Rattle.bounds.specs.Edition.{whole, outside, firstOutside, shapedOf, cellsOf, boundsOf, checkOf, recordOf};
-
-pub mod band;
-pub mod limit;
+ghost use Rattle.bounds.specs.Edition.{whole, outside, firstOutside, shapedOf, cellsOf};
 
 // A refusal's number and detail; 0 and 0 where nothing is refused.
 #[repr(C)]
@@ -23,20 +19,11 @@ pub struct Bounds {
     pub total: u32,
 }
 
-// An accepted edition and N, or the refusal, with all else 0.
-#[repr(C)]
-pub struct Checked {
+// What the checks 1 to 4 answer, and the sum of the bounds where they refuse nothing.
+pub struct Shaped {
     pub number: u32,
     pub detail: u64,
-    pub bounds: Bounds,
-    pub count: u64,
-}
-
-// What the checks 1 to 4 answer, and the sum of the bounds where they refuse nothing.
-struct Shaped {
-    number: u32,
-    detail: u64,
-    all: usize,
+    pub all: usize,
 }
 
 // The first part, from 1, with a bound outside 1..60, or 0; and the sum of the bounds before it.
@@ -72,7 +59,7 @@ fn scan(upper: &[u8]) -> Scanned
 }
 
 // The checks 1 to 4, in one pass over the bounds.
-fn shape(upper: &[u8], total: u32) -> Shaped
+pub fn shape(upper: &[u8], total: u32) -> Shaped
     ensures { λ r. ⌜ r ≡ shapedOf (now (upper .entry)) total ⌝ }
 {
     let n = upper.len();
@@ -121,51 +108,4 @@ pub fn pack(upper: &[u8]) -> [u8; 24]
         i += 1;
     }
     cells
-}
-
-fn refuse(number: u32, detail: u64) -> Checked
-    ensures { λ r. ⌜ r ≡ record { number = number; detail = detail; bounds = boundsOf [] 0; count = 0 } ⌝ }
-{
-    Checked {
-        number,
-        detail,
-        bounds: Bounds {
-            parts: 0,
-            upper: [0; 24],
-            total: 0,
-        },
-        count: 0,
-    }
-}
-
-// The edition's record and N, or the first of the refusals 1 to 5 that holds.
-pub fn check(upper: &[u8], total: u32) -> Checked
-    ensures { λ r. ⌜ r ≡ checkOf (now (upper .entry)) total ⌝ }
-{
-    let n = band::count(upper, total);
-    if 0 < n.number {
-        return refuse(n.number, n.detail);
-    }
-    Checked {
-        number: 0,
-        detail: 0,
-        bounds: Bounds {
-            parts: upper.len(),
-            upper: pack(upper),
-            total,
-        },
-        count: n.count,
-    }
-}
-
-// The same of a record that nobody has checked. Where it is accepted, the cells past n are 0 in the answer.
-pub fn check_record(bounds: Bounds) -> Checked
-    ensures { λ r. ⌜ r ≡ recordOf bounds ⌝ }
-{
-    let n = bounds.parts;
-    if 24 < n {
-        return refuse(1, 0);
-    }
-    let upper = bounds.upper;
-    check(&upper[..n], bounds.total)
 }

@@ -1,6 +1,6 @@
 // The C interface (include/huztiral.h): the library's functions under names for C, each with its own contract.
-use bounds::Checked;
 use bounds::Refusal;
+use count::Checked;
 use model::Answer;
 use model::Claimed;
 use model::Ledger;
@@ -10,7 +10,7 @@ ghost use mathlib.Core.Path.{_≡_};
 ghost use mathlib.Core.List.{List};
 ghost use Prim.Native.Nat.{ℕ};
 ghost use lib.ListN.{length};
-ghost use Rattle.bounds.specs.Edition.{checkOf};
+ghost use Rattle.count.specs.Checked.{checkOf};
 ghost use Rattle.bounds.specs.declared.Refusal.{Refusal};
 ghost use Rattle.rank.specs.Rank.{rankAnswer};
 ghost use Rattle.rank.specs.Unrank.{unrankCall};
@@ -34,7 +34,7 @@ pub struct Ranked {
 pub extern "C" fn huz_check(upper: &[u8], total: u32) -> Checked
     ensures { λ r. ⌜ r ≡ checkOf (now (upper .entry)) total ⌝ }
 {
-    bounds::check(upper, total)
+    count::check(upper, total)
 }
 
 #[no_mangle]

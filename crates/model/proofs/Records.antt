@@ -10,6 +10,7 @@ use lib.Seq.{length-take-le}
 use borrow.Author.Tests.{ltb-false, leb-true, le-leb, eqb-true, eq-eqb, ne-eqb}
 use Rattle.walsh.specs.Serial.{same}
 use Rattle.walsh.specs.Tests.{both}
+use Rattle.walsh.proofs.Cases.{on-test}
 use Rattle.walsh.proofs.Serials.{same-eq}
 use Rattle.bounds.specs.Refusal.{check, firstRefusal}
 use Rattle.bounds.specs.Edition.{recordChecks, cellsOf}
@@ -19,7 +20,7 @@ use Rattle.model.specs.declared.Answer.{Answer}
 use Rattle.model.specs.declared.Claimed.{Claimed}
 use Rattle.model.specs.declared.Ledger.{Ledger}
 use Rattle.model.specs.Basics.{zeros, nonzeros, all}
-use Rattle.model.specs.Model.{Call, blank, granted, answerBy, answer}
+use Rattle.model.specs.Model.{Call, blank, granted, answerBy, answer, accepted}
 use Rattle.model.specs.Record.{upperOf, compositionsOf, nextComposition, written, tests, consistent, answered, counted, entered, recordAfter, columnAfter, calling, entriesOf}
 use Rattle.model.proofs.Lists.{zeros-or-not}
 
@@ -145,6 +146,11 @@ module _ (r : Ledger) (col : List ℕ) where
           → _≡_ {A = Claimed × List ℕ} (record { answer = a; ledger = r′ }, set col (r .entries) x) (calling r col c)
       unfolding calling recordAfter columnAfter
       calling-accepted r′ x n p q = rw (← e, eq-eqb (a .number) 0 n, p, q)
+
+  -- a peek leaves all as it was
+  pub calling-peek : (a : Answer) → a ≡ answered r col Call.peek → _≡_ {A = Claimed × List ℕ} (record { answer = a; ledger = r }, col) (calling r col Call.peek)
+  unfolding calling recordAfter columnAfter
+  calling-peek a e = on-test (accepted (answered r col Call.peek)) (λ t. rw (e, t)) (λ t. rw (e, t))
 
   -- ---- the lines so far
 

@@ -137,7 +137,7 @@ fn fill_permutation(g: &[u8], out: &mut [u8])
 fn staircase_refusal(upper: &[u8], total: u32) -> Refusal
     ensures { λ r. ⌜ r ≡ firstRefusal (editionChecks (now (upper .entry)) total ++ staircaseChecks (now (upper .entry))) ⌝ }
 {
-    let shape = bounds::limit::refusal(upper, total);
+    let shape = count::refusal(upper, total);
     if shape.number != 0 {
         return shape;
     }

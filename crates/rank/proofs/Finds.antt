@@ -15,7 +15,7 @@ use Rattle.bounds.specs.Places.{compositionChecks}
 use Rattle.bounds.specs.declared.Refusal.{Refusal}
 use Rattle.bounds.proofs.Answers.{edition-refused}
 use Rattle.bounds.proofs.Compositions.{composition-passes}
-use Rattle.bounds.proofs.Nonempty.{count-some}
+use Rattle.band.proofs.Nonempty.{count-some}
 use Rattle.bounds.proofs.Refusals.{refusal-first, refusal-later, by-refusal, by-acceptance}
 use Rattle.rank.specs.Rank.{rankChecks}
 use Rattle.rank.specs.Locate.{clamp}

@@ -12,9 +12,9 @@ use Rattle.walsh.specs.Rank.{partIndex, blockSize, rankOf}
 use Rattle.walsh.proofs.Complete.{composition-low, composition-high, composition-prefix, rank-lt}
 use Rattle.walsh.proofs.Listing.{length-listing}
 use Rattle.bounds.specs.Edition.{whole}
-use Rattle.bounds.specs.Band.{InBand, IsRow, cap}
-use Rattle.bounds.specs.declared.band.Row.{Row}
-use Rattle.bounds.proofs.Bands.{whole-band, band-down}
+use Rattle.band.specs.Band.{InBand, IsRow, cap}
+use Rattle.band.specs.declared.Row.{Row}
+use Rattle.band.proofs.Bands.{whole-band, band-down}
 use Rattle.rank.specs.Walk.{Here, Filled}
 
 -- ---- one turn, from row k to row k - 1

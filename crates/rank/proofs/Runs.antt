@@ -8,10 +8,10 @@ use lib.ListN.{getD}
 use Rattle.walsh.specs.Order.{least, most, partValue, partChoices}
 use Rattle.walsh.specs.Rank.{indexOf, partIndex, blockSize}
 use Rattle.walsh.proofs.Lists.{value-low, value-high}
-use Rattle.bounds.specs.Band.{InBand}
-use Rattle.bounds.specs.declared.band.Row.{Row}
-use Rattle.bounds.proofs.Bands.{band-down, band-value, start-small, cell-room}
-use Rattle.bounds.proofs.Rows.{at-low, at-place}
+use Rattle.band.specs.Band.{InBand}
+use Rattle.band.specs.declared.Row.{Row}
+use Rattle.band.proofs.Bands.{band-down, band-value, start-small, cell-room}
+use Rattle.band.proofs.Rows.{at-low, at-place}
 use Rattle.rank.specs.Walk.{runOf, inRun, Here, Readable}
 use Rattle.rank.specs.declared.walk.Run.{Run}
 

@@ -10,7 +10,7 @@ use Rattle.walsh.specs.Serial.{serialOf}
 use Rattle.bounds.specs.Refusal.{firstRefusal}
 use Rattle.bounds.specs.Edition.{editionChecks}
 use Rattle.bounds.specs.declared.Refusal.{Refusal}
-use Rattle.bounds.specs.declared.band.Row.{Row}
+use Rattle.band.specs.declared.Row.{Row}
 use Rattle.rank.specs.Walk.{Filled}
 use Rattle.rank.specs.Rank.{rankChecks}
 use Rattle.rank.specs.Locate.{clamp, nearest}

@@ -7,8 +7,8 @@ use Rattle.walsh.specs.Sums.{sum}
 use Rattle.walsh.specs.Order.{count, least, most, isOdd, valueAt}
 use Rattle.walsh.specs.Rank.{partIndex, blockSize}
 use Rattle.bounds.specs.Edition.{whole}
-use Rattle.bounds.specs.Band.{InBand, IsRow, Band}
-use Rattle.bounds.specs.declared.band.Row.{Row}
+use Rattle.band.specs.Band.{InBand, IsRow, Band}
+use Rattle.band.specs.declared.Row.{Row}
 use Rattle.rank.specs.declared.walk.Run.{Run}
 
 -- the values of part k where rem is left for it and the parts to its left, and the parts to its right sum to t

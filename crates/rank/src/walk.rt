@@ -7,9 +7,8 @@ ghost use Rattle.walsh.specs.Sums.{sum, sumTo};
 ghost use Rattle.walsh.specs.Order.{CompositionTo, order, count, least, most};
 ghost use Rattle.walsh.specs.Rank.{indexOf, partIndex, blockSize, rankOf};
 ghost use Rattle.bounds.specs.Edition.{whole};
-ghost use Rattle.bounds.specs.Band.{IsRow};
+ghost use Rattle.band.specs.Band.{IsRow};
 ghost use Rattle.rank.specs.Walk.{runOf, inRun, Here, Readable, Picked, Filled};
-use bounds::band;
 
 pub mod find;
 

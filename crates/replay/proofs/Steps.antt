@@ -6,9 +6,8 @@ use native.Mathlib.Numerals.{add-one}
 use native.Mathlib.Omega.{arith}
 use lib.ListN.{length, getD, take, set, length-set}
 use lib.Seq.{take-suc, length-take-le, length-paste}
-use Rattle.walsh.proofs.Cases.{on-test}
 use Rattle.model.specs.Basics.{over}
-use Rattle.model.specs.Model.{Call, peek, accepted, Event}
+use Rattle.model.specs.Model.{Call, peek, Event}
 use Rattle.model.specs.Record.{answered, recordAfter, columnAfter, calling, run}
 use Rattle.model.specs.declared.Answer.{Answer}
 use Rattle.model.specs.declared.Claimed.{Claimed}
@@ -32,11 +31,6 @@ did r col c t col′ e =
       ledger = ap (λ (p : Claimed × List ℕ). p .0 .ledger) e;
       column = ap (λ (p : Claimed × List ℕ). p .1) e;
     }
-
--- a peek leaves all as it was
-pub calling-peek : (r : Ledger) (col : List ℕ) (a : Answer) → a ≡ answered r col Call.peek → _≡_ {A = Claimed × List ℕ} (record { answer = a; ledger = r }, col) (calling r col Call.peek)
-unfolding calling recordAfter columnAfter
-calling-peek r col a e = on-test (accepted (answered r col Call.peek)) (λ t. rw (e, t)) (λ t. rw (e, t))
 
 -- one call more, of which the code did a step and put the answer into the buffers
 module _ (r : Ledger) (cs : List Call) (c : Call) (b b′ b″ : Buffers) (l : Ledger) (t : Claimed) where

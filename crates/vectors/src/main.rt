@@ -16,7 +16,7 @@ fn count(s: &[u8], from: usize) -> usize
 {
     let mut upper = [0u8; 64];
     let e = read::bounded_by(s, from, &mut upper);
-    let c = bounds::check(read::part(&upper, e.parts), e.total);
+    let c = count::check(read::part(&upper, e.parts), e.total);
     show::three(c.number, c.detail, c.count);
     e.at
 }

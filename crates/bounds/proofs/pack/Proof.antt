@@ -3,7 +3,7 @@ use mathlib.Core.Path.{_≡_, refl, _∙_}
 use mathlib.Core.List.{_++_}
 use Prim.Native.Nat.{_≤_, _-_}
 use native.Mathlib.Omega.{arith}
-use lib.ListN.{length, take, length-take, replicate}
+use lib.ListN.{take, length-take, replicate}
 use lib.Seq.{take-take}
 use denote.Ref.{now}
 use borrow.Author.Needs.{needs}

@@ -4,11 +4,11 @@ ghost use mathlib.Core.List.{[]};
 ghost use lib.ListN.{length, replicate};
 ghost use Rattle.bounds.specs.Refusal.{firstRefusal};
 ghost use Rattle.bounds.specs.Edition.{whole, shapeChecks};
-ghost use Rattle.bounds.specs.Band.{bandSize};
+ghost use Rattle.band.specs.Band.{bandSize};
 ghost use Rattle.rank.specs.Locate.{clamp};
 ghost use Rattle.rank.specs.Find.{Ready, foundOf};
 ghost use Rattle.rank.specs.declared.walk.find.Task.the-variants.{Rank, Unrank};
-use bounds::band;
+use band::window::table;
 
 // What is asked: the serial of a given composition, or the composition of a serial.
 pub enum Task {
@@ -120,7 +120,7 @@ fn find_in(
     requires { ⌜ (firstRefusal (shapeChecks (now upper) total) .number ≡ 0) × (all ≡ whole (now upper)) × (length (now cells) ≡ bandSize (now upper) total) ⌝ }
     ensures { λ r. ⌜ r ≡ foundOf task (now (upper .entry)) total (now (given .entry)) ⌝ }
 {
-    let c = band::fill(upper, total, cells);
+    let c = table::fill(upper, total, cells);
     if 0 < c.number {
         return nothing(c.number, c.detail);
     }

@@ -1,9 +1,8 @@
 -- `replay::call` meets its contract.
-use mathlib.Core.Path.{_≡_}
 use denote.Ref.{now}
 use borrow.Author.Needs.{needs}
+use Rattle.model.proofs.Records.{calling-peek}
 use Rattle.replay.proofs.Scripts.{call-peek, call-claim, call-void}
-use Rattle.replay.proofs.Steps.{calling-peek}
 use Rattle.replay.proofs.call.Statement.{statement}
 use Rattle.replay.proofs.call.Tie as tie
 

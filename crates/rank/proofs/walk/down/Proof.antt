@@ -7,8 +7,8 @@ use denote.Ref.{now}
 use borrow.Author.Needs.{needs}
 use Rattle.walsh.specs.Sums.{sumTo}
 use Rattle.bounds.specs.Edition.{whole}
-use Rattle.bounds.specs.Band.{lowest, highest, rowStart}
-use Rattle.bounds.proofs.Rows.{down-left, down-row, part-fits}
+use Rattle.band.specs.Band.{lowest, highest, rowStart}
+use Rattle.band.proofs.Rows.{down-left, down-row, part-fits}
 use Rattle.rank.proofs.walk.down.Statement.{statement}
 use Rattle.rank.proofs.walk.down.Tie as tie
 

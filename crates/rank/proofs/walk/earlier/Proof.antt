@@ -11,7 +11,7 @@ use Rattle.walsh.specs.Rank.{partIndex, blockSize}
 use Rattle.walsh.proofs.Lists.{index-lt, sum-mono}
 use Rattle.walsh.proofs.Listing.{count-blocks}
 use Rattle.walsh.proofs.Window.{sum-at, sum-step}
-use Rattle.bounds.specs.Band.{cap}
+use Rattle.band.specs.Band.{cap}
 use Rattle.rank.proofs.Runs.{run-ends, run-choices, run-index, run-readable, run-block}
 use Rattle.rank.proofs.walk.earlier.Statement.{statement}
 use Rattle.rank.proofs.walk.earlier.Tie as tie

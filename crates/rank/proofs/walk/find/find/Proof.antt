@@ -7,10 +7,10 @@ use denote.Ref.{now}
 use borrow.Author.Needs.{needs}
 use Rattle.bounds.specs.Refusal.{firstRefusal}
 use Rattle.bounds.specs.Edition.{whole, shapeChecks}
-use Rattle.bounds.specs.Band.{bandSize}
+use Rattle.band.specs.Band.{bandSize}
 use Rattle.bounds.proofs.Editions.{shapely}
-use Rattle.bounds.proofs.Answers.{surveyed-refused, surveyed-accepted}
-use Rattle.bounds.proofs.Rows.{size-small}
+use Rattle.band.proofs.Answers.{surveyed-refused, surveyed-accepted}
+use Rattle.band.proofs.Rows.{size-small}
 use Rattle.bounds.proofs.Cells.{prefix-length}
 use Rattle.rank.proofs.Finds.{found-shape}
 use Rattle.rank.proofs.walk.find.find.Statement.{statement}

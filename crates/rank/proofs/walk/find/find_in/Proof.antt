@@ -6,11 +6,11 @@ use native.Mathlib.Omega.{arith}
 use lib.ListN.{length}
 use denote.Ref.{now}
 use borrow.Author.Needs.{needs}
-use Rattle.bounds.specs.Band.{bandSize, numberOf}
+use Rattle.band.specs.Band.{bandSize, numberOf}
 use Rattle.bounds.proofs.Editions.{shapely}
-use Rattle.bounds.proofs.Bands.{cell-room, whole-band}
-use Rattle.bounds.proofs.Rows.{last-row}
-use Rattle.bounds.proofs.Answers.{numbered-refused, numbered-accepted, counted-number}
+use Rattle.band.proofs.Bands.{cell-room, whole-band}
+use Rattle.band.proofs.Rows.{last-row}
+use Rattle.band.proofs.Answers.{numbered-refused, numbered-accepted, counted-number}
 use Rattle.rank.specs.Find.{Ready, foundOf}
 use Rattle.rank.specs.declared.walk.find.Task.{Task}
 use Rattle.rank.proofs.Finds.{found-edition, found-any}

@@ -1,0 +1,130 @@
+-- The answers of specs/Band.antt, case by case.
+use mathlib.Core.Path.{_≡_, refl, sym, ap, _∙_}
+use mathlib.Core.List.{List, [], _∷_}
+use Prim.Native.Nat.{ℕ, suc, _≤_, _<_}
+use native.Mathlib.Omega.{arith}
+use lib.Dec.{eqb, ltb}
+use lib.ListN.{length}
+use borrow.Author.Tests.{eqb-true, eqb-false, lt-ltb, le-ltb}
+use Rattle.walsh.specs.Tests.{both}
+use Rattle.walsh.specs.Order.{countOf}
+use Rattle.walsh.proofs.Cases.{on-test, on-less}
+use Rattle.mahonian.specs.Mahonian.{inTable}
+use Rattle.mahonian.specs.Staircase.{isStaircase}
+use Rattle.mahonian.specs.Read.{staircaseCountOf}
+use Rattle.mahonian.specs.declared.Entry.{Entry}
+use Rattle.mahonian.specs.declared.Entry.the-variants.{Count, Outside}
+use Rattle.bounds.specs.Refusal.{Check, check, refused, firstRefusal}
+use Rattle.bounds.specs.Edition.{whole, shapeChecks, editionChecks}
+use Rattle.band.specs.Band.{bandSize, surveyOf, tableChecks, limited, numberOf, countedOf}
+use Rattle.bounds.specs.declared.Refusal.{Refusal}
+use Rattle.band.specs.declared.Surveyed.{Surveyed}
+use Rattle.band.specs.declared.window.table.Counted.{Counted}
+use Rattle.bounds.proofs.Answers.{edition-over, edition-none}
+use Rattle.bounds.proofs.Refusals.{refusal-here, refusal-next, refusal-first, refusal-later, refusal-none, by-refusal, by-acceptance, is-refused, is-accepted}
+
+module _ (ms : List ℕ) (r : ℕ) where
+  abbrev shape : Refusal
+  shape = firstRefusal (shapeChecks ms r)
+
+  abbrev edition : Refusal
+  edition = firstRefusal (editionChecks ms r)
+
+  abbrev limit : List Check
+  limit = check 5 (ltb 9223372036854775807 (countOf ms r)) 0 ∷ []
+
+  -- ---- the survey
+
+  pub survey-refused : (n d : ℕ) → shape ≡ refused n d → 0 < n → record { number = n; detail = d; all = 0; size = 0 } ≡ surveyOf ms r
+  unfolding surveyOf
+  survey-refused n d e l = rw (by-refusal shape _ _ n d e l, e)
+
+  pub survey-accepted : (a s : ℕ) → shape .number ≡ 0 → a ≡ whole ms → s ≡ bandSize ms r → record { number = 0; detail = 0; all = a; size = s } ≡ surveyOf ms r
+  unfolding surveyOf
+  survey-accepted a s e ea es = rw (by-acceptance shape _ _ e, ea, es)
+
+  pub surveyed-refused : (x : Surveyed) → x ≡ surveyOf ms r → 0 < x .number → shape ≡ refused (x .number) (x .detail)
+  unfolding surveyOf
+  surveyed-refused x e l = is-refused shape _ _ (λ (y : Surveyed). y .number) (λ (y : Surveyed). y .detail) refl refl refl x e l
+
+  pub surveyed-accepted : (x : Surveyed) → x ≡ surveyOf ms r → x .number ≡ 0 → (shape .number ≡ 0) × (x .all ≡ whole ms) × (x .size ≡ bandSize ms r)
+  unfolding surveyOf
+  surveyed-accepted x e z =
+      let p = is-accepted shape _ _ (λ (y : Surveyed). y .number) (λ (y : Surveyed). y .detail) refl refl refl x e z in
+      (p .0, ap (λ (y : Surveyed). y .all) (p .1), ap (λ (y : Surveyed). y .size) (p .1))
+
+  -- ---- N
+
+  pub number-refused : (n d : ℕ) → edition ≡ refused n d → 0 < n → record { number = n; detail = d; count = 0 } ≡ numberOf ms r
+  unfolding numberOf
+  number-refused n d e l = rw (by-refusal edition _ _ n d e l, e)
+
+  pub number-accepted : (n : ℕ) → edition ≡ refused 0 0 → n ≡ countOf ms r → record { number = 0; detail = 0; count = n } ≡ numberOf ms r
+  unfolding numberOf
+  number-accepted n e en = rw (by-acceptance edition _ _ (rw e), en)
+
+  pub numbered-refused : (x : Counted) → x ≡ numberOf ms r → 0 < x .number → edition ≡ refused (x .number) (x .detail)
+  unfolding numberOf
+  numbered-refused x e l = is-refused edition _ _ (λ (y : Counted). y .number) (λ (y : Counted). y .detail) refl refl refl x e l
+
+  pub numbered-accepted : (x : Counted) → x ≡ numberOf ms r → x .number ≡ 0 → (edition .number ≡ 0) × (x .count ≡ countOf ms r)
+  unfolding numberOf
+  numbered-accepted x e z =
+      let p = is-accepted edition _ _ (λ (y : Counted). y .number) (λ (y : Counted). y .detail) refl refl refl x e z in
+      (p .0, ap (λ (y : Counted). y .count) (p .1))
+
+  -- N of a shape that is accepted
+  pub number-limited : shape .number ≡ 0 → limited (countOf ms r) ≡ numberOf ms r
+  number-limited e =
+      on-less 9223372036854775807 (countOf ms r)
+      (λ l t. rw t (number-refused 5 0 (edition-over ms r e l) (omega arith)))
+      (λ l t. rw t (number-accepted (countOf ms r) (edition-none ms r e l) refl))
+
+  -- and of a staircase
+  pub staircase-number : (x : Entry) (n : ℕ) → x ≡ staircaseCountOf ms r → x ≡ Count n → n ≡ countOf ms r
+  unfolding staircaseCountOf
+  staircase-number x n e q =
+      on-test (both (isStaircase ms) (inTable (suc (length ms)) r))
+      (λ t. let c : x ≡ Count (countOf ms r) = rw t at e in cc)
+      (λ t. let c : x ≡ Outside = rw t at e in cc)
+
+  -- the refusal alone
+  pub number-refusal : (x : Counted) → x ≡ numberOf ms r → refused (x .number) (x .detail) ≡ edition
+  unfolding numberOf
+  number-refusal x e =
+      on-test (eqb (edition .number) 0)
+      (λ t. rw (e, t) (sym (refusal-none (editionChecks ms r) refl (eqb-true (edition .number) 0 t))))
+      (λ t. rw (e, t))
+
+  -- ---- N with a lent table
+
+  module _ (size : ℕ) where
+    abbrev room : List Check
+    room = check 13 (ltb size (bandSize ms r)) 0 ∷ limit
+
+    abbrev table : Refusal
+    table = firstRefusal (tableChecks ms r size)
+
+    pub counted-refused : (n d : ℕ) → shape ≡ refused n d → 0 < n → record { number = n; detail = d; count = 0 } ≡ countedOf ms r size
+    unfolding countedOf
+    counted-refused n d e l =
+        let t : table ≡ refused n d = refusal-first (shapeChecks ms r) room (λ z. let q : n ≡ 0 = rw e at z in omega arith) ∙ e in
+        rw (by-refusal table _ _ n d t l, t)
+
+    pub counted-short : shape .number ≡ 0 → size < bandSize ms r → record { number = 13; detail = 0; count = 0 } ≡ countedOf ms r size
+    unfolding countedOf
+    counted-short e l =
+        let t : table ≡ refused 13 0 = refusal-later (shapeChecks ms r) room refl e ∙ refusal-here _ _ (lt-ltb _ _ l) in
+        rw (by-refusal table _ _ 13 0 t (omega arith), t)
+
+    -- where there is room, the checks are those of the edition
+    table-edition : bandSize ms r ≤ size → table ≡ edition
+    table-edition l =
+        on-test (eqb (shape .number) 0)
+        (λ t. let z = eqb-true (shape .number) 0 t in
+        refusal-later (shapeChecks ms r) room refl z ∙ refusal-next _ _ (le-ltb _ _ l) ∙ sym (refusal-later (shapeChecks ms r) limit refl z))
+        (λ t. let z = eqb-false (shape .number) 0 t in refusal-first (shapeChecks ms r) room z ∙ sym (refusal-first (shapeChecks ms r) limit z))
+
+    pub counted-number : bandSize ms r ≤ size → countedOf ms r size ≡ numberOf ms r
+    unfolding countedOf numberOf
+    counted-number l = rw (table-edition l)

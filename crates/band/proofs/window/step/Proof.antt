@@ -1,0 +1,108 @@
+-- `band::window::step` meets its contract.
+use Prim.Native.Nat.{ℕ, _+_, _-_, _≤_, _<_, min}
+use mathlib.Core.Path.{_≡_, sym, subst}
+use mathlib.Core.Bool.{true, false}
+use native.Mathlib.Omega.{arith}
+use native.Mathlib.Nat.{le-of-lt, add-zero, le-trans, le-refl}
+use denote.Ref.{now}
+use mir.Val.{Fits}
+use mir.Syntax.{w64}
+use Rattle.band.proofs.Bands.{band-ends, low-high}
+use Rattle.band.proofs.Rows.{above-none}
+use Rattle.band.proofs.Slides.{behind-in, slid-leaves, slid-over, slid-under}
+use Rattle.band.specs.Band.{InBand, lowest, highest}
+use Rattle.band.specs.Window.{Slid}
+use Rattle.walsh.specs.Order.{count}
+use borrow.Author.Needs.{needs}
+use Rattle.band.proofs.window.step.Statement.{statement}
+use Rattle.band.proofs.window.step.Tie as tie
+
+le-min : (t h r x : ℕ) → t ≤ h → h ≡ min r x → t ≤ r
+le-min t h r x l e = omega arith
+
+small-at : (c : tie.Start) → c .args .t ≤ c .args .total
+small-at c = le-min _ _ _ _ (c .pre .3) (c .pre .0 .to .high)
+
+low-at : (c : tie.Start) → lowest (now (c .args .upper)) (c .args .total) (c .args .k) ≤ c .args .t
+low-at c =
+    let f = c .pre .0 in
+    le-trans (low-high (now (c .args .upper)) (c .args .total) (c .args .k) (f .reached) (f .part) .1) (rw (← (f .to .low)) (c .pre .2))
+
+high-at : (c : tie.Start) → c .args .t ≤ highest (now (c .args .upper)) (c .args .total) (c .args .k + 1)
+high-at c = rw (← (c .pre .0 .to .high)) (c .pre .3)
+
+full-at : (c : tie.Start) → c .args .leaves ≡ true → lowest (now (c .args .upper)) (c .args .total) (c .args .k) + c .args .m < c .args .t
+full-at c h = rw (← (c .pre .0 .from .low)) (c .pre .5 .leaving h)
+
+under-at : (c : tie.Start) → c .args .leaves ≡ false → c .args .t ≤ lowest (now (c .args .upper)) (c .args .total) (c .args .k) + c .args .m
+under-at c h = rw (← (c .pre .0 .from .low)) (c .pre .5 .staying h)
+
+enter-at : (c : tie.Start) → c .args .enters ≡ true → InBand (now (c .args .upper)) (c .args .total) (c .args .k) (c .args .t)
+enter-at c h = band-ends _ _ _ _ (low-at c) (rw (← (c .pre .0 .from .high)) (c .pre .5 .entering h))
+
+leave-at : (c : tie.Start) → c .args .leaves ≡ true → InBand (now (c .args .upper)) (c .args .total) (c .args .k) (c .args .t - (c .args .m + 1))
+leave-at c h = behind-in (now (c .args .upper)) (c .args .total) (c .args .k) (c .args .t) (c .args .m) (c .pre .1) (high-at c) (full-at c h)
+
+none-at : (c : tie.Start) → c .args .enters ≡ false → 0 ≡ count (now (c .args .upper)) (c .args .k) (c .args .t)
+none-at c h = sym (above-none (now (c .args .upper)) (c .args .total) (c .args .k) (c .args .t) (c .args .row) (c .pre .0 .from) (small-at c) (c .pre .5 .passed h))
+
+one-fits : (low m t total : ℕ) → low + m < t → t ≤ total → total ≤ 255 → Fits w64 (m + 1) × (m + 1 ≤ t)
+one-fits low m t total a b c = (omega arith, omega arith)
+
+back-at : (c : tie.Start) → c .args .leaves ≡ true → Fits w64 (c .args .m + 1) × (c .args .m + 1 ≤ c .args .t)
+back-at c h = one-fits (c .args .row .low) _ _ _ (c .pre .5 .leaving h) (small-at c) (c .pre .0 .small)
+
+rest-at : (c : tie.Start) (x : ℕ) → c .args .leaves ≡ true → x ≡ count (now (c .args .upper)) (c .args .k) (c .args .t - (c .args .m + 1)) → x ≤ c .args .w
+rest-at c x h e = slid-leaves (now (c .args .upper)) (c .args .total) (c .args .k) (c .args .t) (c .args .m) (c .args .w) x 0 (c .pre .4 .window) (c .pre .1) (full-at c h) e
+
+over-at : (c : tie.Start) (x y : ℕ) → c .args .leaves ≡ true → x ≡ count (now (c .args .upper)) (c .args .k) (c .args .t - (c .args .m + 1)) → y ≡ count (now (c .args .upper)) (c .args .k) (c .args .t)
+    → Slid (now (c .args .upper)) (c .args .total) (c .args .k) (c .args .t + 1) (c .args .w - x + y)
+over-at c x y h ex ey = slid-over (now (c .args .upper)) (c .args .total) (c .args .k) (c .args .t) (c .args .m) (c .args .w) x y (c .pre .4 .window) (c .pre .1) (full-at c h) ex ey
+
+below-at : (c : tie.Start) (y : ℕ) → c .args .leaves ≡ false → y ≡ count (now (c .args .upper)) (c .args .k) (c .args .t)
+    → Slid (now (c .args .upper)) (c .args .total) (c .args .k) (c .args .t + 1) (c .args .w + y)
+below-at c y h ey = slid-under (now (c .args .upper)) (c .args .total) (c .args .k) (c .args .t) (c .args .m) (c .args .w) 0 y (c .pre .4 .window) (c .pre .1) (under-at c h) ey
+
+at-requires : tie.Need-cell-requires
+at-requires c κs = let s = c .before .before .before .before in let p = s .pre .0 in (le-of-lt (p .part), le-of-lt (p .few), p .small, p .from, leave-at (c .before .before .before .before) (c .if2 .taken), p .room, s .pre .4 .rows _ (le-refl _))
+
+at-requires-2 : tie.Need-cell-requires-2
+at-requires-2 c κs = let s = c .before .before .before .before .before in let p = s .pre .0 in (le-of-lt (p .part), le-of-lt (p .few), p .small, p .from, enter-at (c .before .before .before .before .before) (c .before .before .if1 .taken), p .room, s .pre .4 .rows _ (le-refl _))
+
+at-requires-3 : tie.Need-cell-requires-3
+at-requires-3 c κs = let s = c .before .before .before .before in let p = s .pre .0 in (le-of-lt (p .part), le-of-lt (p .few), p .small, p .from, enter-at (c .before .before .before .before) (c .before .if1 .taken), p .room, s .pre .4 .rows _ (le-refl _))
+
+at-requires-4 : tie.Need-cell-requires-4
+at-requires-4 c κs = let s = c .before .before .before .before in let p = s .pre .0 in (le-of-lt (p .part), le-of-lt (p .few), p .small, p .from, leave-at (c .before .before .before .before) (c .if3 .taken), p .room, s .pre .4 .rows _ (le-refl _))
+
+returns-3 : tie.Need-returns-3
+returns-3 c =
+    let s = c .before .before .before .before .before in
+    let x = c .cell4 .result in
+    subst (λ (w : ℕ). Slid (now (s .args .upper)) (s .args .total) (s .args .k) (s .args .t + 1) w) (add-zero (s .args .w - x)) (over-at s x 0 (c .before .if3 .taken) (c .cell4 .ensures .0) (none-at s (c .before .before .if1 .left)))
+
+returns-4 : tie.Need-returns-4
+returns-4 c =
+    let s = c .before .before .before .before in
+    subst (λ (w : ℕ). Slid (now (s .args .upper)) (s .args .total) (s .args .k) (s .args .t + 1) w) (add-zero (s .args .w)) (below-at s 0 (c .if3 .left) (none-at s (c .before .if1 .left)))
+
+pub step-spec : {M : Type 1} → statement M
+step-spec =
+    tie.close
+    (tie.spec
+    (λ c. back-at (c .before .before .before .before) (c .if2 .taken) .0)
+    (λ c. back-at (c .before .before .before .before) (c .if2 .taken) .1)
+    at-requires
+    (λ c. rest-at (c .before .before .before .before .before) (c .cell .result) (c .before .if2 .taken) (c .cell .ensures .0))
+    at-requires-2
+    (λ c. search needs)
+    (λ c. over-at (c .before .before .before .before .before .before) (c .before .cell .result) (c .cell2 .result) (c .before .before .if2 .taken) (c .before .cell .ensures .0) (c .cell2 .ensures .0))
+    at-requires-3
+    (λ c. search needs)
+    (λ c. below-at (c .before .before .before .before .before) (c .cell3 .result) (c .before .if2 .left) (c .cell3 .ensures .0))
+    (λ c. back-at (c .before .before .before .before) (c .if3 .taken) .0)
+    (λ c. back-at (c .before .before .before .before) (c .if3 .taken) .1)
+    at-requires-4
+    (λ c. rest-at (c .before .before .before .before .before) (c .cell4 .result) (c .before .if3 .taken) (c .cell4 .ensures .0))
+    returns-3
+    returns-4)

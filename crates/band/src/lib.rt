@@ -1,0 +1,114 @@
+// The counting table (document 01: N, and everything that counts). For the first k parts it has the sums from which the total can still be reached, so every
+// count in it is at most N. Here are the places of its rows; `window` fills a row from the row before, `window::table` the whole.
+ghost use mathlib.Core.Path.{_≡_};
+ghost use Prim.Native.Nat.{_+_, _-_, _≤_, _<_, min};
+ghost use lib.ListN.{length, getD};
+ghost use Rattle.walsh.specs.Order.{count};
+ghost use Rattle.bounds.specs.Edition.{whole};
+ghost use Rattle.band.specs.Band.{InBand, bandSize, cap, Row-holds, IsRow, surveyOf};
+
+pub mod window;
+
+// Row k: the cells before it, the sum of the first k bounds and of all, and the lowest and the highest sum in the band.
+pub struct Row {
+    pub start: usize,
+    pub left: usize,
+    pub all: usize,
+    pub low: usize,
+    pub high: usize,
+}
+
+// The answer of the checks 1 to 4; where they refuse nothing, the sum of the bounds and the number of cells of the table.
+pub struct Surveyed {
+    pub number: u32,
+    pub detail: u64,
+    pub all: usize,
+    pub size: usize,
+}
+
+// Cell i of a table, and 0 past its end.
+pub fn at(cells: &[u64], i: usize) -> u64
+    ensures { λ r. ⌜ r ≡ getD (now (cells .entry)) i 0 ⌝ }
+{
+    if i < cells.len() { cells[i] } else { 0 }
+}
+
+// The bound of part `k`, counted from 0.
+fn bound(upper: &[u8], k: usize) -> usize
+    requires { ⌜ k < length (now upper) ⌝ }
+    ensures { λ r. ⌜ (r ≡ getD (now (upper .entry)) k 0) × (r ≤ 255) ⌝ }
+{
+    walsh::wide(upper[k])
+}
+
+fn row_of(total: usize, start: usize, left: usize, all: usize) -> Row
+    requires { ⌜ left ≤ all ⌝ }
+    ensures { λ r. ⌜ (r .start ≡ start) × (r .left ≡ left) × (r .all ≡ all) × (r .low ≡ total - (all - left)) × (r .high ≡ min total left) ⌝ }
+{
+    Row {
+        start,
+        left,
+        all,
+        low: walsh::over(total, all - left),
+        high: walsh::lesser(total, left),
+    }
+}
+
+// The row after.
+fn up(upper: &[u8], total: usize, k: usize, from: Row) -> Row
+    requires { ⌜ (length (now upper) ≤ 24) × (total ≤ 255) × (total ≤ whole (now upper)) × (k < length (now upper)) × IsRow (now upper) total k from ⌝ }
+    ensures { λ r. ⌜ IsRow (now (upper .entry)) total (k + 1) r ⌝ }
+{
+    let m = bound(upper, k);
+    row_of(
+        total,
+        from.start + (from.high + 1 - from.low),
+        from.left + m,
+        from.all,
+    )
+}
+
+// The row of all parts.
+fn last(upper: &[u8], total: usize, all: usize) -> Row
+    requires { ⌜ (length (now upper) ≤ 24) × (total ≤ 255) × (total ≤ whole (now upper)) × (all ≡ whole (now upper)) ⌝ }
+    ensures { λ r. ⌜ IsRow (now (upper .entry)) total (length (now (upper .entry))) r ⌝ }
+{
+    let n = upper.len();
+    let mut row = row_of(total, 0, 0, all);
+    let mut k = 0;
+    while k < n {
+        row = up(upper, total, k, row);
+        k += 1;
+    }
+    row
+}
+
+// The number of compositions of the sum `t` of the band into the first `k` parts.
+fn cell(upper: &[u8], total: usize, k: usize, row: Row, cells: &[u64], t: usize) -> u64
+    requires { ⌜ (k ≤ length (now upper)) × (k ≤ 24) × (total ≤ 255) × IsRow (now upper) total k row × InBand (now upper) total k t × (bandSize (now upper) total ≤ length (now cells)) × Row-holds (now upper) total (now cells) k 256 ⌝ }
+    ensures { λ r. ⌜ (r ≡ count (now (upper .entry)) k t) × (r < cap) ⌝ }
+{
+    cells[row.start + (t - row.low)]
+}
+
+// The checks 1 to 4, and how many cells the table has.
+pub fn survey(upper: &[u8], total: u32) -> Surveyed
+    ensures { λ r. ⌜ r ≡ surveyOf (now (upper .entry)) total ⌝ }
+{
+    let s = bounds::shape(upper, total);
+    if 0 < s.number {
+        return Surveyed {
+            number: s.number,
+            detail: s.detail,
+            all: 0,
+            size: 0,
+        };
+    }
+    let row = last(upper, total as usize, s.all);
+    Surveyed {
+        number: 0,
+        detail: 0,
+        all: s.all,
+        size: row.start + 1,
+    }
+}

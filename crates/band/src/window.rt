@@ -1,0 +1,162 @@
+// A row of the counting table, filled from the row before by a sliding window. It stops at the first number over 2^63 - 1, which shows that N is over it too.
+ghost use mathlib.Core.Path.{_≡_};
+ghost use mathlib.Core.Bool.{true, false};
+ghost use Prim.Native.Nat.{ℕ, _+_, _≤_, _<_};
+ghost use lib.ListN.{length, getD};
+ghost use Rattle.walsh.specs.Order.{count};
+ghost use Rattle.band.specs.Band.{cap, Row-holds, Rows-hold};
+ghost use Rattle.band.specs.Window.{Filling, Slid, Filled, Moves, Stretch};
+use crate::Row;
+use crate::bound;
+use crate::cell;
+
+pub mod table;
+
+const MOST: u64 = 9_223_372_036_854_775_807;
+
+// The window before the first sum of the row after, or a number over 2^63 - 1.
+fn head(upper: &[u8], total: usize, k: usize, row: Row, next: Row, cells: &[u64]) -> u64
+    requires { ⌜ Filling (now upper) total k row next (length (now cells)) × Row-holds (now upper) total (now cells) k 256 ⌝ }
+    ensures { λ r. ⌜ (r < cap → Slid (now (upper .entry)) total k (next .low) r) × (cap ≤ r → cap ≤ count (now (upper .entry)) (length (now (upper .entry))) total) ⌝ }
+{
+    let end = walsh::lesser(next.low, row.high + 1);
+    let mut w: u64 = 0;
+    let mut t = row.low;
+    while t < end {
+        w += cell(upper, total, k, row, cells, t);
+        if MOST < w {
+            return w;
+        }
+        t += 1;
+    }
+    w
+}
+
+// The window over row `k` moved from the sum `t` to `t + 1`, where it is known whether a cell enters it and whether one leaves it.
+fn step(
+    upper: &[u8],
+    total: usize,
+    k: usize,
+    m: usize,
+    row: Row,
+    next: Row,
+    cells: &[u64],
+    t: usize,
+    w: u64,
+    enters: bool,
+    leaves: bool,
+) -> u64
+    requires { ⌜ Filling (now upper) total k row next (length (now cells)) × (m ≡ getD (now upper) k 0) × (next .low ≤ t) × (t ≤ next .high) × Filled (now upper) total k t w (now cells) × Moves row m t enters leaves ⌝ }
+    ensures { λ r. ⌜ Slid (now (upper .entry)) total k (t + 1) r ⌝ }
+{
+    if enters {
+        if leaves {
+            let rest = w - cell(upper, total, k, row, cells, t - (m + 1));
+            return rest + cell(upper, total, k, row, cells, t);
+        }
+        return w + cell(upper, total, k, row, cells, t);
+    }
+    if leaves {
+        return w - cell(upper, total, k, row, cells, t - (m + 1));
+    }
+    w
+}
+
+// The sums from `from` up to `end` of a row, at which a cell enters the window or none does, and one leaves it or none does.
+struct Span {
+    from: usize,
+    end: usize,
+    enters: bool,
+    leaves: bool,
+}
+
+// Fills these sums of row `k + 1` and answers the window, or a number over 2^63 - 1.
+fn fill_span(
+    upper: &[u8],
+    total: usize,
+    k: usize,
+    m: usize,
+    row: Row,
+    next: Row,
+    cells: &mut [u64],
+    span: Span,
+    w0: u64,
+) -> u64
+    requires { ⌜ Filling (now upper) total k row next (length (now cells)) × (m ≡ getD (now upper) k 0) × Stretch row next m span × Filled (now upper) total k (span .from) w0 (now cells) ⌝ }
+    ensures { λ r. ⌜ (r < cap → Filled (now (upper .entry)) total k (span .end) r (now (cells .exit))) × (cap ≤ r → cap ≤ count (now (upper .entry)) (length (now (upper .entry))) total) ⌝ }
+{
+    let end = span.end;
+    let enters = span.enters;
+    let leaves = span.leaves;
+    let mut w = w0;
+    let mut t = span.from;
+    while t < end {
+        w = step(upper, total, k, m, row, next, cells, t, w, enters, leaves);
+        if MOST < w {
+            return w;
+        }
+        cells[next.start + (t - next.low)] = w;
+        t += 1;
+    }
+    w
+}
+
+// The first sum past `x`, but at least `low` and at most `high`.
+fn between(low: usize, x: usize, high: usize) -> usize
+    requires { ⌜ low ≤ high ⌝ }
+    ensures { λ r. ⌜ (low ≤ r) × (r ≤ high) × (low < r → r ≤ x + 1) × (r < high → x < r) ⌝ }
+{
+    if high <= x {
+        return high;
+    }
+    if x < low {
+        return low;
+    }
+    x + 1
+}
+
+// Fills row `k + 1` from row `k`, or stops at a number over 2^63 - 1 and answers false.
+fn fill_row(upper: &[u8], total: usize, k: usize, row: Row, next: Row, cells: &mut [u64]) -> bool
+    requires { ⌜ Filling (now upper) total k row next (length (now cells)) × Rows-hold (now upper) total (now cells) k ⌝ }
+    ensures { λ r. ⌜ (r ≡ true → Rows-hold (now (upper .entry)) total (now (cells .exit)) (k + 1)) × (r ≡ false → cap ≤ count (now (upper .entry)) (length (now (upper .entry))) total) ⌝ }
+{
+    let w0 = head(upper, total, k, row, next, cells);
+    if MOST < w0 {
+        return false;
+    }
+    let m = bound(upper, k);
+    let full = row.low + m;
+    let end = next.high + 1;
+    let least = walsh::lesser(row.high, full);
+    let first = between(next.low, least, end);
+    let second = between(first, row.high + full - least, end);
+    let both = full < row.high;
+    let grows = Span {
+        from: next.low,
+        end: first,
+        enters: true,
+        leaves: false,
+    };
+    let w1 = fill_span(upper, total, k, m, row, next, cells, grows, w0);
+    if MOST < w1 {
+        return false;
+    }
+    let slides = Span {
+        from: first,
+        end: second,
+        enters: both,
+        leaves: both,
+    };
+    let w2 = fill_span(upper, total, k, m, row, next, cells, slides, w1);
+    if MOST < w2 {
+        return false;
+    }
+    let shrinks = Span {
+        from: second,
+        end,
+        enters: false,
+        leaves: true,
+    };
+    let w3 = fill_span(upper, total, k, m, row, next, cells, shrinks, w2);
+    w3 <= MOST
+}

@@ -1,0 +1,129 @@
+// The counting table filled row by row, and N.
+ghost use mathlib.Core.Path.{_≡_};
+ghost use Prim.Native.Nat.{ℕ, _≤_, _<_, min};
+ghost use lib.ListN.{length};
+ghost use Rattle.walsh.specs.Order.{count};
+ghost use Rattle.bounds.specs.Edition.{whole, shapeChecks};
+ghost use Rattle.bounds.specs.Refusal.{firstRefusal};
+ghost use Rattle.band.specs.Band.{bandSize, cap, Band, limited, numberOf, countedOf};
+
+const MOST: u64 = 9_223_372_036_854_775_807;
+
+const CAP: u64 = 9_223_372_036_854_775_808;
+
+// N, or the refusal.
+pub struct Counted {
+    pub number: u32,
+    pub detail: u64,
+    pub count: u64,
+}
+
+// Fills the table and answers the number of compositions, or stops and answers 2^63 where that is less.
+fn fill_rows(upper: &[u8], total: usize, all: usize, cells: &mut [u64]) -> u64
+    requires { ⌜ (length (now upper) ≤ 24) × (total ≤ 255) × (total ≤ whole (now upper)) × (all ≡ whole (now upper)) × (bandSize (now upper) total ≤ length (now cells)) ⌝ }
+    ensures { λ r. ⌜ (r ≡ min (count (now (upper .entry)) (length (now (upper .entry))) total) cap) × (r < cap → Band (now (upper .entry)) total (now (cells .exit))) ⌝ }
+{
+    let n = upper.len();
+    let mut row = crate::row_of(total, 0, 0, all);
+    cells[0] = 1;
+    let mut k = 0;
+    while k < n {
+        let next = crate::up(upper, total, k, row);
+        if !super::fill_row(upper, total, k, row, next, cells) {
+            return CAP;
+        }
+        row = next;
+        k += 1;
+    }
+    crate::cell(upper, total, n, row, cells, total)
+}
+
+fn uncounted(number: u32, detail: u64) -> Counted
+    ensures { λ r. ⌜ r ≡ record { number = number; detail = detail; count = 0 } ⌝ }
+{
+    Counted {
+        number,
+        detail,
+        count: 0,
+    }
+}
+
+// N, or 5 where it is over the limit.
+fn within_limit(n: u64) -> Counted
+    ensures { λ r. ⌜ r ≡ limited n ⌝ }
+{
+    if MOST < n {
+        return uncounted(5, 0);
+    }
+    Counted {
+        number: 0,
+        detail: 0,
+        count: n,
+    }
+}
+
+// `fill` of a shape that is accepted, with room for its table.
+fn fill_shaped(upper: &[u8], total: u32, all: usize, cells: &mut [u64]) -> Counted
+    requires { ⌜ (firstRefusal (shapeChecks (now upper) total) .number ≡ 0) × (all ≡ whole (now upper)) × (bandSize (now upper) total ≤ length (now cells)) ⌝ }
+    ensures { λ r. ⌜ (r ≡ numberOf (now (upper .entry)) total) × (r .number ≡ 0 → Band (now (upper .entry)) total (now (cells .exit))) ⌝ }
+{
+    let n = fill_rows(upper, total as usize, all, cells);
+    within_limit(n)
+}
+
+// Fills the table and answers N, or the first of the refusals 1 to 4, 13 where `cells` is too short, and 5.
+pub fn fill(upper: &[u8], total: u32, cells: &mut [u64]) -> Counted
+    ensures answer { λ r. ⌜ r ≡ countedOf (now (upper .entry)) total (length (now (cells .entry))) ⌝ }
+    ensures table { λ r. ⌜ (r .number ≡ 0 → Band (now (upper .entry)) total (now (cells .exit))) ⌝ }
+{
+    let s = crate::survey(upper, total);
+    if 0 < s.number {
+        return uncounted(s.number, s.detail);
+    }
+    if cells.len() < s.size {
+        return uncounted(13, 0);
+    }
+    fill_shaped(upper, total, s.all, cells)
+}
+
+// N of a shape that is accepted, by a table that is as large as it has to be.
+fn count_by_table(upper: &[u8], total: u32, all: usize) -> Counted
+    requires { ⌜ (firstRefusal (shapeChecks (now upper) total) .number ≡ 0) × (all ≡ whole (now upper)) ⌝ }
+    ensures { λ r. ⌜ r ≡ numberOf (now (upper .entry)) total ⌝ }
+{
+    let row = crate::last(upper, total as usize, all);
+    let start = row.start;
+    if start < 64 {
+        let mut cells = [0u64; 64];
+        return fill_shaped(upper, total, all, &mut cells);
+    }
+    if start < 256 {
+        let mut cells = [0u64; 256];
+        return fill_shaped(upper, total, all, &mut cells);
+    }
+    if start < 1024 {
+        let mut cells = [0u64; 1024];
+        return fill_shaped(upper, total, all, &mut cells);
+    }
+    if start < 2048 {
+        let mut cells = [0u64; 2048];
+        return fill_shaped(upper, total, all, &mut cells);
+    }
+    let mut cells = [0u64; 6145];
+    fill_shaped(upper, total, all, &mut cells)
+}
+
+// N, or the refusal. "N of a puzzle edition of 2 to 16 sheets is read from" the constant table.
+pub fn count(upper: &[u8], total: u32) -> Counted
+    ensures { λ r. ⌜ r ≡ numberOf (now (upper .entry)) total ⌝ }
+{
+    let s = bounds::shape(upper, total);
+    if 0 < s.number {
+        return uncounted(s.number, s.detail);
+    }
+    let e = mahonian::staircase_count(upper, total);
+    if let mahonian::Entry::Count(n) = e {
+        return within_limit(n);
+    }
+    count_by_table(upper, total, s.all)
+}

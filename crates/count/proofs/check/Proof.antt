@@ -1,0 +1,50 @@
+-- `count::check` meets its contract.
+use mathlib.Core.Path.{_≡_, ap, _∙_}
+use mathlib.Core.List.{List}
+use Prim.Native.Nat.{ℕ, _≤_}
+use native.Mathlib.Omega.{arith}
+use lib.ListN.{length, take}
+use lib.Seq.{take-all}
+use denote.Ref.{now}
+use borrow.Author.Needs.{needs}
+use Rattle.walsh.specs.Order.{countOf}
+use Rattle.bounds.specs.Refusal.{firstRefusal}
+use Rattle.bounds.specs.Edition.{editionChecks, cellsOf}
+use Rattle.bounds.specs.declared.Bounds.{Bounds}
+use Rattle.bounds.proofs.Editions.{shapely, edition-shape}
+use Rattle.band.proofs.Answers.{numbered-refused, numbered-accepted}
+use Rattle.count.proofs.Answers.{check-refused, check-accepted}
+use Rattle.count.proofs.check.Statement.{statement}
+use Rattle.count.proofs.check.Tie as tie
+
+zero-of : {n : ℕ} → n ≤ 0 → n ≡ 0
+zero-of l = omega arith
+
+counted-at : (c : tie.Else1)
+    → let a = c .before .before .before .before .args in
+    (firstRefusal (editionChecks (now (a .upper)) (a .total)) .number ≡ 0) × (c .before .before .count .result .count ≡ countOf (now (a .upper)) (a .total))
+counted-at c = let n = c .before .before .count in numbered-accepted _ _ (n .result) (n .ensures) (zero-of (c .if1 .left))
+
+returns : tie.Need-returns
+returns c =
+    let n = c .before .before .before .count in
+    let a = c .before .before .before .before .before .args in
+    let l = c .before .if1 .taken in
+    c .refuse .ensures ∙ check-refused (now (a .upper)) (a .total) _ _ (numbered-refused _ _ (n .result) (n .ensures) l) l
+
+pack-fits : (c : tie.Else1) → let ms = now (c .before .before .before .before .args .upper) in take 24 ms ≡ ms
+pack-fits c =
+    let a = c .before .before .before .before .args in
+    take-all 24 (now (a .upper)) (shapely (now (a .upper)) (a .total) (edition-shape (now (a .upper)) (a .total) (counted-at c .0)) .few)
+
+abbrev packed : ℕ → ℕ → List ℕ → Bounds
+packed n total upper = record { parts = n; upper = upper; total = total }
+
+returns-2 : tie.Need-returns-2
+returns-2 c =
+    let a = c .before .before .before .before .before .args in
+    let k = counted-at (c .before) in
+    check-accepted (now (a .upper)) (a .total) _ _ (k .0) (ap (packed (length (now (a .upper))) (a .total)) (c .pack .ensures ∙ ap cellsOf (pack-fits (c .before)))) (k .1)
+
+pub check-spec : {M : Type 1} → statement M
+check-spec = tie.close (tie.spec (λ c κs. search needs) (λ c κs. search needs) returns (λ c κs. search needs) returns-2)

@@ -1,0 +1,141 @@
+// An edition with its number N (document 01, "Editions and their number"): the checks 1 to 5, of lent bounds and of a record that nobody has checked.
+ghost use mathlib.Core.Path.{_≡_};
+ghost use mathlib.Core.Bool.{true};
+ghost use mathlib.Core.List.{[]};
+ghost use Prim.Native.Nat.{ℕ, _*_, _≤_, _<_};
+ghost use lib.ListN.{length};
+ghost use Rattle.walsh.specs.Order.{countOf};
+ghost use Rattle.bounds.specs.Refusal.{firstRefusal};
+ghost use Rattle.bounds.specs.Edition.{boundsOf, editionChecks, recordChecks};
+ghost use Rattle.count.specs.Checked.{checkOf, recordOf};
+use band::window::table;
+use bounds::Bounds;
+use bounds::Refusal;
+
+const MOST: u64 = 9_223_372_036_854_775_807;
+
+// 2^55: a smaller number times 256 is within the limit.
+const SMALL: u64 = 36_028_797_018_963_968;
+
+// An accepted edition and N, or the refusal, with all else 0.
+#[repr(C)]
+pub struct Checked {
+    pub number: u32,
+    pub detail: u64,
+    pub bounds: Bounds,
+    pub count: u64,
+}
+
+fn refuse(number: u32, detail: u64) -> Checked
+    ensures { λ r. ⌜ r ≡ record { number = number; detail = detail; bounds = boundsOf [] 0; count = 0 } ⌝ }
+{
+    Checked {
+        number,
+        detail,
+        bounds: Bounds {
+            parts: 0,
+            upper: [0; 24],
+            total: 0,
+        },
+        count: 0,
+    }
+}
+
+// The edition's record and N, or the first of the refusals 1 to 5 that holds.
+pub fn check(upper: &[u8], total: u32) -> Checked
+    ensures { λ r. ⌜ r ≡ checkOf (now (upper .entry)) total ⌝ }
+{
+    let n = table::count(upper, total);
+    if 0 < n.number {
+        return refuse(n.number, n.detail);
+    }
+    Checked {
+        number: 0,
+        detail: 0,
+        bounds: Bounds {
+            parts: upper.len(),
+            upper: bounds::pack(upper),
+            total,
+        },
+        count: n.count,
+    }
+}
+
+// The same of a record that nobody has checked. Where it is accepted, the cells past n are 0 in the answer.
+pub fn check_record(bounds: Bounds) -> Checked
+    ensures { λ r. ⌜ r ≡ recordOf bounds ⌝ }
+{
+    let n = bounds.parts;
+    if 24 < n {
+        return refuse(1, 0);
+    }
+    let upper = bounds.upper;
+    check(&upper[..n], bounds.total)
+}
+
+// Whether a product is within the limit: the division is seldom needed.
+fn is_within(a: u64, b: u64) -> bool
+    requires { ⌜ (0 < b) × (b ≤ 256) ⌝ }
+    ensures { λ r. ⌜ (r ≡ true → a * b ≤ 9223372036854775807) ⌝ }
+{
+    if a < SMALL { true } else { a <= MOST / b }
+}
+
+// Whether the product of the numbers of values of all parts but the widest is within the limit: then N is.
+fn is_few(upper: &[u8], total: usize) -> bool
+    ensures { λ r. ⌜ (r ≡ true → countOf (now (upper .entry)) total ≤ 9223372036854775807) ⌝ }
+{
+    let mut product: u64 = 1;
+    let mut widest: usize = 1;
+    let mut k = 0;
+    while k < upper.len() {
+        let values = walsh::lesser(walsh::wide(upper[k]), total) + 1;
+        let factor = walsh::lesser(values, widest);
+        widest = values + widest - factor;
+        if !is_within(product, factor as u64) {
+            return false;
+        }
+        product *= factor as u64;
+        k += 1;
+    }
+    true
+}
+
+// The first of the refusals 1 to 5 that holds, for calls that need no N: where a bound on N that costs nothing is within the limit, nothing is counted.
+pub fn refusal(upper: &[u8], total: u32) -> Refusal
+    ensures { λ r. ⌜ r ≡ firstRefusal (editionChecks (now (upper .entry)) total) ⌝ }
+{
+    let s = bounds::shape(upper, total);
+    if 0 < s.number {
+        return Refusal {
+            number: s.number,
+            detail: s.detail,
+        };
+    }
+    if is_few(upper, total as usize) {
+        return Refusal {
+            number: 0,
+            detail: 0,
+        };
+    }
+    let n = table::count(upper, total);
+    Refusal {
+        number: n.number,
+        detail: n.detail,
+    }
+}
+
+// The same of a record that nobody has checked.
+pub fn record_refusal(bounds: Bounds) -> Refusal
+    ensures { λ r. ⌜ r ≡ firstRefusal (recordChecks bounds) ⌝ }
+{
+    let n = bounds.parts;
+    if 24 < n {
+        return Refusal {
+            number: 1,
+            detail: 0,
+        };
+    }
+    let upper = bounds.upper;
+    refusal(&upper[..n], bounds.total)
+}

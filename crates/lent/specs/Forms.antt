@@ -1,0 +1,69 @@
+-- Document 01, "The register": "First the record goes in and comes back. After the base, the record is also lent to take and spoil, which update it
+-- there with the same answers." A list of calls in which each comes in either form, run as the contracts of the functions say.
+use mathlib.Core.Path.{_≡_}
+use mathlib.Core.List.{List, [], _∷_}
+use Prim.Native.Nat.{ℕ}
+use Rattle.model.specs.Model.{Call}
+use Rattle.model.specs.Record.{opening, answered, calling, Run}
+use Rattle.model.specs.declared.Answer.{Answer}
+use Rattle.model.specs.declared.Claimed.{Claimed}
+use Rattle.model.specs.declared.Ledger.{Ledger}
+
+-- the functions that can be called: `ledger::peek`, `ledger::claim`, `ledger::void`, and `lent::claim_in`, `lent::void_in`
+pub data Step : Type 0 where
+  peek : Step
+  claim : ℕ → ℕ → Step
+  void : ℕ → Step
+  claim-in : ℕ → ℕ → Step
+  void-in : ℕ → Step
+
+-- which of document 01's calls it is
+abbrev pub callOf : Step → Call
+callOf peek = Call.peek
+callOf (claim s o) = Call.claim s o
+callOf (void s) = Call.void s
+callOf (claim-in s o) = Call.claim s o
+callOf (void-in s) = Call.void s
+
+-- what the caller keeps between two calls
+pub record State : Type 0 where
+  pub ledger : Ledger
+  pub column : List ℕ
+
+-- ---- the contracts: of a call at x, that a is answered and y is left
+
+-- the record goes in; r comes back, and its record goes into the next call
+pub record ByValue (c : Call) (x : State) (a : Answer) (y : State) : Type 0 where
+  pub r : Claimed
+  pub meets : (r, y .column) ≡ calling (x .ledger) (x .column) c
+  pub answer : a ≡ r .answer
+  pub kept : y .ledger ≡ r .ledger
+
+-- the record is lent; y has what it holds at exit
+abbrev pub Lent : Call → State → Answer → State → Type 0
+Lent c x a y = (record { answer = a; ledger = y .ledger }, y .column) ≡ calling (x .ledger) (x .column) c
+
+-- the record goes in, the column is lent to be read
+pub record Peeks (x : State) (a : Answer) (y : State) : Type 0 where
+  pub meets : a ≡ answered (x .ledger) (x .column) Call.peek
+  pub kept : y ≡ x
+
+abbrev pub Does : Step → State → Answer → State → Type 0
+Does peek = Peeks
+Does (claim s o) = ByValue (Call.claim s o)
+Does (void s) = ByValue (Call.void s)
+Does (claim-in s o) = Lent (Call.claim s o)
+Does (void-in s) = Lent (Call.void s)
+
+-- ---- a list of calls
+
+-- w is a run of the list from x: "Each call is handed the column and the record as the one before it left them"
+abbrev pub Runs : State → List Step → Run → Type 0
+Runs x [] w = w ≡ record { trace = []; ledger = x .ledger; column = x .column }
+Runs x (s ∷ ss) w =
+    (a : Answer) × (y : State) × (v : Run) × Does s x a y × Runs y ss v
+    × (w ≡ record { trace = record { call = callOf s; reply = a } ∷ v .trace; ledger = v .ledger; column = v .column })
+
+-- "the column and the record of an accepted opening"
+abbrev pub opened : List ℕ → ℕ → List ℕ → State
+opened ms r col = record { ledger = opening ms r col .ledger; column = col }
