@@ -1,4 +1,2 @@
-pub mod Scans
-pub mod Checks
 pub mod Openings
 pub mod Forward

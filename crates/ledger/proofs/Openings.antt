@@ -17,7 +17,7 @@ use Rattle.rank.specs.Locate.{locateOf}
 use Rattle.rank.specs.declared.Located.{Located}
 use Rattle.model.specs.Record.{openingChecks, opened, blankLedger, opening}
 use Rattle.model.specs.declared.Opened.{Opened}
-use Rattle.ledger.proofs.Checks.{nearest-next}
+use Rattle.integrity.proofs.Checks.{nearest-next}
 
 module _ (ms : List ℕ) (r : ℕ) (col : List ℕ) {x : Located} (is : x ≡ locateOf ms r 1) where
   abbrev edition : Refusal

@@ -8,13 +8,10 @@ use model::Opened;
 ghost use mathlib.Core.Path.{_≡_};
 ghost use mathlib.Core.Bool.{true};
 ghost use Prim.Native.Nat.{_+_, _≤_, _<_};
-ghost use lib.ListN.{length, take};
-ghost use Rattle.model.specs.Basics.{indexOf};
-ghost use Rattle.model.specs.Model.{Call, blank, answer};
-ghost use Rattle.model.specs.Record.{compositionsOf, nextComposition, blankLedger, opening, written, consistent, answered, calling, entriesOf};
-ghost use Rattle.ledger.specs.Check.{entering};
-
-mod check;
+ghost use lib.ListN.{length};
+ghost use Rattle.model.specs.Model.{Call};
+ghost use Rattle.model.specs.Record.{compositionsOf, nextComposition, blankLedger, opening, consistent, answered, calling, entriesOf};
+ghost use Rattle.ledger.specs.Entering.{entering};
 
 // ---- opening
 
@@ -75,122 +72,14 @@ pub fn open(upper: &[u8], total: u32, orders: &[u32]) -> Opened
     }
 }
 
-// ---- answers
-
-fn refused(number: u32, detail: u64) -> Answer
-    ensures { λ r. ⌜ r ≡ record { number = number; detail = detail; serial = 0; composition = blank } ⌝ }
-{
-    Answer {
-        number,
-        detail,
-        serial: 0,
-        composition: [0; 24],
-    }
-}
-
-// The next serial with its composition, which the record holds.
-fn accepted(ledger: Ledger) -> Answer
-    requires { ⌜ ledger .entries < 1000000 ⌝ }
-    ensures { λ r. ⌜ r ≡ record { number = 0; detail = 0; serial = ledger .entries + 1; composition = ledger .next } ⌝ }
-{
-    let composition = ledger.next;
-    Answer {
-        number: 0,
-        detail: 0,
-        serial: ledger.entries + 1,
-        composition,
-    }
-}
+// ---- the calls
 
 // document 01: look. The next serial with its composition; nothing is reserved.
 pub fn peek(ledger: Ledger, orders: &[u32]) -> Answer
     ensures { λ r. ⌜ r ≡ answered ledger (now (orders .entry)) Call.peek ⌝ }
 {
-    let seen = check::examine(ledger, orders, 0);
-    if !seen.fits {
-        return refused(16, 0);
-    }
-    if seen.count <= ledger.entries {
-        return refused(21, 0);
-    }
-    accepted(ledger)
+    reply::peek(ledger, orders)
 }
-
-fn wide(x: u32) -> u64
-    ensures { λ r. ⌜ r ≡ x ⌝ }
-{
-    x as u64
-}
-
-// The checks of a serial, 6, 18 and 19, which are those of a void.
-fn place(ledger: Ledger, orders: &[u32], count: u64, serial: u64) -> Answer
-    requires { ⌜ (consistent ledger (now orders) ≡ true) × (count ≡ length (compositionsOf (ledger .bounds))) ⌝ }
-    ensures { λ r. ⌜ r ≡ answer (compositionsOf (ledger .bounds)) (written ledger (now (orders .entry))) (Call.void serial) ⌝ }
-{
-    if serial == 0 {
-        return refused(6, 0);
-    }
-    if count < serial {
-        return refused(6, 0);
-    }
-    let entries = ledger.entries;
-    if serial <= entries {
-        let at = (serial - 1) as usize;
-        return refused(18, wide(orders[at]));
-    }
-    if entries + 1 < serial {
-        return refused(19, entries + 1);
-    }
-    accepted(ledger)
-}
-
-// The lowest place among the first n entries at which the order stands; n where it does not.
-fn find(orders: &[u32], n: usize, order: u32) -> usize
-    requires { ⌜ n ≤ length (now orders) ⌝ }
-    ensures { λ r. ⌜ r ≡ indexOf order (take n (now (orders .entry))) ⌝ }
-{
-    let mut i: usize = 0;
-    while i < n {
-        if orders[i] == order {
-            return i;
-        }
-        i += 1;
-    }
-    n
-}
-
-fn claim_answer(ledger: Ledger, orders: &[u32], serial: u64, order: u32) -> Answer
-    ensures { λ r. ⌜ r ≡ answered ledger (now (orders .entry)) (Call.claim serial order) ⌝ }
-{
-    let seen = check::examine(ledger, orders, order);
-    if !seen.fits {
-        return refused(16, 0);
-    }
-    if order == 0 {
-        return refused(17, 0);
-    }
-    let placed = place(ledger, orders, seen.count, serial);
-    if placed.number != 0 {
-        return placed;
-    }
-    if 0 < seen.hits {
-        let at = find(orders, ledger.entries as usize, order);
-        return refused(20, at as u64 + 1);
-    }
-    placed
-}
-
-fn void_answer(ledger: Ledger, orders: &[u32], serial: u64) -> Answer
-    ensures { λ r. ⌜ r ≡ answered ledger (now (orders .entry)) (Call.void serial) ⌝ }
-{
-    let seen = check::examine(ledger, orders, 0);
-    if !seen.fits {
-        return refused(16, 0);
-    }
-    place(ledger, orders, seen.count, serial)
-}
-
-// ---- what an accepted call writes
 
 // The composition after the record's, by one step; the last stays.
 fn following(ledger: Ledger) -> [u8; 24]
@@ -240,14 +129,17 @@ fn enter(
 pub fn claim(ledger: Ledger, orders: &mut [u32], serial: u64, order: u32) -> Claimed
     ensures { λ r. ⌜ (r, now (orders .exit)) ≡ calling ledger (now (orders .entry)) (Call.claim serial order) ⌝ }
 {
-    let answer = claim_answer(ledger, orders, serial, order);
-    if answer.number != 0 {
-        return Claimed { answer, ledger };
+    let claimed = reply::claim(ledger, orders, serial, order);
+    if claimed.number != 0 {
+        return Claimed {
+            answer: claimed,
+            ledger,
+        };
     }
     enter(
         ledger,
         orders,
-        answer,
+        claimed,
         order,
         ledger.sold + 1,
         ledger.voided,
@@ -258,18 +150,21 @@ pub fn claim(ledger: Ledger, orders: &mut [u32], serial: u64, order: u32) -> Cla
 pub fn void(ledger: Ledger, orders: &mut [u32], serial: u64) -> Claimed
     ensures { λ r. ⌜ (r, now (orders .exit)) ≡ calling ledger (now (orders .entry)) (Call.void serial) ⌝ }
 {
-    let answer = void_answer(ledger, orders, serial);
-    if answer.number != 0 {
-        return Claimed { answer, ledger };
+    let voided = reply::void(ledger, orders, serial);
+    if voided.number != 0 {
+        return Claimed {
+            answer: voided,
+            ledger,
+        };
     }
-    enter(ledger, orders, answer, 0, ledger.sold, ledger.voided + 1)
+    enter(ledger, orders, voided, 0, ledger.sold, ledger.voided + 1)
 }
 
 // The entries so far, as the beginning of the lent column itself; none where number 16 holds.
 pub fn entries(ledger: Ledger, orders: &[u32]) -> &[u32]
     ensures { λ r. ⌜ (now r ≡ entriesOf ledger (now (orders .entry))) × (r .ptr ≡ orders .entry .ptr) ⌝ }
 {
-    let seen = check::examine(ledger, orders, 0);
+    let seen = integrity::examine(ledger, orders, 0);
     if !seen.fits {
         return &orders[..0];
     }

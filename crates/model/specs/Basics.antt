@@ -1,5 +1,5 @@
 -- Counts and places in lists, which the ledger's definitions are made of.
-use mathlib.Core.Path.{_≡_}
+use mathlib.Core.Path.{_≡_, refl}
 use mathlib.Core.Bool.{Bool, true, cond}
 use mathlib.Core.List.{List, [], _∷_, _++_}
 use Prim.Native.Nat.{ℕ, zero, suc, _<_}
@@ -23,6 +23,10 @@ nonzeros (suc n ∷ l) = suc (nonzeros l)
 abbrev pub indexOf : ℕ → List ℕ → ℕ
 indexOf x [] = 0
 indexOf x (y ∷ l) = cond (eqb y x) 0 (suc (indexOf x l))
+
+-- for example, of two places the lower
+lower : indexOf 7 (3 ∷ 7 ∷ 7 ∷ []) ≡ 1
+lower = refl
 
 -- every test holds
 abbrev pub all : List Bool → Bool

@@ -12,10 +12,10 @@ use Rattle.ledger.proofs.claim.Statement.{statement}
 use Rattle.ledger.proofs.claim.Tie as tie
 
 returns : tie.Need-returns
-returns c = calling-refused _ _ _ _ (c .before .before .claim-answer .ensures) (c .if1 .taken)
+returns c = calling-refused _ _ _ _ (c .before .before .claim .ensures) (c .if1 .taken)
 
 wrote : (c : tie.Else1) → let a = c .before .before .before .before .before .args in Writing (a .ledger) (now (a .orders)) (Call.claim (a .serial) (a .order))
-wrote c = writing _ _ _ _ (c .before .before .claim-answer .ensures) (c .if1 .left) refl
+wrote c = writing _ _ _ _ (c .before .before .claim .ensures) (c .if1 .left) refl
 
 returns-2 : tie.Need-returns-2
 returns-2 c =
@@ -23,7 +23,7 @@ returns-2 c =
     let a = c .before .before .before .before .before .before .before .before .before .before .args in
     let place : a .serial - 1 ≡ a .ledger .entries = omega (arith, wrote e .serial) in
     c .before .before .enter .ensures
-    ∙ calling-accepted _ _ _ _ (e .before .before .claim-answer .ensures) _ _ (e .if1 .left) refl (ap (λ (i : ℕ). set (now (a .orders)) i (a .order)) place)
+    ∙ calling-accepted _ _ _ _ (e .before .before .claim .ensures) _ _ (e .if1 .left) refl (ap (λ (i : ℕ). set (now (a .orders)) i (a .order)) place)
 
 pub claim-spec : {M : Type 1} → statement M
 claim-spec =

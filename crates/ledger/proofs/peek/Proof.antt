@@ -1,49 +1,10 @@
--- `ledger::peek` meets its contract.
-use mathlib.Core.Path.{_≡_, sym, _∙_}
-use mathlib.Core.Bool.{true}
-use Prim.Native.Nat.{_<_}
-use native.Mathlib.Omega.{arith}
-use lib.ListN.{length}
-use denote.Ref.{now}
+-- `ledger::peek` meets its contract, which is that of `reply::peek`.
 use borrow.Author.Needs.{needs}
-use borrow.Author.Tests.{not-true, not-false}
-use Rattle.model.specs.Record.{compositionsOf, consistent}
-use Rattle.model.proofs.Records.{parts, answered-16}
-use Rattle.model.proofs.Replies.{peek-full, peek-next}
 use Rattle.ledger.proofs.peek.Statement.{statement}
 use Rattle.ledger.proofs.peek.Tie as tie
 
-fits : (c : tie.Else1) → let s = c .before .before .before .before in consistent (s .args .ledger) (now (s .args .orders)) ≡ true
-fits c = sym (c .before .before .examine .ensures .fits) ∙ not-false _ (c .if1 .left)
-
-left : (c : tie.Else2) → let s = c .before .before .before .before .before .before .before in s .args .ledger .entries < length (compositionsOf (s .args .ledger .bounds))
-left c =
-    let e = c .before .before .before in
-    omega (arith, c .if2 .left, e .before .before .examine .ensures .count (not-false _ (e .if1 .left)))
-
 returns : tie.Need-returns
-returns c = c .refused .ensures ∙ sym (answered-16 _ _ _ (sym (c .before .before .before .examine .ensures .fits) ∙ not-true _ (c .before .if1 .taken)))
-
-returns-2 : tie.Need-returns-2
-returns-2 c =
-    let e = c .before .before .before .before in
-    c .refused2 .ensures
-    ∙ sym (peek-full _ _ (fits e) (omega (arith, c .before .if2 .taken, e .before .before .examine .ensures .count (not-false _ (e .if1 .left)))))
-
-accepted-requires : tie.Need-accepted-requires
-accepted-requires c κs = omega (arith, left c, parts _ _ (fits (c .before .before .before)) .small)
-
-returns-3 : tie.Need-returns-3
-returns-3 c = c .accepted .ensures ∙ sym (peek-next _ _ (fits (c .before .before .before .before)) (left (c .before)))
+returns c = search needs
 
 pub peek-spec : {M : Type 1} → statement M
-peek-spec =
-    tie.close
-    (tie.spec
-    (λ c κs. search needs)
-    (λ c κs. search needs)
-    returns
-    (λ c κs. search needs)
-    returns-2
-    accepted-requires
-    returns-3)
+peek-spec = tie.close (tie.spec (λ c κs. search needs) returns)

@@ -12,10 +12,10 @@ use Rattle.ledger.proofs.void.Statement.{statement}
 use Rattle.ledger.proofs.void.Tie as tie
 
 returns : tie.Need-returns
-returns c = calling-refused _ _ _ _ (c .before .before .void-answer .ensures) (c .if1 .taken)
+returns c = calling-refused _ _ _ _ (c .before .before .void .ensures) (c .if1 .taken)
 
 wrote : (c : tie.Else1) → let a = c .before .before .before .before .before .args in Writing (a .ledger) (now (a .orders)) (Call.void (a .serial))
-wrote c = writing _ _ _ _ (c .before .before .void-answer .ensures) (c .if1 .left) refl
+wrote c = writing _ _ _ _ (c .before .before .void .ensures) (c .if1 .left) refl
 
 returns-2 : tie.Need-returns-2
 returns-2 c =
@@ -23,7 +23,7 @@ returns-2 c =
     let a = c .before .before .before .before .before .before .before .before .before .before .args in
     let place : a .serial - 1 ≡ a .ledger .entries = omega (arith, wrote e .serial) in
     c .before .before .enter .ensures
-    ∙ calling-accepted _ _ _ _ (e .before .before .void-answer .ensures) _ _ (e .if1 .left) refl (ap (λ (i : ℕ). set (now (a .orders)) i 0) place)
+    ∙ calling-accepted _ _ _ _ (e .before .before .void .ensures) _ _ (e .if1 .left) refl (ap (λ (i : ℕ). set (now (a .orders)) i 0) place)
 
 pub void-spec : {M : Type 1} → statement M
 void-spec =

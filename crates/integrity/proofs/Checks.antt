@@ -1,0 +1,132 @@
+-- The tests of number 16, one law for each way out of them.
+use mathlib.Core.Path.{_≡_, refl, sym, ap, _∙_}
+use mathlib.Core.Logic.{_≢_}
+use mathlib.Core.Bool.{true, false, false≢true}
+use mathlib.Core.List.{List, []}
+use Prim.Native.Nat.{ℕ, _+_, _-_, _≤_, _<_, min, max}
+use native.Mathlib.Omega.{arith}
+use lib.ListN.{length, getD}
+use borrow.Author.Tests.{lt-leb, ne-eqb, ltb-false}
+use Rattle.walsh.specs.Order.{order, countOf}
+use Rattle.walsh.specs.Serial.{same, compositionOf}
+use Rattle.walsh.proofs.Cases.{on-less}
+use Rattle.bounds.specs.Refusal.{firstRefusal}
+use Rattle.bounds.specs.Edition.{recordChecks, cellsOf}
+use Rattle.bounds.specs.declared.Bounds.{Bounds}
+use Rattle.bounds.proofs.Refusals.{passed, is-refused, is-accepted}
+use Rattle.rank.specs.Locate.{nearest, locateRecordOf}
+use Rattle.rank.specs.declared.Located.{Located}
+use Rattle.model.specs.Basics.{zeros, nonzeros}
+use Rattle.model.specs.Record.{upperOf, compositions, compositionsOf, nextComposition, written, consistent}
+use Rattle.model.specs.declared.Ledger.{Ledger}
+use Rattle.model.proofs.Compositions.{compositions-size, compositions-at}
+use Rattle.model.proofs.Records.{together, fails, sold-of}
+use Rattle.integrity.specs.Examine.{Scanned, Sees}
+use Rattle.integrity.specs.declared.Seen.{Seen}
+
+-- the composition of the nearest serial to the next is that of the next, of serial N when full
+pub nearest-next : (ms : List ℕ) (r e : ℕ) → nearest ms r (e + 1) ≡ nextComposition (compositions ms r) e
+unfolding compositionOf
+nearest-next ms r e =
+    let n = compositions-size ms r in
+    let at : max 1 (min (e + 1) (countOf ms r)) - 1 ≡ min (e + 1) (length (compositions ms r)) - 1 = rw n (omega arith) in
+    ap (λ (i : ℕ). cellsOf (getD (order ms r) i [])) at ∙ sym (compositions-at ms r (min (e + 1) (length (compositions ms r)) - 1))
+
+-- what the edition answers for the next serial
+pub record Asked (b : Bounds) (e : ℕ) (at : Located) : Type 0 where
+  pub sound : firstRefusal (recordChecks b) .number ≡ 0
+  pub count : at .count ≡ length (compositionsOf b)
+  pub next : at .composition ≡ nextComposition (compositionsOf b) e
+  pub few : b .parts ≤ 24
+
+pub asked : (b : Bounds) (e : ℕ) (at : Located) → at ≡ locateRecordOf b (e + 1) → at .number ≡ 0 → Asked b e at
+unfolding locateRecordOf
+asked b e at is z =
+    let v = firstRefusal (recordChecks b) in
+    let p = is-accepted v _ _ (λ (x : Located). x .number) (λ (x : Located). x .detail) refl refl refl at is z in
+    record {
+      sound = p .0;
+      count = ap (λ (x : Located). x .count) (p .1) ∙ sym (compositions-size (upperOf b) (b .total));
+      next = ap (λ (x : Located). x .composition) (p .1) ∙ nearest-next (upperOf b) (b .total) e;
+      few = ltb-false 24 (b .parts) (passed _ _ refl (p .0) .0);
+    }
+
+module _ (r : Ledger) (col : List ℕ) (x : ℕ) where
+  abbrev gs : List (List ℕ)
+  gs = compositionsOf (r .bounds)
+
+  -- a record and a column that do not belong together
+  module _ {s : Seen} (no : s ≡ record { fits = false; count = 0; hits = 0 }) where
+    pub apart : consistent r col ≡ false → Sees r col x s
+    apart f =
+        let never : s .fits ≡ false = ap (λ (y : Seen). y .fits) no in
+        record {
+          fits = never ∙ sym f;
+          count = λ t. absurd (false≢true (sym never ∙ t));
+          none = λ t. absurd (false≢true (sym never ∙ t));
+          some = λ t. absurd (false≢true (sym never ∙ t));
+        }
+
+    -- so many entries are either more than N, or N is over 1,000,000
+    pub too-full : 1000000 < r .entries → Sees r col x s
+    too-full l =
+        on-less 1000000 (length gs)
+        (λ m t. apart (fails r col 1 (lt-leb (length gs) 1000000 m)))
+        (λ m t. apart (fails r col 3 (lt-leb (r .entries) (length gs) (omega arith))))
+
+    pub no-edition : {at : Located} → at ≡ locateRecordOf (r .bounds) (r .entries + 1) → 0 < at .number → Sees r col x s
+    unfolding locateRecordOf
+    no-edition {at} is l =
+        let v = firstRefusal (recordChecks (r .bounds)) in
+        let e = is-refused v _ _ (λ (y : Located). y .number) (λ (y : Located). y .detail) refl refl refl at is l in
+        apart (fails r col 0 (ne-eqb (v .number) 0 (λ z. let q : at .number ≡ 0 = sym (ap (λ y. y .number) e) ∙ z in omega arith)))
+
+    module _ {at : Located} (a : Asked (r .bounds) (r .entries) at) where
+      pub too-many : 1000000 < at .count → Sees r col x s
+      too-many l = apart (fails r col 1 (lt-leb (length gs) 1000000 (omega (arith, a .count))))
+
+      pub no-room : length col < at .count → Sees r col x s
+      no-room l = apart (fails r col 2 (lt-leb (length gs) (length col) (omega (arith, a .count))))
+
+      pub past-end : at .count < r .entries → Sees r col x s
+      past-end l = apart (fails r col 3 (lt-leb (r .entries) (length gs) (omega (arith, a .count))))
+
+      pub other-next : same (r .next) (at .composition) ≡ false → Sees r col x s
+      other-next f = apart (fails r col 6 (ap (same (r .next)) (sym (a .next)) ∙ f))
+
+    module _ {z h : ℕ} (found : Scanned (written r col) x z h) where
+      pub other-voided : r .voided ≢ z → Sees r col x s
+      other-voided n = apart (fails r col 5 (ne-eqb (r .voided) (zeros (written r col)) (λ e. n (e ∙ sym (found .zeros-are)))))
+
+      pub other-sold : r .entries ≤ length col → r .sold ≢ r .entries - z → Sees r col x s
+      other-sold l n =
+          apart (fails r col 4 (ne-eqb (r .sold) (nonzeros (written r col)) (λ e. n (e ∙ sold-of r col l ∙ ap (λ (k : ℕ). r .entries - k) (sym (found .zeros-are))))))
+
+    pub no-spare : same (r .bounds .upper) (cellsOf (upperOf (r .bounds))) ≡ false → Sees r col x s
+    no-spare f = apart (fails r col 7 f)
+
+  -- all tests pass
+  pub belongs : {at : Located} {z h : ℕ}
+      → Asked (r .bounds) (r .entries) at
+      → at .count ≤ 1000000
+      → at .count ≤ length col
+      → r .entries ≤ at .count
+      → Scanned (written r col) x z h
+      → r .voided ≡ z
+      → r .sold ≡ r .entries - z
+      → same (r .next) (at .composition) ≡ true
+      → same (r .bounds .upper) (cellsOf (upperOf (r .bounds))) ≡ true
+      → Sees r col x (record { fits = true; count = at .count; hits = h })
+  belongs {at} {z} a small room inside found voided sold next spare =
+      let l : r .entries ≤ length col = omega arith in
+      record {
+        fits =
+            sym (together r col (a .sound) (omega (arith, a .count)) (omega (arith, a .count)) (omega (arith, a .count))
+            (sold ∙ ap (λ (k : ℕ). r .entries - k) (found .zeros-are) ∙ sym (sold-of r col l))
+            (voided ∙ found .zeros-are)
+            (ap (same (r .next)) (sym (a .next)) ∙ next)
+            spare);
+        count = λ t. a .count;
+        none = λ t. found .none;
+        some = λ t. found .some;
+      }

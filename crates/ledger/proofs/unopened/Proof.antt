@@ -1,0 +1,10 @@
+-- `ledger::unopened` meets its contract.
+use mathlib.Core.Path.{refl}
+use Rattle.ledger.proofs.unopened.Statement.{statement}
+use Rattle.ledger.proofs.unopened.Tie as tie
+
+returns : tie.Need-returns
+returns c = refl
+
+pub unopened-spec : {M : Type 1} → statement M
+unopened-spec = tie.close (tie.spec returns)

@@ -1,0 +1,39 @@
+-- The search for the first place of a number.
+use mathlib.Core.Path.{_≡_, ap}
+use mathlib.Core.Logic.{_≢_}
+use mathlib.Core.Bool.{false}
+use mathlib.Core.List.{List, [], _∷_}
+use Prim.Native.Nat.{ℕ, zero, suc, _+_, _≤_, _<_}
+use native.Mathlib.Nat.{le-of-suc-le-suc}
+use native.Mathlib.Numerals.{add-one}
+use native.Mathlib.Omega.{arith}
+use lib.Dec.{eqb}
+use lib.ListN.{length, getD, take}
+use borrow.Author.Tests.{eq-eqb, ne-eqb}
+use Rattle.walsh.proofs.Cases.{on-test}
+use Rattle.model.specs.Basics.{indexOf}
+
+passes : (x y i : ℕ) (l : List ℕ) → indexOf x (y ∷ l) ≡ suc i → (eqb y x ≡ false) × (indexOf x l ≡ i)
+passes x y i l p =
+    on-test (eqb y x)
+    (λ t. let z : 0 ≡ suc i = rw t at p in absurd (omega arith))
+    (λ t. let q : suc (indexOf x l) ≡ suc i = rw t at p in (t, omega arith))
+
+-- x does not stand among the first i: its place there is i itself
+pub index-found : (l : List ℕ) (n i x : ℕ) → i < n → n ≤ length l → indexOf x (take i l) ≡ i → getD l i 0 ≡ x → indexOf x (take n l) ≡ i
+index-found [] n i x h k p e = absurd (omega arith)
+index-found (y ∷ l) zero i x h k p e = absurd (omega arith)
+index-found (y ∷ l) (suc n) zero x h k p e = rw (eq-eqb y x e)
+index-found (y ∷ l) (suc n) (suc i) x h k p e =
+    let q = passes x y i (take i l) p in
+    rw (q .0) (ap suc (index-found l n i x (le-of-suc-le-suc h) (le-of-suc-le-suc k) (q .1) e))
+
+pub index-more : (l : List ℕ) (i x : ℕ) → i < length l → indexOf x (take i l) ≡ i → getD l i 0 ≢ x → indexOf x (take (i + 1) l) ≡ i + 1
+index-more l i x h p n = rw (add-one i) (go l i h p n)
+  where
+    go : (l : List ℕ) (i : ℕ) → i < length l → indexOf x (take i l) ≡ i → getD l i 0 ≢ x → indexOf x (take (suc i) l) ≡ suc i
+    go [] i h p n = absurd (omega arith)
+    go (y ∷ l) zero h p n = rw (ne-eqb y x n)
+    go (y ∷ l) (suc i) h p n =
+        let q = passes x y i (take i l) p in
+        rw (q .0) (ap suc (go l i (le-of-suc-le-suc h) (q .1) n))

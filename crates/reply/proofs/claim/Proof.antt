@@ -1,0 +1,87 @@
+-- `reply::claim` meets its contract.
+use mathlib.Core.Path.{_≡_, sym, ap, _∙_}
+use mathlib.Core.Bool.{true}
+use Prim.Native.Nat.{ℕ, _+_, _<_}
+use native.Mathlib.Omega.{arith}
+use lib.ListN.{length}
+use denote.Ref.{now}
+use borrow.Author.Needs.{needs}
+use borrow.Author.Tests.{not-true, not-false}
+use Rattle.model.specs.declared.Answer.{Answer}
+use Rattle.model.specs.Basics.{indexOf}
+use Rattle.model.specs.Record.{consistent, written}
+use Rattle.model.proofs.Records.{parts, refusedWith, answered-16, answered-by}
+use Rattle.model.proofs.Replies.{claim-none, claim-refused, claim-again, claim-good}
+use Rattle.reply.proofs.claim.Statement.{statement}
+use Rattle.reply.proofs.claim.Tie as tie
+
+fits : (c : tie.Else1) → let s = c .before .before .before .before in consistent (s .args .ledger) (now (s .args .orders)) ≡ true
+fits c = sym (c .before .before .examine .ensures .fits) ∙ not-false _ (c .if1 .left)
+
+returns : tie.Need-returns
+returns c = c .refused .ensures ∙ sym (answered-16 _ _ _ (sym (c .before .before .before .examine .ensures .fits) ∙ not-true _ (c .before .if1 .taken)))
+
+returns-2 : tie.Need-returns-2
+returns-2 c = c .refused2 .ensures ∙ sym (answered-by _ _ _ (fits (c .before .before)) ∙ claim-none _ _ _ _ (c .before .if2 .taken))
+
+place-requires : tie.Need-place-requires
+place-requires c κs = let e = c .before in (fits e, e .before .before .examine .ensures .count (not-false _ (e .if1 .left)))
+
+returns-3 : tie.Need-returns-3
+returns-3 c =
+    let e = c .before .before .before in
+    let p = c .before .before .place .ensures in
+    p
+    ∙ sym (answered-by _ _ _ (fits (e .before)) ∙ claim-refused _ _ _ _ (e .if2 .left) (λ z. c .if3 .taken (ap (λ (x : Answer). x .number) p ∙ z)))
+
+-- the order stands among the entries
+stands : (c : tie.Then4)
+    → let a = c .before .before .before .before .before .before .before .before .before .before .args in indexOf (a .order) (written (a .ledger) (now (a .orders))) < length (written (a .ledger) (now (a .orders)))
+stands c =
+    let e = c .before .before .before .before .before .before in
+    e .before .before .examine .ensures .some (not-false _ (e .if1 .left)) (c .if4 .taken)
+
+find-requires : tie.Need-find-requires
+find-requires c κs =
+    let p = parts _ _ (fits (c .before .before .before .before .before .before)) in
+    omega (arith, p .entries, p .room)
+
+add-refused : tie.Need-add-refused
+add-refused c =
+    let p = parts _ _ (fits (c .before .before .before .before .before .before .before)) in
+    omega (arith, c .find .ensures, stands (c .before), p .length-written, p .entries, p .small)
+
+returns-4 : tie.Need-returns-4
+returns-4 c =
+    let t = c .before .before in
+    let e = t .before .before .before .before .before in
+    let p = t .before .before .before .before .place .ensures in
+    c .refused3 .ensures
+    ∙ ap (λ (n : ℕ). refusedWith 20 (n + 1)) (c .before .find .ensures)
+    ∙ sym (answered-by _ _ _ (fits (e .before)) ∙ claim-again _ _ _ _ (e .if2 .left) (ap (λ (x : Answer). x .number) (sym p) ∙ t .before .before .if3 .left) (stands t))
+
+returns-5 : tie.Need-returns-5
+returns-5 c =
+    let e = c .before .before .before .before .before in
+    let x = e .before .before .before .examine .ensures in
+    let p = c .before .before .before .before .place .ensures in
+    p
+    ∙ sym (answered-by _ _ _ (fits (e .before))
+    ∙ claim-good _ _ _ _ (e .if2 .left) (ap (λ (x : Answer). x .number) (sym p) ∙ c .before .before .if3 .left) (x .none (not-false _ (e .before .if1 .left)) (omega (arith, c .if4 .left))))
+
+pub claim-spec : {M : Type 1} → statement M
+claim-spec =
+    tie.close
+    (tie.spec
+    (λ c κs. search needs)
+    (λ c κs. search needs)
+    returns
+    (λ c κs. search needs)
+    returns-2
+    place-requires
+    returns-3
+    find-requires
+    add-refused
+    (λ c κs. search needs)
+    returns-4
+    returns-5)

@@ -1,0 +1,25 @@
+-- `reply::void` meets its contract.
+use mathlib.Core.Path.{_≡_, sym, _∙_}
+use mathlib.Core.Bool.{true}
+use denote.Ref.{now}
+use borrow.Author.Needs.{needs}
+use borrow.Author.Tests.{not-true, not-false}
+use Rattle.model.specs.Record.{consistent}
+use Rattle.model.proofs.Records.{answered-16, answered-by}
+use Rattle.reply.proofs.void.Statement.{statement}
+use Rattle.reply.proofs.void.Tie as tie
+
+fits : (c : tie.Else1) → let s = c .before .before .before .before in consistent (s .args .ledger) (now (s .args .orders)) ≡ true
+fits c = sym (c .before .before .examine .ensures .fits) ∙ not-false _ (c .if1 .left)
+
+returns : tie.Need-returns
+returns c = c .refused .ensures ∙ sym (answered-16 _ _ _ (sym (c .before .before .before .examine .ensures .fits) ∙ not-true _ (c .before .if1 .taken)))
+
+place-requires : tie.Need-place-requires
+place-requires c κs = (fits c, c .before .before .examine .ensures .count (not-false _ (c .if1 .left)))
+
+returns-2 : tie.Need-returns-2
+returns-2 c = c .place .ensures ∙ sym (answered-by _ _ _ (fits (c .before)))
+
+pub void-spec : {M : Type 1} → statement M
+void-spec = tie.close (tie.spec (λ c κs. search needs) (λ c κs. search needs) returns place-requires returns-2)

@@ -1,0 +1,126 @@
+// What a peek, a claim and a void answer (document 01, "Refusals", places 'register calls' to 'look'). Nothing is written here: crate `ledger` has
+// the calls.
+use model::Answer;
+use model::Ledger;
+ghost use mathlib.Core.Path.{_≡_};
+ghost use mathlib.Core.Bool.{true};
+ghost use Prim.Native.Nat.{_+_, _≤_, _<_};
+ghost use lib.ListN.{length, take};
+ghost use Rattle.model.specs.Basics.{indexOf};
+ghost use Rattle.model.specs.Model.{Call, blank, answer};
+ghost use Rattle.model.specs.Record.{compositionsOf, written, consistent, answered};
+
+fn refused(number: u32, detail: u64) -> Answer
+    ensures { λ r. ⌜ r ≡ record { number = number; detail = detail; serial = 0; composition = blank } ⌝ }
+{
+    Answer {
+        number,
+        detail,
+        serial: 0,
+        composition: [0; 24],
+    }
+}
+
+// The next serial with its composition, which the record holds.
+fn accepted(ledger: Ledger) -> Answer
+    requires { ⌜ ledger .entries < 1000000 ⌝ }
+    ensures { λ r. ⌜ r ≡ record { number = 0; detail = 0; serial = ledger .entries + 1; composition = ledger .next } ⌝ }
+{
+    let composition = ledger.next;
+    Answer {
+        number: 0,
+        detail: 0,
+        serial: ledger.entries + 1,
+        composition,
+    }
+}
+
+// document 01: look. The next serial with its composition; nothing is reserved.
+pub fn peek(ledger: Ledger, orders: &[u32]) -> Answer
+    ensures { λ r. ⌜ r ≡ answered ledger (now (orders .entry)) Call.peek ⌝ }
+{
+    let seen = integrity::examine(ledger, orders, 0);
+    if !seen.fits {
+        return refused(16, 0);
+    }
+    if seen.count <= ledger.entries {
+        return refused(21, 0);
+    }
+    accepted(ledger)
+}
+
+fn wide(x: u32) -> u64
+    ensures { λ r. ⌜ r ≡ x ⌝ }
+{
+    x as u64
+}
+
+// The checks of a serial, 6, 18 and 19, which are those of a void.
+fn place(ledger: Ledger, orders: &[u32], count: u64, serial: u64) -> Answer
+    requires { ⌜ (consistent ledger (now orders) ≡ true) × (count ≡ length (compositionsOf (ledger .bounds))) ⌝ }
+    ensures { λ r. ⌜ r ≡ answer (compositionsOf (ledger .bounds)) (written ledger (now (orders .entry))) (Call.void serial) ⌝ }
+{
+    if serial == 0 {
+        return refused(6, 0);
+    }
+    if count < serial {
+        return refused(6, 0);
+    }
+    let entries = ledger.entries;
+    if serial <= entries {
+        let at = (serial - 1) as usize;
+        return refused(18, wide(orders[at]));
+    }
+    if entries + 1 < serial {
+        return refused(19, entries + 1);
+    }
+    accepted(ledger)
+}
+
+// The lowest place among the first n entries at which the order stands; n where it does not.
+fn find(orders: &[u32], n: usize, order: u32) -> usize
+    requires { ⌜ n ≤ length (now orders) ⌝ }
+    ensures { λ r. ⌜ r ≡ indexOf order (take n (now (orders .entry))) ⌝ }
+{
+    let mut i: usize = 0;
+    while i < n {
+        if orders[i] == order {
+            return i;
+        }
+        i += 1;
+    }
+    n
+}
+
+// document 01: take. The places in their order: 16, 17, those of the serial, 20.
+pub fn claim(ledger: Ledger, orders: &[u32], serial: u64, order: u32) -> Answer
+    ensures { λ r. ⌜ r ≡ answered ledger (now (orders .entry)) (Call.claim serial order) ⌝ }
+{
+    let seen = integrity::examine(ledger, orders, order);
+    if !seen.fits {
+        return refused(16, 0);
+    }
+    if order == 0 {
+        return refused(17, 0);
+    }
+    let placed = place(ledger, orders, seen.count, serial);
+    if placed.number != 0 {
+        return placed;
+    }
+    if 0 < seen.hits {
+        let at = find(orders, ledger.entries as usize, order);
+        return refused(20, at as u64 + 1);
+    }
+    placed
+}
+
+// document 01: spoil. 16, and those of the serial.
+pub fn void(ledger: Ledger, orders: &[u32], serial: u64) -> Answer
+    ensures { λ r. ⌜ r ≡ answered ledger (now (orders .entry)) (Call.void serial) ⌝ }
+{
+    let seen = integrity::examine(ledger, orders, 0);
+    if !seen.fits {
+        return refused(16, 0);
+    }
+    place(ledger, orders, seen.count, serial)
+}
