@@ -82,7 +82,7 @@ int main(void) {
     orders[0] = orders[1] = 5;
     peeked = huz_claim_in(&lent, orders, 2, 1, 1007);
     expect(peeked.number == 0 && peeked.serial == 1 && is(peeked.composition, 1, 0, 0) && orders[0] == 1007 && lent.sold == 1, "huz_claim_in");
-    before = lent;
+    memcpy(&before, &lent, sizeof lent);
     peeked = huz_claim_in(&lent, orders, 2, 1, 1014);
     expect(peeked.number == 18 && peeked.detail == 1007 && memcmp(&before, &lent, sizeof lent) == 0 && orders[0] == 1007 && orders[1] == 5, "a second huz_claim_in");
     peeked = huz_void_in(&lent, orders, 2, 2);

@@ -1,6 +1,5 @@
--- `engine::huz_void_in` meets its contract: a walk of its MIR, by hand. Both borrows go to `lent::void_in` for good, at their own lifetimes.
--- All that the proof knows of `lent::void_in` is that it meets its contract, which is this one.
--- Assumes nothing.
+-- `engine::huz_void_in` keeps its promise, shown statement by statement of its MIR: the record and the column are both given to `lent::void_in`
+-- for good, whose contract is the same.
 use mathlib.Core.Path.{_≡_, refl}
 use Prim.Native.Nat.{ℕ, _<_, _^_}
 use mathlib.Core.List.{[], _∷_, List}

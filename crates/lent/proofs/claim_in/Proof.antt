@@ -1,7 +1,6 @@
--- `lent::claim_in` meets its contract: a walk of its MIR, by hand. The record's borrow is opened and the record is copied; the column's borrow goes to
--- `ledger::claim` for good, at its own lifetime; the record that comes back is stored, and the record's borrow is closed at it.
--- All that the proof knows of `ledger::claim` is that it meets its contract.
--- Assumes nothing.
+-- `lent::claim_in` keeps its promise, shown statement by statement of its MIR, since the prover's own walk has no `&mut` of a struct. The lent record is
+-- opened and copied; the column is given to `ledger::claim` for good; the record that comes back is stored, and the loan is closed at it. Of
+-- `ledger::claim` only the contract is used. Each comment in brackets is the context at that place, from position 0.
 use mathlib.Core.Path.{_≡_, refl, ap}
 use Prim.Native.Nat.{ℕ, _<_, _^_}
 use mathlib.Core.List.{[], _∷_, List}
