@@ -4,7 +4,7 @@ use mathlib.Core.List.{List}
 use Prim.Native.Nat.{ℕ, suc, _+_, _-_, _≤_, _<_}
 use native.Mathlib.Numerals.{add-one}
 use native.Mathlib.Omega.{arith}
-use lib.ListN.{length, replicate}
+use lib.ListN.{length, take, replicate}
 use Rattle.walsh.specs.Order.{Composition, count, countOf}
 use Rattle.walsh.specs.Serial.{serialOf, compositionOf}
 use Rattle.walsh.specs.Rank.{rankOf}
@@ -14,15 +14,37 @@ use Rattle.bounds.specs.Edition.{whole, editionChecks, shapeChecks, cellsOf}
 use Rattle.bounds.specs.Places.{compositionChecks}
 use Rattle.bounds.specs.declared.Refusal.{Refusal}
 use Rattle.bounds.proofs.Answers.{edition-refused}
+use Rattle.bounds.proofs.Cells.{prefix-length}
 use Rattle.bounds.proofs.Compositions.{composition-passes}
+use Rattle.band.specs.Band.{bandSize}
+use Rattle.band.specs.declared.Surveyed.{Surveyed}
+use Rattle.band.specs.Band.{surveyOf}
+use Rattle.band.proofs.Answers.{surveyed-accepted}
 use Rattle.band.proofs.Nonempty.{count-some}
+use Rattle.band.proofs.Rows.{size-small}
+use Rattle.bounds.proofs.Editions.{shapely}
 use Rattle.bounds.proofs.Refusals.{refusal-first, refusal-later, by-refusal, by-acceptance}
 use Rattle.rank.specs.Rank.{rankChecks}
 use Rattle.rank.specs.Locate.{clamp}
-use Rattle.rank.specs.Find.{foundBy, foundOf}
+use Rattle.rank.specs.Find.{Sized, foundBy, foundOf}
 use Rattle.rank.specs.declared.walk.find.Found.{Found}
 use Rattle.rank.specs.declared.walk.find.Task.{Task}
 use Rattle.rank.specs.declared.walk.find.Task.the-variants.{Rank, Unrank}
+
+-- ---- the table
+
+-- what a survey that refuses nothing says
+pub sized : (ms : List ℕ) (r : ℕ) (s : Surveyed) → s ≡ surveyOf ms r → s .number ≤ 0 → Sized ms r (s .all) (s .size)
+sized ms r s e l = let k = surveyed-accepted ms r s e (omega arith) in record { accepted = k .0; all-is = k .1; size-is = k .2 }
+
+-- no table is longer
+pub sized-most : {ms : List ℕ} {r all size : ℕ} → Sized ms r all size → size ≤ 6145
+sized-most {ms} {r} z = let h = shapely ms r (z .accepted) in rw (z .size-is) (size-small ms r (h .reached) (h .small) (h .few))
+
+-- the first cells of an array of m are those of the table
+pub lent-cells : {ms : List ℕ} {r all size : ℕ} (m : ℕ) → Sized ms r all size → size ≤ m
+    → (firstRefusal (shapeChecks ms r) .number ≡ 0) × (all ≡ whole ms) × (length (take {A = ℕ} size (replicate m 0)) ≡ bandSize ms r)
+lent-cells {size} m z l = (z .accepted, z .all-is, prefix-length size m l ∙ z .size-is)
 
 -- ---- the answer
 

@@ -8,8 +8,9 @@ use lib.ListN.{replicate}
 use Rattle.walsh.specs.Order.{countOf}
 use Rattle.walsh.specs.Serial.{serialOf}
 use Rattle.bounds.specs.Refusal.{firstRefusal}
-use Rattle.bounds.specs.Edition.{editionChecks}
+use Rattle.bounds.specs.Edition.{whole, shapeChecks, editionChecks}
 use Rattle.bounds.specs.declared.Refusal.{Refusal}
+use Rattle.band.specs.Band.{bandSize}
 use Rattle.band.specs.declared.Row.{Row}
 use Rattle.rank.specs.Walk.{Filled}
 use Rattle.rank.specs.Rank.{rankChecks}
@@ -23,6 +24,12 @@ pub record Ready (ms : List ℕ) (r : ℕ) (last : Row) (cells : List ℕ) (n : 
   pub accepted : firstRefusal (editionChecks ms r) .number ≡ 0
   pub filled : Filled ms r last cells
   pub count : n ≡ countOf ms r
+
+-- a shape that is accepted: the sum of its bounds, and the size of its table
+pub record Sized (ms : List ℕ) (r all size : ℕ) : Type 0 where
+  pub accepted : firstRefusal (shapeChecks ms r) .number ≡ 0
+  pub all-is : all ≡ whole ms
+  pub size-is : size ≡ bandSize ms r
 
 abbrev pub foundBy : Refusal → ℕ → ℕ → List ℕ → Found
 foundBy v n s g =

@@ -30,7 +30,7 @@ pub struct Located {
 pub fn rank(upper: &[u8], total: u32, composition: &[u8]) -> Ranked
     ensures { λ r. ⌜ answerOf r ≡ rankAnswer (now (upper .entry)) total (now (composition .entry)) ⌝ }
 {
-    let f = find::find(upper, total, find::Task::Rank, composition);
+    let f = find::serial_of(upper, total, composition);
     if 0 < f.number {
         return Ranked::Refused(f.number, f.detail);
     }
@@ -59,7 +59,7 @@ fn put(cells: &[u8; 24], out: &mut [u8])
 pub fn unrank(upper: &[u8], total: u32, serial: u64, out: &mut [u8]) -> Refusal
     ensures { λ r. ⌜ (r, now (out .exit)) ≡ unrankCall (now (upper .entry)) total serial (now (out .entry)) ⌝ }
 {
-    let f = find::find(upper, total, find::Task::Unrank(serial), upper);
+    let f = find::composition_of(upper, total, serial);
     if 0 < f.number {
         return refusal(f.number, f.detail);
     }
@@ -81,7 +81,7 @@ pub fn unrank(upper: &[u8], total: u32, serial: u64, out: &mut [u8]) -> Refusal
 pub fn locate(upper: &[u8], total: u32, serial: u64) -> Located
     ensures { λ r. ⌜ r ≡ locateOf (now (upper .entry)) total serial ⌝ }
 {
-    let f = find::find(upper, total, find::Task::Unrank(serial), upper);
+    let f = find::composition_of(upper, total, serial);
     let composition = f.composition;
     Located {
         number: f.number,

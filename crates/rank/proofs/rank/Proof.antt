@@ -10,5 +10,5 @@ rank-spec =
     tie.close
     (tie.spec
     (λ c κs. search needs)
-    (λ c. let f = c .before .before .find in ranked-refused _ _ _ (f .result) (f .ensures) (c .if1 .taken))
-    (λ c. let f = c .before .before .find in ranked-accepted _ _ _ (f .result) (f .ensures) (omega arith)))
+    (λ c. let f = c .before .before .serial-of in ranked-refused _ _ _ (f .result) (f .ensures) (c .if1 .taken))
+    (λ c. let f = c .before .before .serial-of in ranked-accepted _ _ _ (f .result) (f .ensures) (omega arith)))

@@ -14,20 +14,20 @@ use Rattle.rank.proofs.unrank.Tie as tie
 returns : tie.Need-returns
 returns c =
     let a = c .before .before .before .before .before .before .args in
-    let f = c .before .before .before .find in
+    let f = c .before .before .before .composition-of in
     let l = c .before .if1 .taken in
     edition-refused _ _ _ _ (f .result .number) (f .result .detail) l (c .refusal .ensures)
-    (entry-refused (now (a .upper)) (a .total) (a .serial) (now (a .upper)) (f .result) (f .ensures) l)
+    (entry-refused (now (a .upper)) (a .total) (a .serial) _ (f .result) (f .ensures) l)
 
 entry-at : (c : tie.Else1)
     → let a = c .before .before .before .before .before .args in
     let ms = now (a .upper) in
-    let f = c .before .before .find .result in
+    let f = c .before .before .composition-of .result in
     (firstRefusal (editionChecks ms (a .total)) .number ≡ 0) × (f .count ≡ countOf ms (a .total)) × (f .composition ≡ nearest ms (a .total) (a .serial))
 entry-at c =
     let a = c .before .before .before .before .before .args in
-    let f = c .before .before .find in
-    entry-accepted (now (a .upper)) (a .total) (a .serial) (now (a .upper)) (f .result) (f .ensures) (omega arith)
+    let f = c .before .before .composition-of in
+    entry-accepted (now (a .upper)) (a .total) (a .serial) _ (f .result) (f .ensures) (omega arith)
 
 returns-3 : tie.Need-returns-3
 returns-3 c = let k = entry-at (c .before .before .before .before) in serial-over _ _ _ _ (k .0) (c .before .before .before .if2 .left) (rw (k .1) at (c .before .if3 .taken)) (c .refusal3 .ensures)

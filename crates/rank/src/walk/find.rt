@@ -1,12 +1,13 @@
 // An entry of the order, found by its composition or by its serial, with a counting table of as many cells as it needs.
 ghost use mathlib.Core.Path.{_≡_};
 ghost use mathlib.Core.List.{[]};
+ghost use Prim.Native.Nat.{_≤_};
 ghost use lib.ListN.{length, replicate};
 ghost use Rattle.bounds.specs.Refusal.{firstRefusal};
 ghost use Rattle.bounds.specs.Edition.{whole, shapeChecks};
 ghost use Rattle.band.specs.Band.{bandSize};
 ghost use Rattle.rank.specs.Locate.{clamp};
-ghost use Rattle.rank.specs.Find.{Ready, foundOf};
+ghost use Rattle.rank.specs.Find.{Ready, Sized, foundOf};
 ghost use Rattle.rank.specs.declared.walk.find.Task.the-variants.{Rank, Unrank};
 use band::window::table;
 
@@ -137,32 +138,77 @@ fn find_in(
     }
 }
 
-// The entry, or the refusal. `given` is read where a composition is given.
-pub fn find(upper: &[u8], total: u32, task: Task, given: &[u8]) -> Found
+// `find_in` of a table that is not large: its cells are the first of an array that is not much longer, since all of it is cleared. The large arrays
+// stand in a function of their own, so that a call that needs a small one has a small frame.
+fn in_small(upper: &[u8], total: u32, all: usize, size: usize, task: Task, given: &[u8]) -> Found
+    requires { ⌜ Sized (now upper) total all size × (size ≤ 1024) ⌝ }
     ensures { λ r. ⌜ r ≡ foundOf task (now (upper .entry)) total (now (given .entry)) ⌝ }
 {
-    let s = band::survey(upper, total);
-    if 0 < s.number {
-        return nothing(s.number, s.detail);
-    }
-    let all = s.all;
-    let size = s.size;
     if size <= 64 {
         let mut cells = [0u64; 64];
+        return find_in(upper, total, all, &mut cells[..size], task, given);
+    }
+    if size <= 128 {
+        let mut cells = [0u64; 128];
         return find_in(upper, total, all, &mut cells[..size], task, given);
     }
     if size <= 256 {
         let mut cells = [0u64; 256];
         return find_in(upper, total, all, &mut cells[..size], task, given);
     }
-    if size <= 1024 {
-        let mut cells = [0u64; 1024];
+    if size <= 512 {
+        let mut cells = [0u64; 512];
+        return find_in(upper, total, all, &mut cells[..size], task, given);
+    }
+    let mut cells = [0u64; 1024];
+    find_in(upper, total, all, &mut cells[..size], task, given)
+}
+
+// `find_in` of a large table.
+fn in_large(upper: &[u8], total: u32, all: usize, size: usize, task: Task, given: &[u8]) -> Found
+    requires { ⌜ Sized (now upper) total all size ⌝ }
+    ensures { λ r. ⌜ r ≡ foundOf task (now (upper .entry)) total (now (given .entry)) ⌝ }
+{
+    if size <= 1536 {
+        let mut cells = [0u64; 1536];
         return find_in(upper, total, all, &mut cells[..size], task, given);
     }
     if size <= 2048 {
         let mut cells = [0u64; 2048];
         return find_in(upper, total, all, &mut cells[..size], task, given);
     }
+    if size <= 4096 {
+        let mut cells = [0u64; 4096];
+        return find_in(upper, total, all, &mut cells[..size], task, given);
+    }
     let mut cells = [0u64; 6145];
     find_in(upper, total, all, &mut cells[..size], task, given)
+}
+
+// The serial of a composition, or the refusal.
+pub fn serial_of(upper: &[u8], total: u32, composition: &[u8]) -> Found
+    ensures { λ r. ⌜ r ≡ foundOf Rank (now (upper .entry)) total (now (composition .entry)) ⌝ }
+{
+    let s = band::survey(upper, total);
+    if 0 < s.number {
+        return nothing(s.number, s.detail);
+    }
+    if s.size <= 1024 {
+        return in_small(upper, total, s.all, s.size, Task::Rank, composition);
+    }
+    in_large(upper, total, s.all, s.size, Task::Rank, composition)
+}
+
+// N and the composition of the serial nearest to `serial`, or the refusal. (No composition is given, so the bounds are lent for it.)
+pub fn composition_of(upper: &[u8], total: u32, serial: u64) -> Found
+    ensures { λ r. ⌜ r ≡ foundOf (Unrank serial) (now (upper .entry)) total [] ⌝ }
+{
+    let s = band::survey(upper, total);
+    if 0 < s.number {
+        return nothing(s.number, s.detail);
+    }
+    if s.size <= 1024 {
+        return in_small(upper, total, s.all, s.size, Task::Unrank(serial), upper);
+    }
+    in_large(upper, total, s.all, s.size, Task::Unrank(serial), upper)
 }
