@@ -138,8 +138,7 @@ fn find_in(
     }
 }
 
-// `find_in` of a table that is not large: its cells are the first of an array that is not much longer, since all of it is cleared. The large arrays
-// stand in a function of their own, so that a call that needs a small one has a small frame.
+// `find_in` of a table that is not large: its cells are the first of an array that is not much longer, since all of it is cleared.
 fn in_small(upper: &[u8], total: u32, all: usize, size: usize, task: Task, given: &[u8]) -> Found
     requires { ⌜ Sized (now upper) total all size × (size ≤ 1024) ⌝ }
     ensures { λ r. ⌜ r ≡ foundOf task (now (upper .entry)) total (now (given .entry)) ⌝ }
@@ -164,11 +163,17 @@ fn in_small(upper: &[u8], total: u32, all: usize, size: usize, task: Task, given
     find_in(upper, total, all, &mut cells[..size], task, given)
 }
 
-// `find_in` of a large table.
-fn in_large(upper: &[u8], total: u32, all: usize, size: usize, task: Task, given: &[u8]) -> Found
-    requires { ⌜ Sized (now upper) total all size ⌝ }
+// The same of any table, in larger arrays. It surveys anew, which costs little beside such a table and makes it a call of its own, so that the others
+// have small frames.
+fn in_large(upper: &[u8], total: u32, task: Task, given: &[u8]) -> Found
     ensures { λ r. ⌜ r ≡ foundOf task (now (upper .entry)) total (now (given .entry)) ⌝ }
 {
+    let s = band::survey(upper, total);
+    if 0 < s.number {
+        return nothing(s.number, s.detail);
+    }
+    let all = s.all;
+    let size = s.size;
     if size <= 1536 {
         let mut cells = [0u64; 1536];
         return find_in(upper, total, all, &mut cells[..size], task, given);
@@ -196,7 +201,7 @@ pub fn serial_of(upper: &[u8], total: u32, composition: &[u8]) -> Found
     if s.size <= 1024 {
         return in_small(upper, total, s.all, s.size, Task::Rank, composition);
     }
-    in_large(upper, total, s.all, s.size, Task::Rank, composition)
+    in_large(upper, total, Task::Rank, composition)
 }
 
 // N and the composition of the serial nearest to `serial`, or the refusal. (No composition is given, so the bounds are lent for it.)
@@ -210,5 +215,5 @@ pub fn composition_of(upper: &[u8], total: u32, serial: u64) -> Found
     if s.size <= 1024 {
         return in_small(upper, total, s.all, s.size, Task::Unrank(serial), upper);
     }
-    in_large(upper, total, s.all, s.size, Task::Unrank(serial), upper)
+    in_large(upper, total, Task::Unrank(serial), upper)
 }

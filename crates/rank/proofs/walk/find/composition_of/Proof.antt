@@ -27,5 +27,5 @@ composition-of-spec =
     returns
     (λ c κs. (sized-at (c .before .before), c .if2 .taken))
     (λ c. c .in-small .ensures ∙ found-any _ _ _ _ _)
-    (λ c κs. sized-at (c .before .before))
+    (λ c κs. search needs)
     (λ c. c .in-large .ensures ∙ found-any _ _ _ _ _))

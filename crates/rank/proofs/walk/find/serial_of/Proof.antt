@@ -27,5 +27,5 @@ serial-of-spec =
     returns
     (λ c κs. (sized-at (c .before .before), c .if2 .taken))
     (λ c. c .in-small .ensures)
-    (λ c κs. sized-at (c .before .before))
+    (λ c κs. search needs)
     (λ c. c .in-large .ensures))
