@@ -1,21 +1,14 @@
--- Copied bytes, and a composition in 24 cells.
+-- A composition in 24 cells.
 use mathlib.Core.Path.{_≡_, ap, _∙_}
-use mathlib.Core.List.{List, [], _∷_, _++_}
-use Prim.Native.Nat.{ℕ, _+_, _≤_, _<_}
-use native.Mathlib.Numerals.{add-one}
-use lib.ListN.{length, getD, take, drop, set, replicate}
-use lib.Seq.{take-suc, take-suc-set, take-at, drop-at}
+use mathlib.Core.List.{List, _++_}
+use Prim.Native.Nat.{ℕ, _≤_, _<_}
+use lib.ListN.{length, take, drop, replicate}
+use lib.Seq.{take-at, drop-at}
 use Rattle.walsh.specs.Order.{countOf}
 use Rattle.walsh.specs.Serial.{compositionOf}
 use Rattle.walsh.proofs.Serials.{composition-is}
 use Rattle.bounds.specs.Edition.{cellsOf}
 use Rattle.bounds.proofs.Cells.{in-cells}
-
--- one more byte is copied
-pub copy-next : (out from : List ℕ) (i : ℕ) → i < length out → i < length from → take i out ≡ take i from
-    → take (i + 1) (set out i (getD from i 0)) ≡ take (i + 1) from
-copy-next out from i h l e =
-    rw (add-one i, take-suc-set out i (getD from i 0) h, take-suc from i 0 l) (ap (λ (q : List ℕ). q ++ (getD from i 0 ∷ [])) e)
 
 -- the first n of 24 zeros replaced by g, and then by h
 pub replaced : (h g : List ℕ) (n : ℕ) → length g ≡ n → length h ≡ n → h ++ drop n (g ++ drop n (replicate 24 0)) ≡ cellsOf h

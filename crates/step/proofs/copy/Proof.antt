@@ -5,7 +5,7 @@ use native.Mathlib.Omega.{arith}
 use lib.ListN.{length, length-set, take}
 use lib.Seq.{take-all}
 use borrow.Author.Needs.{needs}
-use Rattle.step.proofs.Cells.{copy-next}
+use Rattle.bounds.proofs.Cells.{copy-next}
 use Rattle.step.proofs.copy.Statement.{statement}
 use Rattle.step.proofs.copy.Tie as tie
 
@@ -22,7 +22,7 @@ loop-again c =
     let from = start .args .from .now in (
       omega arith,
       simp length-set (l .inv .1),
-      copy-next (l .out) from (l .i) (omega (arith, start .pre, l .inv .1)) (omega arith) (l .inv .2),
+      copy-next from (l .out) (l .i) (omega (arith, start .pre, l .inv .1)) (omega arith) (l .inv .2),
     )
 
 returns : tie.Need-returns Inv-loop μ-loop

@@ -28,7 +28,7 @@ under e l = omega arith
 
 -- the table's length does not change
 length-at : (c : tie.At-loop Inv-loop μ-loop) → length (c .loop .cells) ≡ length (now (c .before .before .before .before .args .cells))
-length-at c = c .loop .inv .1 ∙ length-set (now (c .before .before .before .before .args .cells)) 0 1
+length-at c = c .loop .inv .1 ∙ length-set (now (c .before .before .before .before .args .cells)) _ _
 
 room-at : (c : tie.At-loop Inv-loop μ-loop)
     → let a = c .before .before .before .before .args in
