@@ -1,14 +1,15 @@
 // A list of calls on a newly opened ledger, as several workers make them in turn: the bounds and the total, the entries of the column, the number of
 // calls, and three numbers a call: which (0 peek, 1 claim, 2 void), the serial and the order. It is answered by a line for the opening (number,
 // detail), one a call (number, detail, serial, parts), and two for what is left: the record's counts, and the column.
-use crate::parts;
 use crate::read;
 use crate::show;
 ghost use mathlib.Core.Path.{_≡_};
-ghost use Prim.Native.Nat.{_≤_};
+ghost use Prim.Native.Nat.{_≤_, min};
 ghost use lib.ListN.{length};
 
-// What an entry of the column holds before the opening.
+// ---- room, and parts of it, whatever their lengths
+
+// What the column and the buffer for the numbers hold before the opening.
 const FILL: u32 = 7;
 
 fn words() -> [u32; 2048]
@@ -22,6 +23,67 @@ fn longs() -> [u64; 2048]
 {
     [0; 2048]
 }
+
+fn shortest(a: usize, b: usize, c: usize) -> usize
+    ensures { λ r. ⌜ r ≡ min a (min b c) ⌝ }
+{
+    walsh::lesser(a, walsh::lesser(b, c))
+}
+
+fn wide(x: u32) -> u64
+    ensures { λ r. ⌜ r ≡ x ⌝ }
+{
+    x as u64
+}
+
+// The first n entries, or all.
+fn part_32(s: &[u32], n: usize) -> &[u32] {
+    if s.len() < n {
+        return s;
+    }
+    &s[..n]
+}
+
+fn part_64(s: &[u64], n: usize) -> &[u64] {
+    if s.len() < n {
+        return s;
+    }
+    &s[..n]
+}
+
+// The same, to be written.
+fn lent_32(s: &mut [u32], n: u64) -> &mut [u32] {
+    if (s.len() as u64) < n {
+        return s;
+    }
+    let size = n as usize;
+    &mut s[..size]
+}
+
+fn lent_64(s: &mut [u64], n: u64) -> &mut [u64] {
+    if (s.len() as u64) < n {
+        return s;
+    }
+    let size = n as usize;
+    &mut s[..size]
+}
+
+// How many cells the compositions of n answers have; none for more than there is room for.
+fn cells_of(n: u64) -> u64 {
+    if 2048 < n { 0 } else { n * 24 }
+}
+
+// The cells of composition i.
+fn cells(s: &[u8], i: usize) -> &[u8] {
+    if s.len() / 24 <= i {
+        return &s[..0];
+    }
+    let from = i * 24;
+    let end = from + 24;
+    &s[from..end]
+}
+
+// ---- a list of calls
 
 // The next calls, their number in front; as many as there is room for.
 fn script(
@@ -37,7 +99,7 @@ fn script(
     let mut at = n.at;
     let mut i: usize = 0;
     while (i as u64) < n.value {
-        if parts::shortest(calls.len(), serials.len(), orders.len()) <= i {
+        if shortest(calls.len(), serials.len(), orders.len()) <= i {
             return read::Listed { len: i, at };
         }
         let which = read::number(s, at);
@@ -55,11 +117,11 @@ fn script(
 // A line for each answer, with n parts of its composition.
 fn answers(numbers: &[u32], details: &[u64], given: &[u64], compositions: &[u8], n: usize) {
     let mut i: usize = 0;
-    while i < parts::shortest(numbers.len(), details.len(), given.len()) {
-        show::first(parts::wide(numbers[i]));
+    while i < shortest(numbers.len(), details.len(), given.len()) {
+        show::first(wide(numbers[i]));
         show::next(details[i]);
         show::next(given[i]);
-        show::bytes(read::part(parts::cells(compositions, i), n));
+        show::bytes(read::part(cells(compositions, i), n));
         show::end();
         i += 1;
     }
@@ -70,7 +132,7 @@ fn entries(column: &[u32]) {
     show::first(column.len() as u64);
     let mut i: usize = 0;
     while i < column.len() {
-        show::next(parts::wide(column[i]));
+        show::next(wide(column[i]));
         i += 1;
     }
     show::end();
@@ -84,11 +146,11 @@ fn replayed(upper: &[u8], total: u32, size: u64, calls: &[u8], serials: &[u64], 
     let mut given = longs();
     let mut compositions = io::large_buffer();
     let n = calls.len() as u64;
-    let lent = parts::lent_32(&mut column, size);
-    let ns = parts::lent_32(&mut numbers, n);
-    let ds = parts::lent_64(&mut details, n);
-    let gs = parts::lent_64(&mut given, n);
-    let cs = read::lent(&mut compositions, parts::cells_of(n));
+    let lent = lent_32(&mut column, size);
+    let ns = lent_32(&mut numbers, n);
+    let ds = lent_64(&mut details, n);
+    let gs = lent_64(&mut given, n);
+    let cs = read::lent(&mut compositions, cells_of(n));
     let opened = replay::replay(upper, total, calls, serials, orders, lent, ns, ds, gs, cs);
     show::first(opened.number as u64);
     show::next(opened.detail);
@@ -117,8 +179,8 @@ pub fn list(s: &[u8], from: usize) -> usize
         e.total,
         size.value,
         read::part(&calls, k.len),
-        parts::part_64(&serials, k.len),
-        parts::part_32(&orders, k.len),
+        part_64(&serials, k.len),
+        part_32(&orders, k.len),
     );
     k.at
 }

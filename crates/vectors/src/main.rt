@@ -4,7 +4,6 @@
 ghost use Prim.Native.Nat.{_≤_};
 
 mod interleave;
-mod parts;
 mod read;
 mod show;
 
