@@ -4,11 +4,14 @@
     tests/vectors.py ORACLE [COUNT [SEED]]     ORACLE: a folder whose package `oracle` answers `python3 -m oracle vectors`
 
 Vectors come as lines `KIND after=0 NAME=VALUE.. -> NAME=VALUE..`; a list is numbers parted by commas, the empty list `-`. A lent part is filled with
-170 before each call, so that one left as it was shows. Cases with a lent part over 1,000 bytes are left out.
+170 before each call, so that one left as it was shows. Cases with a lent part over 1,000 bytes are left out. Lists of ledger calls come last
+(interleave.py).
 """
 import os
 import subprocess
 import sys
+
+import interleave
 
 HERE = os.path.dirname(os.path.abspath(__file__))
 CRATE = os.path.join(HERE, "..", "crates", "vectors")
@@ -100,7 +103,7 @@ def table_1():
 
 def main():
     oracle = os.path.abspath(sys.argv[1])
-    count = int(sys.argv[2]) if len(sys.argv) > 2 else 60
+    count = int(sys.argv[2]) if len(sys.argv) > 2 else 100
     seed = int(sys.argv[3]) if len(sys.argv) > 3 else 7
     cases = list(counts(oracle)) + list(table_1())
     for kind in ("count", "rank", "unrank", "step", "tray", "mix-to-order", "order-to-mix", "table"):
@@ -108,10 +111,12 @@ def main():
             found = case(*parse(line))
             if found:
                 cases.append(found)
+    from oracle import register
+    cases = [(command, [answer]) for command, answer in cases] + list(interleave.lists(register))
     with open(os.path.join(CRATE, "stdin"), "w", encoding="ascii") as f:
         f.writelines(command + "\n" for command, _ in cases)
     with open(os.path.join(CRATE, "stdout"), "w", encoding="ascii") as f:
-        f.writelines(" ".join(str(v) for v in answer) + "\n" for _, answer in cases)
+        f.writelines(" ".join(str(v) for v in line) + "\n" for _, lines in cases for line in lines)
     print(len(cases), "vectors,", os.path.getsize(os.path.join(CRATE, "stdin")), "bytes of commands")
 
 

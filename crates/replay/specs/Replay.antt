@@ -78,11 +78,13 @@ replayChecks ms r x b = openingChecks ms r (length (b .column)) ++ (check 13 (no
 
 -- ---- the promise: with b lent, o is answered and b′ left
 
--- what is seen is the run of the list, with all that is said of the list as a whole
+-- What is seen is the run of the list, with all that is said of the list as a whole. The buffers have exactly the entries of the answers, so the run
+-- says all that stands in them; what the column holds besides the entries is in `Whole .column`.
 pub record Replayed (ms : List ℕ) (r : ℕ) (cs : List Call) (b b′ : Buffers) (l : Ledger) : Type 0 where
   pub run : seen cs l b′ ≡ ran ms r (b .column) cs
   pub whole : Whole ms r (b .column) cs (seen cs l b′) (ran ms r (b .column) (secondList (seen cs l b′)))
 
+-- "A refusal answers its number and a detail [..] and changes no lent byte"; "a refused opening, a record all zeros", also where the lengths do not fit
 pub record Replays (ms : List ℕ) (r : ℕ) (x : Script) (b b′ : Buffers) (o : Opened) : Type 0 where
   pub number : o .number ≡ firstRefusal (replayChecks ms r x b) .number
   pub detail : o .detail ≡ firstRefusal (replayChecks ms r x b) .detail

@@ -1,7 +1,9 @@
 // Runs vectors from outside through the library. Standard input has a command a line, a letter and numbers (a list has its length in front); each is
-// answered by a line of numbers. tests/vectors.py writes the commands and the expected answers from an independent implementation.
+// answered by a line of numbers, a list of ledger calls by several. tests/vectors.py writes the commands and the expected answers from an independent
+// implementation.
 ghost use Prim.Native.Nat.{_≤_};
 
+mod interleave;
 mod read;
 mod show;
 
@@ -165,6 +167,7 @@ fn command(s: &[u8], letter: u8, from: usize) -> usize
         b'b' => batch(s, from),
         b'o' => permutation(s, from),
         b'i' => inversions(s, from),
+        b'l' => interleave::list(s, from),
         _ => from,
     }
 }

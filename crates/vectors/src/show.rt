@@ -5,7 +5,7 @@ pub fn first(n: u64) {
     io::print_decimal(STDOUT_FILENO, n);
 }
 
-fn next(n: u64) {
+pub fn next(n: u64) {
     io::write_all(STDOUT_FILENO, b" ");
     io::print_decimal(STDOUT_FILENO, n);
 }
@@ -23,7 +23,7 @@ pub fn three(number: u32, detail: u64, value: u64) {
 }
 
 // Each byte of a list.
-fn bytes(list: &[u8]) {
+pub fn bytes(list: &[u8]) {
     let mut i = 0;
     while i < list.len() {
         next(walsh::wide(list[i]) as u64);
