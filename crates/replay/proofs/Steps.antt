@@ -34,7 +34,8 @@ did r col c t col′ e =
     }
 
 -- a peek leaves all as it was
-pub calling-peek : (r : Ledger) (col : List ℕ) (a : Answer) → a ≡ answered r col Call.peek → _≡_ {A = Claimed × List ℕ} (record { answer = a; ledger = r }, col) (calling r col Call.peek)
+pub calling-peek : (r : Ledger) (col : List ℕ) (a : Answer) → a ≡ answered r col Call.peek
+    → _≡_ {A = Claimed × List ℕ} (record { answer = a; ledger = r }, col) (calling r col Call.peek)
 unfolding calling recordAfter columnAfter
 calling-peek r col a e = on-test (accepted (answered r col Call.peek)) (λ t. rw (e, t)) (λ t. rw (e, t))
 
@@ -117,7 +118,8 @@ onward r x b b′ b″ l i t fit h w g k p =
     let n = fit .count in
     let q : length (take i cs) ≡ i = length-take-le i cs (omega arith) in
     let more : take (i + 1) cs ≡ take i cs ++ (c ∷ []) = rw (add-one i) (take-suc cs i peek (omega arith)) in
-    let p′ : Put (t .answer) (length (take i cs)) (b′ .numbers) (b″ .numbers) (b′ .details) (b″ .details) (b′ .given) (b″ .given) (b′ .compositions) (b″ .compositions) = rw q p in
+    let p′ : Put (t .answer) (length (take i cs)) (b′ .numbers) (b″ .numbers) (b′ .details) (b″ .details) (b′ .given) (b″ .given)
+    (b′ .compositions) (b″ .compositions) = rw q p in
     record {
       at-most = omega arith;
       so-far =
@@ -130,6 +132,7 @@ onward r x b b′ b″ l i t fit h w g k p =
       for-given = ap length (p .serial) ∙ simp length-set (w .for-given);
       for-compositions =
           ap length (p .composition)
-          ∙ length-paste (b′ .compositions) (i * 24) (t .answer .composition) 24 (omega (arith, w .for-compositions, fit .for-compositions)) (omega (arith, p .cells))
+          ∙ length-paste (b′ .compositions) (i * 24) (t .answer .composition) 24 (omega (arith, w .for-compositions, fit .for-compositions))
+          (omega (arith, p .cells))
           ∙ w .for-compositions;
     }
