@@ -100,7 +100,8 @@ module _ (r : Ledger) (col : List ℕ) (x : ℕ) where
 
       pub other-sold : r .entries ≤ length col → r .sold ≢ r .entries - z → Sees r col x s
       other-sold l n =
-          apart (fails r col 4 (ne-eqb (r .sold) (nonzeros (written r col)) (λ e. n (e ∙ sold-of r col l ∙ ap (λ (k : ℕ). r .entries - k) (sym (found .zeros-are))))))
+          apart (fails r col 4
+          (ne-eqb (r .sold) (nonzeros (written r col)) (λ e. n (e ∙ sold-of r col l ∙ ap (λ (k : ℕ). r .entries - k) (sym (found .zeros-are))))))
 
     pub no-spare : same (r .bounds .upper) (cellsOf (upperOf (r .bounds))) ≡ false → Sees r col x s
     no-spare f = apart (fails r col 7 f)

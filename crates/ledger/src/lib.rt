@@ -72,14 +72,7 @@ pub fn open(upper: &[u8], total: u32, orders: &[u32]) -> Opened
     }
 }
 
-// ---- the calls
-
-// document 01: look. The next serial with its composition; nothing is reserved.
-pub fn peek(ledger: Ledger, orders: &[u32]) -> Answer
-    ensures { λ r. ⌜ r ≡ answered ledger (now (orders .entry)) Call.peek ⌝ }
-{
-    reply::peek(ledger, orders)
-}
+// ---- what an accepted claim or void writes
 
 // The composition after the record's, by one step; the last stays.
 fn following(ledger: Ledger) -> [u8; 24]
@@ -123,6 +116,15 @@ fn enter(
         answer,
         ledger: after,
     }
+}
+
+// ---- the calls
+
+// document 01: look. The next serial with its composition; nothing is reserved.
+pub fn peek(ledger: Ledger, orders: &[u32]) -> Answer
+    ensures { λ r. ⌜ r ≡ answered ledger (now (orders .entry)) Call.peek ⌝ }
+{
+    reply::peek(ledger, orders)
 }
 
 // document 01: take. The serial for an order; a refused one changes neither the record nor the column.

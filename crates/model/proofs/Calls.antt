@@ -124,7 +124,8 @@ module _ (gs : List (List ℕ)) (l : List ℕ) where
       rw e6 (decided s o positive)
     where
       decided : (s o : ℕ) → 1 ≤ s
-          → (firstRefusal (check 18 (ltb s (next l)) (getD l (s - 1) 0) ∷ check 19 (ltb (next l) s) (next l) ∷ check 20 (ltb (indexOf o l) (length l)) (indexOf o l + 1) ∷ []) .number ≡ 18)
+          → (firstRefusal (check 18 (ltb s (next l)) (getD l (s - 1) 0) ∷ check 19 (ltb (next l) s) (next l)
+          ∷ check 20 (ltb (indexOf o l) (length l)) (indexOf o l + 1) ∷ []) .number ≡ 18)
           ↔ ((1 ≤ s) × (s < next l))
       decided s o h =
           let c = check 18 (ltb s (next l)) (getD l (s - 1) 0) in (

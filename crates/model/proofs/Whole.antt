@@ -76,7 +76,8 @@ claimed-once gs cs before rest s o a p n17 n6 =
       λ q. let b = mem-count 1 k q in w .1 (b .0, omega (arith, b .1, st .size)),
     )
 
-pub whole : (ms : List ℕ) (r : ℕ) (col : List ℕ) → Opens ms r col → (cs : List Call) → Whole ms r col cs (ran ms r col cs) (ran ms r col (secondList (ran ms r col cs)))
+pub whole : (ms : List ℕ) (r : ℕ) (col : List ℕ) → Opens ms r col → (cs : List Call)
+    → Whole ms r col cs (ran ms r col cs) (ran ms r col (secondList (ran ms r col cs)))
 unfolding opened
 whole ms r col o cs =
     let gs = compositions ms r in

@@ -2,13 +2,13 @@
 use mathlib.Core.Path.{_≡_, refl, sym, ap, _∙_, subst⁻¹}
 use mathlib.Core.Logic.{_≢_}
 use mathlib.Core.Bool.{true, false, not}
-use mathlib.Core.List.{List, [], _∷_, _++_, map}
+use mathlib.Core.List.{List, [], _∷_, map}
 use Prim.Native.Nat.{ℕ, _<_}
 use native.Mathlib.Omega.{arith}
 use lib.ListN.{length}
 use Rattle.bounds.specs.Refusal.{Check, check, refused, firstRefusal}
 use Rattle.bounds.specs.declared.Refusal.{Refusal}
-use Rattle.bounds.proofs.Refusals.{refusal-here, refusal-next, refusal-first, refusal-later, by-refusal, is-refused, is-accepted}
+use Rattle.bounds.proofs.Refusals.{refusal-here, refusal-first, refusal-later, by-refusal, is-refused, is-accepted}
 use Rattle.model.specs.Basics.{over, all}
 use Rattle.model.specs.Model.{Call}
 use Rattle.model.specs.Record.{openingChecks, opening, opened, blankLedger, Run, run}
@@ -26,7 +26,8 @@ observed r cs b b′ l w =
     let t = run r (b .column) cs .trace in
     let p : shown cs (b′ .numbers) (b′ .details) (b′ .given) (b′ .compositions) ≡ t =
     rw (w .numbers, w .details, w .given, w .compositions)
-    (ap (λ (c : List Call). shown c (over (b .numbers) (map (λ x. x .reply .number) t)) (over (b .details) (map (λ x. x .reply .detail) t)) (over (b .given) (map (λ x. x .reply .serial) t)) (over (b .compositions) (cellsIn t))) (sym (run-calls r (b .column) cs))
+    (ap (λ (c : List Call). shown c (over (b .numbers) (map (λ x. x .reply .number) t)) (over (b .details) (map (λ x. x .reply .detail) t))
+    (over (b .given) (map (λ x. x .reply .serial) t)) (over (b .compositions) (cellsIn t))) (sym (run-calls r (b .column) cs))
     ∙ read-back t _ _ _ _ (w .full)) in
     λ i. record { trace = p i; ledger = w .ledger i; column = w .column i }
 

@@ -111,7 +111,8 @@ onward r x b b′ b″ l i t fit h w g k p =
     let n = fit .count in
     let q : length (take i cs) ≡ i = length-take-le i cs (omega arith) in
     let more : take (i + 1) cs ≡ take i cs ++ (c ∷ []) = rw (add-one i) (take-suc cs i peek (omega arith)) in
-    let p′ : Put (t .answer) (length (take i cs)) (b′ .numbers) (b″ .numbers) (b′ .details) (b″ .details) (b′ .given) (b″ .given) (b′ .compositions) (b″ .compositions) = rw q p in
+    let p′ : Put (t .answer) (length (take i cs)) (b′ .numbers) (b″ .numbers) (b′ .details) (b″ .details) (b′ .given) (b″ .given)
+    (b′ .compositions) (b″ .compositions) = rw q p in
     record {
       at-most = omega arith;
       so-far =
@@ -124,6 +125,7 @@ onward r x b b′ b″ l i t fit h w g k p =
       for-given = ap length (p .serial) ∙ simp length-set (w .for-given);
       for-compositions =
           ap length (p .composition)
-          ∙ length-paste (b′ .compositions) (i * 24) (t .answer .composition) 24 (omega (arith, w .for-compositions, fit .for-compositions)) (omega (arith, p .cells))
+          ∙ length-paste (b′ .compositions) (i * 24) (t .answer .composition) 24 (omega (arith, w .for-compositions, fit .for-compositions))
+          (omega (arith, p .cells))
           ∙ w .for-compositions;
     }

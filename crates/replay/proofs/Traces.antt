@@ -36,7 +36,8 @@ snoc r col (x ∷ cs) c =
 -- ---- buffers
 
 -- one number for each call
-pub numbers-snoc : (d : List ℕ) (f : Event → ℕ) (t : List Event) (x : Event) → length t < length d → set (over d (map f t)) (length t) (f x) ≡ over d (map f (t ++ (x ∷ [])))
+pub numbers-snoc : (d : List ℕ) (f : Event → ℕ) (t : List Event) (x : Event) → length t < length d
+    → set (over d (map f t)) (length t) (f x) ≡ over d (map f (t ++ (x ∷ [])))
 numbers-snoc d f t x h =
     let e = length-map t f in
     let p : set (over d (map f t)) (length (map f t)) (f x) ≡ over d (map f t ++ (f x ∷ [])) = set-over d (map f t) (f x) (omega arith) in

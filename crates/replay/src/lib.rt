@@ -79,8 +79,20 @@ fn run(
     ensures { λ l.
         ⌜ Ran ledger
         (callsOf (record { calls = now (calls .entry); serials = now (serials .entry); orders = now (orders .entry) }))
-        (record { column = now (column .entry); numbers = now (numbers .entry); details = now (details .entry); given = now (given .entry); compositions = now (compositions .entry) })
-        (record { column = now (column .exit); numbers = now (numbers .exit); details = now (details .exit); given = now (given .exit); compositions = now (compositions .exit) })
+        (record {
+          column = now (column .entry);
+          numbers = now (numbers .entry);
+          details = now (details .entry);
+          given = now (given .entry);
+          compositions = now (compositions .entry);
+        })
+        (record {
+          column = now (column .exit);
+          numbers = now (numbers .exit);
+          details = now (details .exit);
+          given = now (given .exit);
+          compositions = now (compositions .exit);
+        })
         l ⌝ }
 {
     let mut l = ledger;
@@ -145,8 +157,20 @@ pub fn replay(
     ensures { λ r.
         ⌜ Replays (now (upper .entry)) total
         (record { calls = now (calls .entry); serials = now (serials .entry); orders = now (orders .entry) })
-        (record { column = now (column .entry); numbers = now (numbers .entry); details = now (details .entry); given = now (given .entry); compositions = now (compositions .entry) })
-        (record { column = now (column .exit); numbers = now (numbers .exit); details = now (details .exit); given = now (given .exit); compositions = now (compositions .exit) })
+        (record {
+          column = now (column .entry);
+          numbers = now (numbers .entry);
+          details = now (details .entry);
+          given = now (given .entry);
+          compositions = now (compositions .entry);
+        })
+        (record {
+          column = now (column .exit);
+          numbers = now (numbers .exit);
+          details = now (details .exit);
+          given = now (given .exit);
+          compositions = now (compositions .exit);
+        })
         r ⌝ }
 {
     let opened = ledger::open(upper, total, column);

@@ -37,19 +37,27 @@ within : (c : tie.Else4) → let a = c .before .before .before .before .before .
 within c = omega (arith, c .if4 .left, c .before .if3 .left)
 
 returns-6 : tie.Need-returns-6
-returns-6 c = other-sold _ _ _ (c .unseen6 .ensures) (c .before .before .before .before .before .before .before .scan .ensures) (within (c .before .before .before .before .before .before .before .before)) (c .before .if6 .taken)
+returns-6 c = other-sold _ _ _ (c .unseen6 .ensures) (c .before .before .before .before .before .before .before .scan .ensures) (within
+    (c .before .before .before .before .before .before .before .before)) (c .before .if6 .taken)
 
 returns-7 : tie.Need-returns-7
 returns-7 c =
-    other-next _ _ _ (c .unseen7 .ensures) (known (c .before .before .before .before .before .before .before .before .before .before .before .before .before .before .before)) (sym (c .before .before .equal .ensures) ∙ not-true _ (c .before .if7 .taken))
+    other-next _ _ _ (c .unseen7 .ensures) (known
+    (c .before .before .before .before .before .before .before .before .before .before .before .before .before .before .before)) (sym
+    (c .before .before .equal .ensures) ∙ not-true _ (c .before .if7 .taken))
 
 returns-8 : tie.Need-returns-8
 returns-8 c = no-spare _ _ _ (c .unseen8 .ensures) (sym (c .before .before .packed .ensures) ∙ not-true _ (c .before .if8 .taken))
 
 returns-9 : tie.Need-returns-9
 returns-9 c =
-    belongs _ _ _ (known (c .before .before .before .before .before .before .before .before .before .before .before .before .before .before .before .before .before)) (c .before .before .before .before .before .before .before .before .before .before .before .before .before .before .before .before .if2 .left) (c .before .before .before .before .before .before .before .before .before .before .before .before .before .before .before .if3 .left) (c .before .before .before .before .before .before .before .before .before .before .before .before .before .before .if4 .left) (c .before .before .before .before .before .before .before .before .before .before .before .before .before .scan .ensures) (c .before .before .before .before .before .before .before .before .before .before .if5 .left) (c .before .before .before .before .before .before .before .if6 .left)
-    (sym (c .before .before .before .before .equal .ensures) ∙ not-false _ (c .before .before .before .if7 .left)) (sym (c .before .packed .ensures) ∙ not-false _ (c .if8 .left))
+    let next = c .before .before .before in
+    let sold = next .before .before .before .before in
+    let voided = sold .before .before .before in
+    let inside = voided .before .before .before .before in
+    belongs _ _ _ (known (inside .before .before .before)) (inside .before .before .if2 .left) (inside .before .if3 .left) (inside .if4 .left)
+    (voided .before .before .before .scan .ensures) (voided .if5 .left) (sold .if6 .left)
+    (sym (next .before .equal .ensures) ∙ not-false _ (next .if7 .left)) (sym (c .before .packed .ensures) ∙ not-false _ (c .if8 .left))
 
 pub test-spec : {M : Type 1} → statement M
 test-spec =

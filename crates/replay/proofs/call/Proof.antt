@@ -9,7 +9,8 @@ use Rattle.replay.proofs.call.Tie as tie
 returns : tie.Need-returns
 returns c =
     let a = c .before .before .before .before .args in
-    rw (call-peek (a .which) (a .serial) (a .order) (c .before .before .if1 .taken)) (calling-peek (a .ledger) (now (a .column)) (c .peek .result) (c .peek .ensures))
+    rw (call-peek (a .which) (a .serial) (a .order) (c .before .before .if1 .taken))
+    (calling-peek (a .ledger) (now (a .column)) (c .peek .result) (c .peek .ensures))
 
 returns-2 : tie.Need-returns-2
 returns-2 c =

@@ -30,5 +30,7 @@ fits-spec =
     (λ c. no 2 (c .before .before .before) (ne-eqb _ _ (c .if3 .taken)))
     (λ c. no 3 (c .before .before .before .before) (ne-eqb _ _ (c .if4 .taken)))
     (λ c. no 4 (c .before .before .before .before .before) (ne-eqb _ _ (c .if5 .taken)))
-    (λ c. let a = c .before .before .before .before .before .before .args in no 5 (c .before .before .before .before .before .before) (ne-eqb (a .compositions) (a .calls * 24) (λ e. c .if6 .taken (omega arith))))
-    (λ c. fits-last _ _ _ _ _ _ _ (c .before .before .before .before .before .if1 .left) (c .before .before .before .before .if2 .left) (c .before .before .before .if3 .left) (c .before .before .if4 .left) (c .before .if5 .left) (c .if6 .left)))
+    (λ c. let a = c .before .before .before .before .before .before .args in
+    no 5 (c .before .before .before .before .before .before) (ne-eqb (a .compositions) (a .calls * 24) (λ e. c .if6 .taken (omega arith))))
+    (λ c. fits-last _ _ _ _ _ _ _ (c .before .before .before .before .before .if1 .left) (c .before .before .before .before .if2 .left)
+    (c .before .before .before .if3 .left) (c .before .before .if4 .left) (c .before .if5 .left) (c .if6 .left)))

@@ -23,27 +23,35 @@ lent s =
       compositions = now (s .args .compositions);
     }
 
-fits : (c : tie.Else2) → all (sizes (script (c .before .before .before .before .before .before .before .before .before .before .before .before .before .before .before)) (lent (c .before .before .before .before .before .before .before .before .before .before .before .before .before .before .before))) ≡ true
+abbrev entry : tie.Else2 → tie.Start
+entry c = c .before .before .before .before .before .before .before .before .before .before .before .before .before .before .before
+
+fits : (c : tie.Else2) → all (sizes (script (entry c)) (lent (entry c))) ≡ true
 fits c = sym (c .before .fits2 .ensures) ∙ not-false _ (c .if2 .left)
 
 returns : tie.Need-returns
 returns c =
     let s = c .before .before .before .before .before .before .before .before .before .before .before .before .before in
-    replay-unopened (now (s .args .upper)) (s .args .total) (script s) (lent s) (c .before .before .«open» .result) (c .before .before .«open» .ensures) (c .if1 .taken)
+    replay-unopened (now (s .args .upper)) (s .args .total) (script s) (lent s) (c .before .before .«open» .result) (c .before .before .«open» .ensures)
+    (c .if1 .taken)
 
 returns-2 : tie.Need-returns-2
 returns-2 c =
     let s = c .before .before .before .before .before .before .before .before .before .before .before .before .before .before .before .before in
     let e = c .before .before .before in
-    replay-unfit (now (s .args .upper)) (s .args .total) (script s) (lent s) (e .before .before .«open» .result) (e .before .before .«open» .ensures) (e .if1 .left)
+    replay-unfit (now (s .args .upper)) (s .args .total) (script s) (lent s) (e .before .before .«open» .result) (e .before .before .«open» .ensures)
+    (e .if1 .left)
     (sym (c .before .before .fits2 .ensures) ∙ not-true _ (c .before .if2 .taken)) _ (c .unopened .ensures)
 
 returns-3 : tie.Need-returns-3
 returns-3 c =
-    let s = c .before .before .before .before .before .before .before .before .before .before .before .before .before .before .before .before .before .before .before .before .before .before .before .before .before .before .before .before .before .before .before .before in
-    let e = c .before .before .before .before .before .before .before .before .before .before .before .before .before .before .before .before .before .before .before in
-    replay-done (now (s .args .upper)) (s .args .total) (script s) (lent s) (e .before .before .«open» .result) (e .before .before .«open» .ensures) (e .if1 .left)
-    _ _ (fits (c .before .before .before .before .before .before .before .before .before .before .before .before .before .before .before .before .before)) (c .before .before .before .before .before .before .before .before .before .before .run .ensures)
+    let after = c .before .before .before .before .before .before .before .before .before .before in
+    let e2 = after .before .before .before .before .before .before .before in
+    let e = e2 .before .before in
+    let s = e .before .before .before .before .before .before .before .before .before .before .before .before .before in
+    replay-done (now (s .args .upper)) (s .args .total) (script s) (lent s) (e .before .before .«open» .result) (e .before .before .«open» .ensures)
+    (e .if1 .left)
+    _ _ (fits e2) (after .run .ensures)
 
 pub replay-spec : {M : Type 1} → statement M
 replay-spec =

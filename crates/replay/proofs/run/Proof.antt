@@ -1,5 +1,5 @@
 -- `replay::run` meets its contract: the answers of the first i calls stand in the buffers.
-use mathlib.Core.Path.{_≡_, _∙_}
+use mathlib.Core.Path.{_≡_}
 use mathlib.Core.List.{List}
 use Prim.Native.Nat.{ℕ, _-_}
 use native.Mathlib.Omega.{arith}
@@ -39,22 +39,32 @@ fit s = fit-of (script s) (lent s) (s .pre)
 
 put-requires : tie.Need-put-requires Inv-loop μ-loop
 put-requires c κs =
-    let w = c .before .before .before .before .before .before .before .before .before .before .before .before .before .loop .inv in
-    let h = c .before .before .before .before .before .before .before .before .before .before .before .before .loop-test .taken in
-    let f = fit (c .before .before .before .before .before .before .before .before .before .before .before .before .before .before .before .before .before .before .before .before .before .before) in (
+    let test = c .before .before .before .before .before .before .before .before .before .before .before .before in
+    let w = test .before .loop .inv in
+    let h = test .loop-test .taken in
+    let f = fit (test .before .before .before .before .before .before .before .before .before .before) in (
       omega (arith, h, w .for-numbers, f .for-numbers),
       omega (arith, h, w .for-details, f .for-details),
       omega (arith, h, w .for-given, f .for-given),
       omega (arith, h, w .for-compositions, f .for-compositions),
     )
 
+add-i : tie.Need-add-i Inv-loop μ-loop
+add-i c =
+    let called = c .before .before .before .before .before .before .before .before .before .before .before .before .before .before .before .before .before in
+    let test = called .before .before .before .before .before in
+    omega (arith, test .loop-test .taken, test .before .before .before .before .before .before .before .before .before .before .good .1 .0 .0)
+
 loop-again : tie.Need-loop-again Inv-loop μ-loop
 loop-again c =
-    let s = c .before .before .before .before .before .before .before .before .before .before .before .before .before .before .before .before .before .before .before .before .before .before .before .before .before .before .before .before .before .before .before .before in
-    let at = c .before .before .before .before .before .before .before .before .before .before .before .before .before .before .before .before .before .before .before .before .before .before .before .loop in
-    let h = c .before .before .before .before .before .before .before .before .before .before .before .before .before .before .before .before .before .before .before .before .before .before .loop-test .taken in
-    let call = c .before .before .before .before .before .before .before .before .before .before .before .before .before .before .before .before .before .call in
-    let put = c .before .before .before .before .before .before .before .before .before .put in
+    let after = c .before .before .before .before .before .before .before .before .before in
+    let called = after .before .before .before .before .before .before .before .before in
+    let test = called .before .before .before .before .before in
+    let s = test .before .before .before .before .before .before .before .before .before .before in
+    let at = test .before .loop in
+    let h = test .loop-test .taken in
+    let call = called .call in
+    let put = after .put in
     onward (s .args .ledger) (script s) (lent s) (buffers (at .column) (at .numbers) (at .details) (at .given) (at .compositions))
     (buffers (call .last .1 .0) (put .last .1 .1 .0) (put .last .1 .1 .1 .0) (put .last .1 .1 .1 .1 .0) (put .last .1 .1 .1 .1 .1 .0))
     (at .l) (at .i) (call .result) (fit s) h (at .inv) (did _ _ _ _ _ (rw (fit s .call-at (at .i) h) (call .ensures))) (call .kept .1 .0) (put .ensures)
@@ -75,13 +85,33 @@ run-spec =
     μ-loop
     (λ c. let s = c .before .before .before .before .before .before .before .before in start (s .args .ledger) (callsOf (script s)) (lent s))
     (λ c. search needs)
-    (λ c. let s = c .before .before .before .before .before .before .before .before .before .before .before .before in omega (arith, c .before .before .loop-test .taken, fit s .for-serials, s .good .1 .1 .0 .1))
-    (λ c. omega (arith, c .before .before .before .loop-test .taken, fit (c .before .before .before .before .before .before .before .before .before .before .before .before .before) .for-serials))
-    (λ c. let s = c .before .before .before .before .before .before .before .before .before .before .before .before .before in omega (arith, c .before .before .before .loop-test .taken, fit s .for-orders, s .good .1 .1 .1 .0 .1))
-    (λ c. omega (arith, c .before .before .before .before .loop-test .taken, fit (c .before .before .before .before .before .before .before .before .before .before .before .before .before .before) .for-orders))
+    (λ c. let s = c .before .before .before .before .before .before .before .before .before .before .before .before in omega (
+      arith,
+      c .before .before .loop-test .taken,
+      fit s .for-serials,
+      s .good .1 .1 .0 .1,
+    ))
+    (λ c. omega (
+      arith,
+      c .before .before .before .loop-test .taken,
+      fit
+          (c .before .before .before .before .before .before .before .before .before .before .before .before .before) .for-serials,
+    ))
+    (λ c. let s = c .before .before .before .before .before .before .before .before .before .before .before .before .before in omega (
+      arith,
+      c .before .before .before .loop-test .taken,
+      fit s .for-orders,
+      s .good .1 .1 .1 .0 .1,
+    ))
+    (λ c. omega (
+      arith,
+      c .before .before .before .before .loop-test .taken,
+      fit
+          (c .before .before .before .before .before .before .before .before .before .before .before .before .before .before) .for-orders,
+    ))
     (λ c κs. search needs)
     put-requires
-    (λ c. omega (arith, c .before .before .before .before .before .before .before .before .before .before .before .before .before .before .before .before .before .before .before .before .before .before .loop-test .taken, c .before .before .before .before .before .before .before .before .before .before .before .before .before .before .before .before .before .before .before .before .before .before .before .before .before .before .before .before .before .before .before .before .good .1 .0 .0))
+    add-i
     (λ c. search needs)
     loop-again
     (λ c. c .before .loop .inv .for-column)

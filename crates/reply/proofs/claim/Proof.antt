@@ -36,7 +36,8 @@ returns-3 c =
 
 -- the order stands among the entries
 stands : (c : tie.Then4)
-    → let a = c .before .before .before .before .before .before .before .before .before .before .args in indexOf (a .order) (written (a .ledger) (now (a .orders))) < length (written (a .ledger) (now (a .orders)))
+    → let a = c .before .before .before .before .before .before .before .before .before .before .args in
+    indexOf (a .order) (written (a .ledger) (now (a .orders))) < length (written (a .ledger) (now (a .orders)))
 stands c =
     let e = c .before .before .before .before .before .before in
     e .before .before .examine .ensures .some (not-false _ (e .if1 .left)) (c .if4 .taken)
@@ -58,7 +59,8 @@ returns-4 c =
     let p = t .before .before .before .before .place .ensures in
     c .refused3 .ensures
     ∙ ap (λ (n : ℕ). refusedWith 20 (n + 1)) (c .before .find .ensures)
-    ∙ sym (answered-by _ _ _ (fits (e .before)) ∙ claim-again _ _ _ _ (e .if2 .left) (ap (λ (x : Answer). x .number) (sym p) ∙ t .before .before .if3 .left) (stands t))
+    ∙ sym (answered-by _ _ _ (fits (e .before))
+    ∙ claim-again _ _ _ _ (e .if2 .left) (ap (λ (x : Answer). x .number) (sym p) ∙ t .before .before .if3 .left) (stands t))
 
 returns-5 : tie.Need-returns-5
 returns-5 c =
@@ -67,7 +69,8 @@ returns-5 c =
     let p = c .before .before .before .before .place .ensures in
     p
     ∙ sym (answered-by _ _ _ (fits (e .before))
-    ∙ claim-good _ _ _ _ (e .if2 .left) (ap (λ (x : Answer). x .number) (sym p) ∙ c .before .before .if3 .left) (x .none (not-false _ (e .before .if1 .left)) (omega (arith, c .if4 .left))))
+    ∙ claim-good _ _ _ _ (e .if2 .left) (ap (λ (x : Answer). x .number) (sym p) ∙ c .before .before .if3 .left)
+    (x .none (not-false _ (e .before .if1 .left)) (omega (arith, c .if4 .left))))
 
 pub claim-spec : {M : Type 1} → statement M
 claim-spec =

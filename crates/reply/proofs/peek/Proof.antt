@@ -16,7 +16,8 @@ use Rattle.reply.proofs.peek.Tie as tie
 fits : (c : tie.Else1) → let s = c .before .before .before .before in consistent (s .args .ledger) (now (s .args .orders)) ≡ true
 fits c = sym (c .before .before .examine .ensures .fits) ∙ not-false _ (c .if1 .left)
 
-left : (c : tie.Else2) → let s = c .before .before .before .before .before .before .before in s .args .ledger .entries < length (compositionsOf (s .args .ledger .bounds))
+left : (c : tie.Else2) → let s = c .before .before .before .before .before .before .before in
+    s .args .ledger .entries < length (compositionsOf (s .args .ledger .bounds))
 left c =
     let e = c .before .before .before in
     omega (arith, c .if2 .left, e .before .before .examine .ensures .count (not-false _ (e .if1 .left)))

@@ -30,7 +30,9 @@ returns-3 : tie.Need-returns-3
 returns-3 c =
     let s = c .before .before .before .before .before .before .before in
     let t = c .before .before .before in
-    c .refused3 .ensures ∙ ap (refusedWith 18) (c .before .wide .ensures) ∙ sym (serial-below _ _ (s .pre .0) _ (omega (arith, t .before .before .if1 .left)) (t .if3 .taken))
+    c .refused3 .ensures
+    ∙ ap (refusedWith 18) (c .before .wide .ensures)
+    ∙ sym (serial-below _ _ (s .pre .0) _ (omega (arith, t .before .before .if1 .left)) (t .if3 .taken))
 
 returns-4 : tie.Need-returns-4
 returns-4 c =
@@ -42,7 +44,8 @@ returns-5 c =
     let s = c .before .before .before .before .before .before in
     let e = c .before in
     c .accepted .ensures
-    ∙ sym (serial-next _ _ (s .pre .0) _ (omega (arith, s .pre .1, e .before .before .if2 .left)) (omega (arith, e .before .if3 .left)) (omega (arith, e .if4 .left)))
+    ∙ sym (serial-next _ _ (s .pre .0) _ (omega (arith, s .pre .1, e .before .before .if2 .left))
+    (omega (arith, e .before .if3 .left)) (omega (arith, e .if4 .left)))
 
 accepted-requires : tie.Need-accepted-requires
 accepted-requires c κs =
