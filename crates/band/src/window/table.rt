@@ -38,7 +38,7 @@ fn fill_rows(upper: &[u8], total: usize, all: usize, cells: &mut [u64]) -> u64
     crate::cell(upper, total, n, row, cells, total)
 }
 
-fn uncounted(number: u32, detail: u64) -> Counted
+pub fn uncounted(number: u32, detail: u64) -> Counted
     ensures { λ r. ⌜ r ≡ record { number = number; detail = detail; count = 0 } ⌝ }
 {
     Counted {
@@ -49,7 +49,7 @@ fn uncounted(number: u32, detail: u64) -> Counted
 }
 
 // N, or 5 where it is over the limit.
-fn within_limit(n: u64) -> Counted
+pub fn within_limit(n: u64) -> Counted
     ensures { λ r. ⌜ r ≡ limited n ⌝ }
 {
     if MOST < n {
