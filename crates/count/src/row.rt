@@ -50,7 +50,7 @@ fn moved(w: u64, x: u64, y: u64) -> u64
     requires { ⌜ (x ≤ w) × (w < cap) × (y < cap) ⌝ }
     ensures { λ r. ⌜ r ≡ w - x + y ⌝ }
 {
-    std::num::wrapping_add_u64(w, std::num::wrapping_sub_u64(y, x))
+    if x <= y { w + (y - x) } else { w - (x - y) }
 }
 
 // The number for the sum `t` of the first `k` parts.
