@@ -1,20 +1,17 @@
 -- Laws of the window that moves down a row of the band.
 use mathlib.Core.Path.{_≡_}
 use mathlib.Core.List.{List}
-use Prim.Native.Nat.{ℕ, suc, _+_, _-_, _≤_, _<_, max, min}
+use Prim.Native.Nat.{ℕ, _+_, _-_, _≤_, _<_, max}
 use native.Mathlib.Omega.{arith}
-use native.Mathlib.Numerals.{add-one}
 use lib.ListN.{length, getD}
-use Rattle.walsh.specs.Sums.{sum, sumTo}
+use Rattle.walsh.specs.Sums.{sum}
 use Rattle.walsh.specs.Order.{count}
 use Rattle.walsh.proofs.Lists.{sum-mono}
-use Rattle.walsh.proofs.Listing.{count-none}
-use Rattle.walsh.proofs.Peel.{sum-stop}
-use Rattle.walsh.proofs.Window.{sum-at, sum-step, sum-to-mono, count-window}
+use Rattle.walsh.proofs.Window.{sum-at, sum-step}
 use Rattle.bounds.specs.Edition.{whole}
-use Rattle.band.specs.Band.{InBand, lowest, highest, cap}
+use Rattle.band.specs.Band.{InBand, lowest, highest}
 use Rattle.band.specs.Window.{Slid}
-use Rattle.band.proofs.Bands.{band-most, band-ends, low-next}
+use Rattle.band.proofs.Bands.{band-ends, low-next}
 use Rattle.band.proofs.Slides.{slid-done}
 
 module _ (ms : List ℕ) (r k : ℕ) where

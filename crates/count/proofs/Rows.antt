@@ -1,7 +1,7 @@
 -- Laws of the row that is written over the row before: where its sums stand, the window's next number, and what a stored cell leaves.
 use mathlib.Core.Path.{_≡_, sym, _∙_, subst}
 use mathlib.Core.List.{List}
-use Prim.Native.Nat.{ℕ, suc, _+_, _-_, _≤_, _<_, min, max}
+use Prim.Native.Nat.{ℕ, _+_, _-_, _≤_, _<_, min, max}
 use native.Mathlib.Omega.{arith}
 use native.Mathlib.Nat.{le-refl, le-trans, le-of-lt}
 use native.Mathlib.Numerals.{add-one}

@@ -4,13 +4,13 @@ use mathlib.Core.Bool.{true, false, false≢true}
 use mathlib.Core.List.{List}
 use Prim.Native.Nat.{ℕ, _+_, _-_, _≤_, _<_, min}
 use native.Mathlib.Omega.{arith}
-use native.Mathlib.Nat.{le-refl, le-trans}
+use native.Mathlib.Nat.{le-refl}
 use lib.Dec.{ltb}
 use lib.ListN.{length}
 use borrow.Author.Tests.{ltb-true, ltb-false}
 use Rattle.walsh.specs.Sums.{sumTo}
 use Rattle.bounds.specs.Edition.{whole}
-use Rattle.band.specs.Band.{InBand, highest, cap}
+use Rattle.band.specs.Band.{cap}
 use Rattle.band.specs.Window.{Slid}
 use Rattle.band.proofs.Bands.{low-next}
 use Rattle.count.specs.Row.{Passing, Row-counts, Passed, Stretch}

@@ -1,14 +1,14 @@
 // N in one row of cells, a cell for each sum: the row of one part more is written over it from its highest sum down, by a window that slides along it.
 ghost use mathlib.Core.Path.{_≡_};
 ghost use mathlib.Core.Bool.{true, false};
-ghost use Prim.Native.Nat.{ℕ, _+_, _-_, _≤_, _<_, min};
-ghost use lib.ListN.{length, getD};
+ghost use Prim.Native.Nat.{_+_, _-_, _≤_, _<_, min};
+ghost use lib.ListN.{length};
 ghost use Rattle.walsh.specs.Order.{count};
 ghost use Rattle.bounds.specs.Edition.{whole, shapeChecks};
 ghost use Rattle.bounds.specs.Refusal.{firstRefusal};
-ghost use Rattle.band.specs.Band.{InBand, lowest, highest, cap, numberOf};
+ghost use Rattle.band.specs.Band.{InBand, cap, numberOf};
 ghost use Rattle.band.specs.Window.{Slid};
-ghost use Rattle.count.specs.Row.{IsEnds, Passing, Row-counts, Within, Passed, Moves, Moved, Stretch};
+ghost use Rattle.count.specs.Row.{Passing, Row-counts, Within, Passed, Moves, Moved, Stretch};
 use band::window::table;
 use band::window::table::Counted;
 

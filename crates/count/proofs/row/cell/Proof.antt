@@ -1,5 +1,5 @@
 -- `count::row::cell` meets its contract.
-use Prim.Native.Nat.{ℕ, _+_, _≤_, _<_}
+use Prim.Native.Nat.{ℕ, _+_, _<_}
 use native.Mathlib.Omega.{arith}
 use Rattle.count.proofs.row.cell.Statement.{statement}
 use Rattle.count.proofs.row.cell.Tie as tie

@@ -1,17 +1,12 @@
 -- `count::row::fall` meets its contract.
 use mathlib.Core.Path.{_≡_, sym, _∙_, subst}
-use mathlib.Core.Bool.{true, false}
-use Prim.Native.Nat.{ℕ, _+_, _-_, _*_, _≤_, _<_, min}
+use Prim.Native.Nat.{ℕ, _+_, _-_, _≤_, _<_, min}
 use native.Mathlib.Nat.{le-refl, le-trans}
 use native.Mathlib.Omega.{arith}
-use lib.ListN.{length, length-set}
+use lib.ListN.{length-set}
 use denote.Ref.{now}
-use mir.Val.{Fits}
-use mir.Syntax.{w64}
 use borrow.Author.Needs.{needs}
-use borrow.Author.Tests.{not-true, not-false}
 use Rattle.walsh.proofs.Cases.{on-test}
-use Rattle.band.specs.Band.{cap}
 use Rattle.count.specs.Row.{Passed}
 use Rattle.count.proofs.Rows.{at-total, stored}
 use Rattle.count.proofs.row.fall.Statement.{statement}

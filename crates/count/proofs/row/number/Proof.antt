@@ -8,7 +8,8 @@ use Rattle.bounds.specs.Refusal.{firstRefusal}
 use Rattle.bounds.specs.Edition.{whole, shapeChecks}
 use Rattle.band.specs.Band.{limited}
 use Rattle.bounds.proofs.Answers.{shaped-refused, shaped-accepted, edition-refused}
-use Rattle.band.proofs.Answers.{number-refused, number-limited, staircase-number}
+use Rattle.band.proofs.Answers.{number-refused, number-limited}
+use Rattle.count.proofs.Answers.{staircase-number}
 use Rattle.count.proofs.row.number.Statement.{statement}
 use Rattle.count.proofs.row.number.Tie as tie
 

@@ -1,5 +1,5 @@
 -- `count::row::pass` meets its contract.
-use mathlib.Core.Path.{_≡_, refl, sym, _∙_}
+use mathlib.Core.Path.{_≡_}
 use mathlib.Core.Bool.{true, false, false≢true}
 use Prim.Native.Nat.{ℕ, _+_, _-_, _≤_, _<_, min}
 use native.Mathlib.Omega.{arith}
@@ -9,7 +9,6 @@ use mir.Syntax.{w64}
 use borrow.Author.Needs.{needs}
 use borrow.Author.Tests.{leb-true, leb-false}
 use Rattle.band.specs.Band.{cap}
-use Rattle.count.specs.Row.{Passing}
 use Rattle.count.specs.declared.row.Ends.{Ends}
 use Rattle.count.proofs.Stretches.{grows, slides, shrinks, ends, unwritten, written}
 use Rattle.count.proofs.row.pass.Statement.{statement}

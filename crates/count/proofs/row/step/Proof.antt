@@ -7,7 +7,6 @@ use native.Mathlib.Omega.{arith}
 use denote.Ref.{now}
 use mir.Val.{Fits}
 use mir.Syntax.{w64}
-use borrow.Author.Needs.{needs}
 use Rattle.walsh.specs.Order.{count}
 use Rattle.band.specs.Band.{InBand}
 use Rattle.count.specs.Row.{Row-counts, Moved}

@@ -1,6 +1,5 @@
 -- `count::row::top` meets its contract.
-use mathlib.Core.Path.{_≡_, refl, sym, ap, _∙_}
-use mathlib.Core.Bool.{true, false}
+use mathlib.Core.Path.{_≡_, sym, ap, _∙_}
 use Prim.Native.Nat.{ℕ, _+_, _-_, _≤_, _<_, min}
 use native.Mathlib.Nat.{le-refl, le-trans, le-antisymm}
 use native.Mathlib.Omega.{arith}
@@ -9,14 +8,12 @@ use denote.Ref.{now}
 use mir.Val.{Fits}
 use mir.Syntax.{w64}
 use borrow.Author.Needs.{needs}
-use borrow.Author.Tests.{not-true, not-false}
 use Rattle.walsh.specs.Sums.{sum}
 use Rattle.walsh.specs.Order.{count}
 use Rattle.walsh.proofs.Cases.{on-test, closer}
 use Rattle.walsh.proofs.Window.{sum-step, sum-at}
 use Rattle.band.specs.Band.{InBand, cap}
-use Rattle.band.specs.Window.{Slid}
-use Rattle.count.specs.Row.{Row-counts, Within}
+use Rattle.count.specs.Row.{Within}
 use Rattle.count.proofs.Rows.{first-at, row-in, top-within, top-slid}
 use Rattle.count.proofs.row.top.Statement.{statement}
 use Rattle.count.proofs.row.top.Tie as tie
