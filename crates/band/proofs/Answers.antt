@@ -1,22 +1,15 @@
 -- The answers of specs/Band.antt, case by case.
 use mathlib.Core.Path.{_≡_, refl, sym, ap, _∙_}
 use mathlib.Core.List.{List, [], _∷_}
-use Prim.Native.Nat.{ℕ, suc, _≤_, _<_}
+use Prim.Native.Nat.{ℕ, _≤_, _<_, min}
 use native.Mathlib.Omega.{arith}
 use lib.Dec.{eqb, ltb}
-use lib.ListN.{length}
 use borrow.Author.Tests.{eqb-true, eqb-false, lt-ltb, le-ltb}
-use Rattle.walsh.specs.Tests.{both}
 use Rattle.walsh.specs.Order.{countOf}
 use Rattle.walsh.proofs.Cases.{on-test, on-less}
-use Rattle.mahonian.specs.Mahonian.{inTable}
-use Rattle.mahonian.specs.Staircase.{isStaircase}
-use Rattle.mahonian.specs.Read.{staircaseCountOf}
-use Rattle.mahonian.specs.declared.Entry.{Entry}
-use Rattle.mahonian.specs.declared.Entry.the-variants.{Count, Outside}
 use Rattle.bounds.specs.Refusal.{Check, check, refused, firstRefusal}
 use Rattle.bounds.specs.Edition.{whole, shapeChecks, editionChecks}
-use Rattle.band.specs.Band.{bandSize, surveyOf, tableChecks, limited, numberOf, countedOf}
+use Rattle.band.specs.Band.{bandSize, cap, surveyOf, tableChecks, limited, numberOf, countedOf}
 use Rattle.bounds.specs.declared.Refusal.{Refusal}
 use Rattle.band.specs.declared.Surveyed.{Surveyed}
 use Rattle.band.specs.declared.window.table.Counted.{Counted}
@@ -80,13 +73,15 @@ module _ (ms : List ℕ) (r : ℕ) where
       (λ l t. rw t (number-refused 5 0 (edition-over ms r e l) (omega arith)))
       (λ l t. rw t (number-accepted (countOf ms r) (edition-none ms r e l) refl))
 
-  -- and of a staircase
-  pub staircase-number : (x : Entry) (n : ℕ) → x ≡ staircaseCountOf ms r → x ≡ Count n → n ≡ countOf ms r
-  unfolding staircaseCountOf
-  staircase-number x n e q =
-      on-test (both (isStaircase ms) (inTable (suc (length ms)) r))
-      (λ t. let c : x ≡ Count (countOf ms r) = rw t at e in cc)
-      (λ t. let c : x ≡ Outside = rw t at e in cc)
+  -- also by a count that stops at 2^63
+  pub number-stopped : (x : ℕ) → shape .number ≡ 0 → x ≡ min (countOf ms r) cap → limited x ≡ numberOf ms r
+  number-stopped x e q = stopped (countOf ms r) q ∙ number-limited e
+    where
+      stopped : (n : ℕ) → x ≡ min n cap → limited x ≡ limited n
+      stopped n e =
+          on-less 9223372036854775807 n
+          (λ l t. rw (t, lt-ltb 9223372036854775807 x (omega arith)))
+          (λ l t. let same : x ≡ n = omega arith in rw same)
 
   -- the refusal alone
   pub number-refusal : (x : Counted) → x ≡ numberOf ms r → refused (x .number) (x .detail) ≡ edition

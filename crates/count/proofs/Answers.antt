@@ -1,9 +1,16 @@
--- The answers of specs/Checked.antt, case by case.
+-- The answers of specs/Checked.antt, case by case, and N of a staircase.
 use mathlib.Core.Path.{_≡_}
 use mathlib.Core.List.{List, []}
-use Prim.Native.Nat.{ℕ, _≤_, _<_}
-use lib.ListN.{take}
+use Prim.Native.Nat.{ℕ, suc, _≤_, _<_}
+use lib.ListN.{length, take}
+use Rattle.walsh.specs.Tests.{both}
 use Rattle.walsh.specs.Order.{countOf}
+use Rattle.walsh.proofs.Cases.{on-test}
+use Rattle.mahonian.specs.Mahonian.{inTable}
+use Rattle.mahonian.specs.Staircase.{isStaircase}
+use Rattle.mahonian.specs.Read.{staircaseCountOf}
+use Rattle.mahonian.specs.declared.Entry.{Entry}
+use Rattle.mahonian.specs.declared.Entry.the-variants.{Count, Outside}
 use Rattle.bounds.specs.Refusal.{refused, firstRefusal}
 use Rattle.bounds.specs.Edition.{editionChecks, boundsOf}
 use Rattle.count.specs.Checked.{checkOf, recordOf}
@@ -24,6 +31,15 @@ module _ (ms : List ℕ) (r : ℕ) where
       → record { number = 0; detail = 0; bounds = b; count = n } ≡ checkOf ms r
   unfolding checkOf
   check-accepted b n e eb en = rw (by-acceptance edition _ _ e, eb, en)
+
+-- ---- N of a staircase
+
+pub staircase-number : (ms : List ℕ) (r : ℕ) (x : Entry) (n : ℕ) → x ≡ staircaseCountOf ms r → x ≡ Count n → n ≡ countOf ms r
+unfolding staircaseCountOf
+staircase-number ms r x n e q =
+    on-test (both (isStaircase ms) (inTable (suc (length ms)) r))
+    (λ t. let c : x ≡ Count (countOf ms r) = rw t at e in cc)
+    (λ t. let c : x ≡ Outside = rw t at e in cc)
 
 -- ---- a record that nobody has checked
 

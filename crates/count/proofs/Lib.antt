@@ -1,1 +1,4 @@
 pub mod Answers
+pub mod Falls
+pub mod Rows
+pub mod Stretches

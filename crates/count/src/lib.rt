@@ -4,13 +4,14 @@ ghost use mathlib.Core.Bool.{true};
 ghost use mathlib.Core.List.{[]};
 ghost use Prim.Native.Nat.{ℕ, _*_, _≤_, _<_};
 ghost use lib.ListN.{length};
-ghost use Rattle.walsh.specs.Order.{countOf};
 ghost use Rattle.bounds.specs.Refusal.{firstRefusal};
 ghost use Rattle.bounds.specs.Edition.{boundsOf, editionChecks, recordChecks};
 ghost use Rattle.count.specs.Checked.{checkOf, recordOf};
-use band::window::table;
+ghost use Rattle.count.specs.Row.{Within};
 use bounds::Bounds;
 use bounds::Refusal;
+
+pub mod row;
 
 const MOST: u64 = 9_223_372_036_854_775_807;
 
@@ -45,7 +46,7 @@ fn refuse(number: u32, detail: u64) -> Checked
 pub fn check(upper: &[u8], total: u32) -> Checked
     ensures { λ r. ⌜ r ≡ checkOf (now (upper .entry)) total ⌝ }
 {
-    let n = table::count(upper, total);
+    let n = row::number(upper, total);
     if 0 < n.number {
         return refuse(n.number, n.detail);
     }
@@ -81,9 +82,9 @@ fn is_within(a: u64, b: u64) -> bool
     if a < SMALL { true } else { a <= MOST / b }
 }
 
-// Whether the product of the numbers of values of all parts but the widest is within the limit: then N is.
-fn is_few(upper: &[u8], total: usize) -> bool
-    ensures { λ r. ⌜ (r ≡ true → countOf (now (upper .entry)) total ≤ 9223372036854775807) ⌝ }
+// Of how many first parts the product of the numbers of values of all but the widest is within the limit: then every number of compositions into them is.
+fn few_parts(upper: &[u8], total: usize) -> usize
+    ensures { λ r. ⌜ (r ≤ length (now (upper .entry))) × ((k : ℕ) → k ≤ r → Within (now (upper .entry)) total k) ⌝ }
 {
     let mut product: u64 = 1;
     let mut widest: usize = 1;
@@ -93,12 +94,12 @@ fn is_few(upper: &[u8], total: usize) -> bool
         let factor = walsh::lesser(values, widest);
         widest = values + widest - factor;
         if !is_within(product, factor as u64) {
-            return false;
+            return k;
         }
         product *= factor as u64;
         k += 1;
     }
-    true
+    k
 }
 
 // The first of the refusals 1 to 5 that holds, for calls that need no N: where a bound on N that costs nothing is within the limit, nothing is counted.
@@ -112,13 +113,13 @@ pub fn refusal(upper: &[u8], total: u32) -> Refusal
             detail: s.detail,
         };
     }
-    if is_few(upper, total as usize) {
+    if few_parts(upper, total as usize) == upper.len() {
         return Refusal {
             number: 0,
             detail: 0,
         };
     }
-    let n = table::count(upper, total);
+    let n = row::number(upper, total);
     Refusal {
         number: n.number,
         detail: n.detail,

@@ -1,6 +1,6 @@
 // The counting table filled row by row, and N.
 ghost use mathlib.Core.Path.{_≡_};
-ghost use Prim.Native.Nat.{ℕ, _≤_, _<_, min};
+ghost use Prim.Native.Nat.{_≤_, _<_, min};
 ghost use lib.ListN.{length};
 ghost use Rattle.walsh.specs.Order.{count};
 ghost use Rattle.bounds.specs.Edition.{whole, shapeChecks};
@@ -38,7 +38,7 @@ fn fill_rows(upper: &[u8], total: usize, all: usize, cells: &mut [u64]) -> u64
     crate::cell(upper, total, n, row, cells, total)
 }
 
-fn uncounted(number: u32, detail: u64) -> Counted
+pub fn uncounted(number: u32, detail: u64) -> Counted
     ensures { λ r. ⌜ r ≡ record { number = number; detail = detail; count = 0 } ⌝ }
 {
     Counted {
@@ -49,7 +49,7 @@ fn uncounted(number: u32, detail: u64) -> Counted
 }
 
 // N, or 5 where it is over the limit.
-fn within_limit(n: u64) -> Counted
+pub fn within_limit(n: u64) -> Counted
     ensures { λ r. ⌜ r ≡ limited n ⌝ }
 {
     if MOST < n {
@@ -84,46 +84,4 @@ pub fn fill(upper: &[u8], total: u32, cells: &mut [u64]) -> Counted
         return uncounted(13, 0);
     }
     fill_shaped(upper, total, s.all, cells)
-}
-
-// N of a shape that is accepted, by a table that is as large as it has to be.
-fn count_by_table(upper: &[u8], total: u32, all: usize) -> Counted
-    requires { ⌜ (firstRefusal (shapeChecks (now upper) total) .number ≡ 0) × (all ≡ whole (now upper)) ⌝ }
-    ensures { λ r. ⌜ r ≡ numberOf (now (upper .entry)) total ⌝ }
-{
-    let row = crate::last(upper, total as usize, all);
-    let start = row.start;
-    if start < 64 {
-        let mut cells = [0u64; 64];
-        return fill_shaped(upper, total, all, &mut cells);
-    }
-    if start < 256 {
-        let mut cells = [0u64; 256];
-        return fill_shaped(upper, total, all, &mut cells);
-    }
-    if start < 1024 {
-        let mut cells = [0u64; 1024];
-        return fill_shaped(upper, total, all, &mut cells);
-    }
-    if start < 2048 {
-        let mut cells = [0u64; 2048];
-        return fill_shaped(upper, total, all, &mut cells);
-    }
-    let mut cells = [0u64; 6145];
-    fill_shaped(upper, total, all, &mut cells)
-}
-
-// N, or the refusal. "N of a puzzle edition of 2 to 16 sheets is read from" the constant table.
-pub fn count(upper: &[u8], total: u32) -> Counted
-    ensures { λ r. ⌜ r ≡ numberOf (now (upper .entry)) total ⌝ }
-{
-    let s = bounds::shape(upper, total);
-    if 0 < s.number {
-        return uncounted(s.number, s.detail);
-    }
-    let e = mahonian::staircase_count(upper, total);
-    if let mahonian::Entry::Count(n) = e {
-        return within_limit(n);
-    }
-    count_by_table(upper, total, s.all)
 }

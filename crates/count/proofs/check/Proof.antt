@@ -22,12 +22,12 @@ zero-of l = omega arith
 
 counted-at : (c : tie.Else1)
     → let a = c .before .before .before .before .args in
-    (firstRefusal (editionChecks (now (a .upper)) (a .total)) .number ≡ 0) × (c .before .before .count .result .count ≡ countOf (now (a .upper)) (a .total))
-counted-at c = let n = c .before .before .count in numbered-accepted _ _ (n .result) (n .ensures) (zero-of (c .if1 .left))
+    (firstRefusal (editionChecks (now (a .upper)) (a .total)) .number ≡ 0) × (c .before .before .number .result .count ≡ countOf (now (a .upper)) (a .total))
+counted-at c = let n = c .before .before .number in numbered-accepted _ _ (n .result) (n .ensures) (zero-of (c .if1 .left))
 
 returns : tie.Need-returns
 returns c =
-    let n = c .before .before .before .count in
+    let n = c .before .before .before .number in
     let a = c .before .before .before .before .before .args in
     let l = c .before .if1 .taken in
     c .refuse .ensures ∙ check-refused (now (a .upper)) (a .total) _ _ (numbered-refused _ _ (n .result) (n .ensures) l) l

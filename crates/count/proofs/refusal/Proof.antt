@@ -1,9 +1,15 @@
 -- `count::refusal` meets its contract.
 use mathlib.Core.Path.{_≡_, sym}
-use Prim.Native.Nat.{ℕ, _≤_}
+use mathlib.Core.List.{List}
+use Prim.Native.Nat.{ℕ, _≤_, _<_}
+use native.Mathlib.Nat.{le-refl}
 use native.Mathlib.Omega.{arith}
+use lib.ListN.{length}
 use denote.Ref.{now}
 use borrow.Author.Needs.{needs}
+use Rattle.walsh.specs.Order.{countOf}
+use Rattle.band.specs.Band.{cap}
+use Rattle.count.specs.Row.{Within}
 use Rattle.bounds.proofs.Answers.{shaped-refused, shaped-accepted, edition-refused, edition-none}
 use Rattle.band.proofs.Answers.{number-refusal}
 use Rattle.count.proofs.refusal.Statement.{statement}
@@ -18,15 +24,26 @@ returns c =
     let a = c .before .before .before .before .args in
     sym (edition-refused (now (a .upper)) (a .total) _ _ (shaped-refused _ _ (s .result) (s .ensures) (c .if1 .taken)) (c .if1 .taken))
 
+most : (ms : List ℕ) (r n : ℕ) → n ≡ length ms → ((k : ℕ) → k ≤ n → Within ms r k) → countOf ms r ≤ 9223372036854775807
+unfolding countOf
+most ms r n e h = le-of (h (length ms) (le-of-eq e) r (le-refl r))
+  where
+    le-of : {x : ℕ} → x < cap → x ≤ 9223372036854775807
+    le-of l = omega arith
+
+    le-of-eq : {a b : ℕ} → a ≡ b → b ≤ a
+    le-of-eq q = omega arith
+
 returns-2 : tie.Need-returns-2
 returns-2 c =
     let s = c .before .before .before .before .shape in
     let a = c .before .before .before .before .before .before .args in
     let p = shaped-accepted _ _ (s .result) (s .ensures) (zero-of (c .before .before .if1 .left)) in
-    sym (edition-none (now (a .upper)) (a .total) (p .0) (c .before .is-few .ensures (c .if2 .taken)))
+    let f = c .before .few-parts in
+    sym (edition-none (now (a .upper)) (a .total) (p .0) (most (now (a .upper)) (a .total) (f .result) (c .if2 .taken) (f .ensures .1)))
 
 returns-3 : tie.Need-returns-3
-returns-3 c = let a = c .before .before .before .before .before .before .before .args in number-refusal (now (a .upper)) (a .total) (c .count .result) (c .count .ensures)
+returns-3 c = let a = c .before .before .before .before .before .before .before .args in number-refusal (now (a .upper)) (a .total) (c .number .result) (c .number .ensures)
 
 pub refusal-spec : {M : Type 1} → statement M
 refusal-spec = tie.close (tie.spec (λ c κs. search needs) returns (λ c κs. search needs) returns-2 (λ c κs. search needs) returns-3)

@@ -1,25 +1,17 @@
 -- `band::window::table::fill_shaped` meets its contract.
 use mathlib.Core.Path.{_≡_, _∙_}
-use Prim.Native.Nat.{ℕ, _<_, min}
+use Prim.Native.Nat.{ℕ, _<_}
 use native.Mathlib.Omega.{arith}
 use denote.Ref.{now}
 use borrow.Author.Needs.{needs}
-use borrow.Author.Tests.{lt-ltb}
 use Rattle.walsh.specs.Order.{countOf}
 use Rattle.walsh.proofs.Cases.{on-less}
 use Rattle.band.specs.Band.{cap, limited}
 use Rattle.band.specs.declared.window.table.Counted.{Counted}
 use Rattle.bounds.proofs.Editions.{shapely}
-use Rattle.band.proofs.Answers.{number-limited}
+use Rattle.band.proofs.Answers.{number-stopped}
 use Rattle.band.proofs.window.table.fill_shaped.Statement.{statement}
 use Rattle.band.proofs.window.table.fill_shaped.Tie as tie
-
--- a count that stops at 2^63 shows whether N is over the limit
-stopped : (n x : ℕ) → x ≡ min n cap → limited x ≡ limited n
-stopped n x e =
-    on-less 9223372036854775807 n
-    (λ l t. rw (t, lt-ltb 9223372036854775807 x (omega arith)))
-    (λ l t. let q : x ≡ n = omega arith in rw q)
 
 under : (y : Counted) (x : ℕ) → y ≡ limited x → y .number ≡ 0 → x < cap
 under y x e z =
@@ -39,7 +31,7 @@ returns c =
     let s = c .before .before .before .before .before .before .before in
     let f = c .before .before .before .fill-rows in
     let w = c .within-limit in (
-      w .ensures ∙ stopped _ (f .result) (f .ensures .0) ∙ number-limited (now (s .args .upper)) (s .args .total) (s .pre .0),
+      w .ensures ∙ number-stopped (now (s .args .upper)) (s .args .total) (f .result) (s .pre .0) (f .ensures .0),
       λ z. f .ensures .1 (under (w .result) (f .result) (w .ensures) z),
     )
 

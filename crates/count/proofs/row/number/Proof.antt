@@ -1,4 +1,4 @@
--- `band::window::table::count` meets its contract.
+-- `count::row::number` meets its contract.
 use mathlib.Core.Path.{_≡_, ap, _∙_}
 use Prim.Native.Nat.{ℕ, _≤_}
 use native.Mathlib.Omega.{arith}
@@ -6,11 +6,12 @@ use denote.Ref.{now}
 use borrow.Author.Needs.{needs}
 use Rattle.bounds.specs.Refusal.{firstRefusal}
 use Rattle.bounds.specs.Edition.{whole, shapeChecks}
 use Rattle.band.specs.Band.{limited}
 use Rattle.bounds.proofs.Answers.{shaped-refused, shaped-accepted, edition-refused}
-use Rattle.band.proofs.Answers.{number-refused, number-limited, staircase-number}
-use Rattle.band.proofs.window.table.count.Statement.{statement}
-use Rattle.band.proofs.window.table.count.Tie as tie
+use Rattle.band.proofs.Answers.{number-refused, number-limited}
+use Rattle.count.proofs.Answers.{staircase-number}
+use Rattle.count.proofs.row.number.Statement.{statement}
+use Rattle.count.proofs.row.number.Tie as tie
 
 zero-of : {n : ℕ} → n ≤ 0 → n ≡ 0
 zero-of l = omega arith
@@ -35,8 +36,8 @@ returns-2 c =
     let n = staircase-number (now (a .upper)) (a .total) (m .result) _ (m .ensures) (c .before .before .e .given .1) in
     c .within-limit .ensures ∙ ap limited n ∙ number-limited (now (a .upper)) (a .total) (shape-at (c .before .before .before .before .before) .0)
 
-pub count-spec : {M : Type 1} → statement M
-count-spec =
+pub number-spec : {M : Type 1} → statement M
+number-spec =
     tie.close
     (tie.spec
     (λ c κs. search needs)

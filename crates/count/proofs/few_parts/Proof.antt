@@ -1,8 +1,7 @@
--- `count::is_few` meets its contract.
-use mathlib.Core.Path.{_≡_, subst}
-use mathlib.Core.Bool.{true, false, false≢true}
+-- `count::few_parts` meets its contract.
+use mathlib.Core.Path.{_≡_, refl, subst}
+use mathlib.Core.List.{List}
 use Prim.Native.Nat.{ℕ, suc, _+_, _-_, _≤_, _<_, min}
-use native.Mathlib.Nat.{le-refl, le-trans}
 use native.Mathlib.Numerals.{add-one}
 use native.Mathlib.Omega.{arith}
 use lib.ListN.{length, getD}
@@ -11,15 +10,15 @@ use mir.Val.{Fits}
 use mir.Syntax.{w64}
 use borrow.Author.Needs.{needs}
 use borrow.Author.Tests.{not-false}
-use Rattle.walsh.specs.Order.{count, countOf}
-use Rattle.walsh.proofs.Cases.{closer}
+use Rattle.walsh.proofs.Cases.{on-less, closer}
 use Rattle.walsh.proofs.Product.{Few, few-none, few-step}
-use Rattle.count.proofs.is_few.Statement.{statement}
-use Rattle.count.proofs.is_few.Tie as tie
+use Rattle.count.specs.Row.{Within}
+use Rattle.count.proofs.few_parts.Statement.{statement}
+use Rattle.count.proofs.few_parts.Tie as tie
 
 abbrev Inv-loop : tie.InvT-loop
 Inv-loop upper total product₀ widest₀ k₀ product widest k =
-    (k ≤ length upper) × (product ≤ 9223372036854775807) × (0 < widest) × (widest ≤ 256) × Few upper total k product widest
+    (k ≤ length upper) × (product ≤ 9223372036854775807) × (0 < widest) × (widest ≤ 256) × Few upper total k product widest × ((j : ℕ) → j ≤ k → Within upper total j)
 
 abbrev μ-loop : tie.MeasureT-loop
 μ-loop upper total product₀ widest₀ k₀ product widest k = length upper - k
@@ -56,34 +55,37 @@ sub-widest c = let t = turn-at c .factor in omega (arith, t)
 fits : {x : ℕ} → x ≤ 9223372036854775807 → Fits w64 x
 fits l = omega arith
 
+-- a product within the limit bounds every count
+within : (ms : List ℕ) (r k p w : ℕ) → Few ms r k p w → p ≤ 9223372036854775807 → Within ms r k
+within ms r k p w few l t h = omega (arith, few .each t h)
+
+within-next : (ms : List ℕ) (r k p w : ℕ) → ((j : ℕ) → j ≤ k → Within ms r j) → Few ms r (suc k) p w → p ≤ 9223372036854775807 → (j : ℕ) → j ≤ k + 1 → Within ms r j
+within-next ms r k p w old few b j l =
+    on-less j (suc k) (λ h _. old j (omega arith)) (λ h _. let q : suc k ≡ j = omega arith in subst (Within ms r) q (within ms r (suc k) p w few b))
+
+loop-holds : tie.Need-loop-holds Inv-loop μ-loop
+loop-holds c =
+    let a = c .before .args in
+    let none = few-none (now (a .upper)) (a .total) in
+    (omega arith, omega arith, omega arith, omega arith, none, λ j l. let q : 0 ≡ j = omega arith in subst (Within (now (a .upper)) (a .total)) q (within _ _ 0 1 1 none (omega arith)))
+
 loop-again : tie.Need-loop-again Inv-loop μ-loop
 loop-again c =
     let t = turn-at (c .before .before) in
     let l = c .before .before .before .before .before .before .before .loop in
     let a = c .before .before .before .before .before .before .before .before .before .args in
-    let w = c .before .is-within in (
-      omega arith,
-      w .ensures (not-false (w .result) (c .if1 .left)),
-      t .left .0,
-      t .left .1,
-      rw add-one (few-step (now (a .upper)) (a .total) (l .k) (l .product) (l .widest) _ (l .inv .4) (t .values) _ _ (t .factor) (omega arith)),
-    )
+    let w = c .before .is-within in
+    let most = w .ensures (not-false (w .result) (c .if1 .left)) in
+    let few = few-step (now (a .upper)) (a .total) (l .k) (l .product) (l .widest) _ (l .inv .4) (t .values) _ _ (t .factor) refl in
+    (omega arith, most, t .left .0, t .left .1, rw add-one few, within-next (now (a .upper)) (a .total) (l .k) _ _ (l .inv .5) few most)
 
-returns-2 : tie.Need-returns-2 Inv-loop μ-loop
-unfolding countOf
-returns-2 c =
-    let l = c .before .loop in
-    let a = c .before .before .before .args in
-    let e : l .k ≡ length (now (a .upper)) = omega arith in
-    λ t. subst (λ (k : ℕ). count (now (a .upper)) k (a .total) ≤ 9223372036854775807) e (le-trans (l .inv .4 .each (a .total) (le-refl _)) (l .inv .1))
-
-pub is-few-spec : {M : Type 1} → statement M
-is-few-spec =
+pub few-parts-spec : {M : Type 1} → statement M
+few-parts-spec =
     tie.close
     (tie.spec
     Inv-loop
     μ-loop
-    (λ c. (omega arith, omega arith, omega arith, omega arith, few-none _ _))
+    loop-holds
     (λ c. search needs)
     (λ c κs. search needs)
     (λ c κs. search needs)
@@ -92,9 +94,9 @@ is-few-spec =
     add-widest
     sub-widest
     (λ c κs. turn-at c .some)
-    (λ c e. absurd (false≢true e))
+    (λ c. let l = c .before .before .before .before .before .before .before .loop in (l .inv .0, l .inv .5))
     (λ c. let w = c .before .is-within in fits (w .ensures (not-false (w .result) (c .if1 .left))))
     (λ c. search needs)
     (λ c. closer _ _ (omega arith))
     loop-again
-    returns-2)
+    (λ c. (c .before .loop .inv .0, c .before .loop .inv .5)))

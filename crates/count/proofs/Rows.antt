@@ -1,0 +1,213 @@
+-- Laws of the row that is written over the row before: where its sums stand, the window's next number, and what a stored cell leaves.
+use mathlib.Core.Path.{_≡_, sym, _∙_, subst}
+use mathlib.Core.List.{List}
+use Prim.Native.Nat.{ℕ, _+_, _-_, _≤_, _<_, min, max}
+use native.Mathlib.Omega.{arith}
+use native.Mathlib.Nat.{le-refl, le-trans, le-of-lt}
+use native.Mathlib.Numerals.{add-one}
+use lib.ListN.{length, getD, set, length-set}
+use lib.Seq.{getD-set-same, getD-set-other}
+use Rattle.walsh.specs.Sums.{sum, sumTo}
+use Rattle.walsh.specs.Order.{count}
+use Rattle.walsh.proofs.Cases.{on-less}
+use Rattle.walsh.proofs.Lists.{sum-mono}
+use Rattle.walsh.proofs.Listing.{count-none}
+use Rattle.walsh.proofs.Peel.{sum-stop}
+use Rattle.walsh.proofs.Window.{sum-at, sum-step, sum-to-mono, count-window, count-zero}
+use Rattle.bounds.specs.Edition.{whole}
+use Rattle.band.specs.Band.{InBand, lowest, highest, cap}
+use Rattle.band.specs.Window.{Slid}
+use Rattle.band.proofs.Bands.{band-most, band-ends, low-high}
+use Rattle.band.proofs.Slides.{behind-in, slid-done}
+use Rattle.count.specs.Row.{IsEnds, Passing, Row-counts, Within, Passed, Moved}
+use Rattle.count.specs.declared.row.Ends.{Ends}
+use Rattle.count.proofs.Falls.{fall-leaves, fall-over, fall-under, fall-count}
+
+beyond : (r s h t : ℕ) → h ≡ min r s → h < t → t ≤ r → s < t
+beyond r s h t e l b = omega arith
+
+before : {t : ℕ} → t - 1 ≤ t
+before = omega arith
+
+min-le : (r s t : ℕ) → t ≤ min r s → t ≤ r
+min-le r s t l = omega arith
+
+-- at a sum t of row k + 1
+module _ (ms : List ℕ) (r k m : ℕ) (row next : Ends) (p : Passing ms r k m row next) (t : ℕ) (l : next .low ≤ t) (h : t ≤ next .high) where
+  at-high : t ≤ highest ms r (k + 1)
+  at-high = rw (← (p .to .high)) h
+
+  pub at-total : t ≤ r
+  at-total = min-le r (sumTo ms (k + 1)) t at-high
+
+  pub at-next : InBand ms r (k + 1) t
+  at-next = band-ends ms r (k + 1) t (rw (← (p .to .low)) l) at-high
+
+  pub at-low : lowest ms r k ≤ t
+  at-low = le-trans (low-high ms r k (p .reached) (p .part) .1) (rw (← (p .to .low)) l)
+
+  -- the cell that leaves, where there is one
+  pub leaving-in : t ≤ row .high → InBand ms r k t
+  leaving-in g = band-ends ms r k t at-low (rw (← (p .from .high)) g)
+
+  pub passed-none : row .high < t → 0 ≡ count ms k t
+  passed-none g = sym (count-none ms k t (beyond r (sumTo ms k) (row .high) t (p .from .high) g at-total))
+
+  -- and the cell that enters
+  full-at : row .low + m < t → lowest ms r k + m < t
+  full-at g = rw (← (p .from .low)) g
+
+  pub entering-in : row .low + m < t → InBand ms r k (t - (m + 1))
+  entering-in g = behind-in ms r k t m (p .bound) at-high (full-at g)
+
+  module _ (w : ℕ) (cells : List ℕ) (s : Passed ms r k (t + 1) w cells) where
+    pub leaving-most : (x : ℕ) → x ≡ count ms k t → x ≤ w
+    leaving-most x ex = fall-leaves ms r k t m w x 0 (s .window) (p .bound) at-low ex
+
+    pub move-over : (x y v : ℕ) → row .low + m < t → x ≡ count ms k t → y ≡ count ms k (t - (m + 1)) → v ≡ w - x + y → Moved ms r k t v
+    move-over x y v g ex ey ev =
+        let slid : Slid ms r k t v = rw ev (fall-over ms r k t m w x y (s .window) (p .bound) (full-at g) ex ey) in
+        let c = fall-count ms r k t v (p .part) (p .reached) slid (rw (← (p .bound)) (full-at g)) at-high in
+        record {
+          slid = slid;
+          within = λ q. rw (c .1) (q (t - 1) (le-trans before at-total));
+          over = λ q. le-trans (rw (c .1) at q) (band-most ms r (k + 1) (t - 1) (suc-le (p .part)) (c .0));
+        }
+      where
+        suc-le : {a b : ℕ} → a < b → a + 1 ≤ b
+        suc-le q = omega arith
+
+    pub move-under : (x v : ℕ) → t ≤ row .low + m → x ≡ count ms k t → v ≡ w - x → Moved ms r k t v
+    move-under x v g ex ev =
+        record {
+          slid = rw ev (fall-under ms r k t m w x 0 (s .window) (p .bound) at-low (rw (← (p .from .low)) g) ex);
+          within = λ q. less (s .small);
+          over = λ q. absurd (omega (arith, q, less (s .small)));
+        }
+      where
+        less : w < cap → v < cap
+        less q = omega arith
+
+    -- the window's number is stored
+    pub stored : (v : ℕ) → t < 256 → Slid ms r k t v → v < cap → Passed ms r k t v (set cells t w)
+    stored v b slid small =
+        record {
+          long = length-set cells t w ∙ s .long;
+          below = λ u i a c. let old = s .below u i a (lt-suc c) in (getD-set-other cells t u w 0 (λ q. omega (arith, c, q)) ∙ old .0, old .1);
+          above = λ u i a c. on-less t u
+              (λ tu _. let old = s .above u i (suc-le tu) c in (getD-set-other cells t u w 0 (λ q. omega (arith, tu, q)) ∙ old .0, old .1))
+              (λ ut _. let q : t ≡ u = omega arith in subst (λ (n : ℕ). (getD (set cells t w) n 0 ≡ count ms (k + 1) n) × (count ms (k + 1) n < cap)) q here);
+          window = slid;
+          small = small;
+        }
+      where
+        is : w ≡ count ms (k + 1) t
+        is = slid-done ms r k t w (p .part) (p .reached) (s .window) (rw (← (p .to .low)) l)
+
+        here : (getD (set cells t w) t 0 ≡ count ms (k + 1) t) × (count ms (k + 1) t < cap)
+        here = (getD-set-same cells t w 0 (rw (s .long) b) ∙ is, rw is at (s .small))
+
+        suc-le : {u : ℕ} → t < u → t + 1 ≤ u
+        suc-le q = omega arith
+
+        lt-suc : {u : ℕ} → u < t → u < t + 1
+        lt-suc q = omega arith
+
+-- the first window of row k + 1 has the cells from a up to the row's end
+module _ (ms : List ℕ) (r k m : ℕ) (row next : Ends) (p : Passing ms r k m row next) where
+  abbrev f : ℕ → ℕ
+  f = count ms k
+
+  next-left : sumTo ms (k + 1) ≡ sumTo ms k + m
+  next-left = rw (p .bound) (sum-step (λ j. getD ms j 0) k)
+
+  pub next-rises : next .low ≤ next .high
+  next-rises = rw (p .to .low, p .to .high) (low-high ms r k (p .reached) (p .part) .0)
+
+  pub top-next : InBand ms r (k + 1) (next .high)
+  top-next = at-next ms r k m row next p (next .high) next-rises (le-refl _)
+
+  high-rises : row .high ≤ next .high
+  high-rises = go (sumTo ms k) (sumTo ms (k + 1)) (p .from .high) (p .to .high) next-left
+    where
+      go : (s s′ : ℕ) → row .high ≡ min r s → next .high ≡ min r s′ → s′ ≡ s + m → row .high ≤ next .high
+      go s s′ a b e = omega arith
+
+  row-rises : row .low ≤ row .high
+  row-rises = go (sumTo ms k) (whole ms) (p .from .low) (p .from .high) (sum-to-mono ms k (length ms) (le-of-lt (p .part))) (p .reached)
+    where
+      go : (s n : ℕ) → row .low ≡ r - (n - s) → row .high ≡ min r s → s ≤ n → r ≤ n → row .low ≤ row .high
+      go s n a b l h = omega arith
+
+  pub first-at : (a : ℕ) → a ≡ row .low + (next .high - m - row .low) → (row .low ≤ a) × (a ≤ row .high + 1) × (next .high - m ≤ a)
+  first-at a e = go (sumTo ms k) (sumTo ms (k + 1)) (p .from .high) (p .to .high) next-left row-rises
+    where
+      go : (s s′ : ℕ) → row .high ≡ min r s → next .high ≡ min r s′ → s′ ≡ s + m → row .low ≤ row .high → (row .low ≤ a) × (a ≤ row .high + 1) × (next .high - m ≤ a)
+      go s s′ x y z l = (omega arith, omega arith, omega arith)
+
+  pub row-in : (t : ℕ) → row .low ≤ t → t < row .high + 1 → InBand ms r k t
+  row-in t l h = band-ends ms r k t (rw (← (p .from .low)) l) (rw (← (p .from .high)) (le-of h))
+    where
+      le-of : {a b : ℕ} → a < b + 1 → a ≤ b
+      le-of q = omega arith
+
+  -- it is at most the highest number of row k + 1
+  pub top-within : (a t w : ℕ) → w + sum f a ≡ sum f t → next .high - m ≤ a → t ≤ row .high + 1 → (Within ms r (k + 1) → w < cap) × (cap ≤ w → cap ≤ count ms (length ms) r)
+  top-within a t w e l h = (λ q. le-lt most (q (next .high) (top-next .high)), λ q. le-trans (le-trans q most) (band-most ms r (k + 1) (next .high) (suc-le (p .part)) top-next))
+    where
+      suc-le : {a b : ℕ} → a < b → a + 1 ≤ b
+      suc-le q = omega arith
+
+      le-lt : {a b d : ℕ} → a ≤ b → b < d → a < d
+      le-lt a b = omega arith
+
+      join : {c b d : ℕ} → c + b ≡ d → b ≤ sum f a → sum f t ≤ d → w ≤ c
+      join a b c = omega arith
+
+      add-le : {a b : ℕ} → a ≤ b → a + 1 ≤ b + 1
+      add-le q = omega arith
+
+      most : w ≤ count ms (k + 1) (next .high)
+      most =
+          rw add-one
+          (join (count-window ms k (next .high)) (sum-mono f (next .high - getD ms k 0) a (rw (p .bound) at l)) (sum-mono f t (next .high + 1) (le-trans h (add-le high-rises))))
+
+  -- sums that the first k parts do not reach add nothing
+  pub top-slid : (a w : ℕ) → a ≡ row .low + (next .high - m - row .low) → w + sum f a ≡ sum f (row .high + 1) → Slid ms r k (next .high + 1) w
+  top-slid a w ea e =
+      rw (← (p .bound), ← (p .from .low))
+      (join (sum-at f (max (row .low) (next .high + 1 - (m + 1))) a (omega arith))
+      (sum-stop f (row .high + 1) (next .high + 1) (add-le high-rises) (λ i x y. count-none ms k i (beyond r (sumTo ms k) (row .high) i (p .from .high) (lt-of x) (le-trans (le-of y) (top-next .high))))))
+    where
+      le-of : {a b : ℕ} → a < b + 1 → a ≤ b
+      le-of q = omega arith
+
+      add-le : {a b : ℕ} → a ≤ b → a + 1 ≤ b + 1
+      add-le q = omega arith
+
+      lt-of : {a b : ℕ} → a + 1 ≤ b → a < b
+      lt-of q = omega arith
+
+      join : {b d : ℕ} → b ≡ sum f a → d ≡ sum f (row .high + 1) → w + b ≡ d
+      join x y = omega arith
+
+-- the numbers of the first row and of the next
+pub ends-first : (ms : List ℕ) (r all : ℕ) (e : Ends) → all ≡ whole ms → e .low ≡ r - (all - 0) → e .high ≡ min r 0 → IsEnds ms r 0 e
+ends-first ms r all e ea el eh = record { low = el ∙ rw ea; high = eh }
+
+pub left-fits : (ms : List ℕ) (k left m all : ℕ) → k < length ms → left ≡ sumTo ms k → m ≡ getD ms k 0 → all ≡ whole ms → (left + m ≡ sumTo ms (k + 1)) × (left + m ≤ all)
+left-fits ms k left m all l e em ea =
+    let q : left + m ≡ sumTo ms (k + 1) = rw (e, em) (sym (sum-step (λ j. getD ms j 0) k)) in
+    (q, rw (q, ea) (sum-to-mono ms (k + 1) (length ms) (suc-le l)))
+  where
+    suc-le : {a b : ℕ} → a < b → a + 1 ≤ b
+    suc-le q = omega arith
+
+pub ends-next : (ms : List ℕ) (r k left all : ℕ) (e : Ends) → all ≡ whole ms → left ≡ sumTo ms k → e .low ≡ r - (all - left) → e .high ≡ min r left → IsEnds ms r k e
+ends-next ms r k left all e ea q el eh = record { low = el ∙ rw (ea, q); high = eh ∙ rw q }
+
+-- the row of no parts: 1 at the sum 0
+pub first-row : (ms : List ℕ) (r : ℕ) (cells : List ℕ) → length cells ≡ 256 → Row-counts ms r (set cells 0 1) 0 0 256
+first-row ms r cells long t b l h =
+    let z : t ≡ 0 = omega (arith, b .inside) in
+    rw (z, count-zero ms) (getD-set-same cells 0 1 0 (omega arith), omega arith)

@@ -1,0 +1,118 @@
+-- `count::row::fall` meets its contract.
+use mathlib.Core.Path.{_≡_, sym, _∙_, subst}
+use Prim.Native.Nat.{ℕ, _+_, _-_, _≤_, _<_, min}
+use native.Mathlib.Nat.{le-refl, le-trans}
+use native.Mathlib.Omega.{arith}
+use lib.ListN.{length-set}
+use denote.Ref.{now}
+use borrow.Author.Needs.{needs}
+use Rattle.walsh.proofs.Cases.{on-test}
+use Rattle.count.specs.Row.{Passed}
+use Rattle.count.proofs.Rows.{at-total, stored}
+use Rattle.count.proofs.row.fall.Statement.{statement}
+use Rattle.count.proofs.row.fall.Tie as tie
+
+abbrev Inv-loop : tie.InvT-loop
+Inv-loop upper total k m row next cells₀ end enters leaves careful w₀ t₀ cells w t = (t ≤ t₀) × (min t₀ end ≤ t) × Passed upper total k t w cells
+
+abbrev μ-loop : tie.MeasureT-loop
+μ-loop upper total k m row next cells₀ end enters leaves careful w₀ t₀ cells w t = t
+
+min-low : (a b : ℕ) → min a b ≤ a
+min-low a b = omega arith
+
+some : {e t : ℕ} → e < t → 1 ≤ t
+some l = omega arith
+
+back : {e t : ℕ} → e < t → t ≡ t - 1 + 1
+back l = omega arith
+
+down : {e t : ℕ} → e < t → e ≤ t - 1
+down l = omega arith
+
+top-down : {e t h : ℕ} → e < t → t ≤ h + 1 → t - 1 ≤ h
+top-down l b = omega arith
+
+below : {e t s : ℕ} → e < t → t ≤ s → t - 1 < s
+below l b = omega arith
+
+down-le : {t s : ℕ} → t ≤ s → t - 1 ≤ s
+down-le l = omega arith
+
+min-down : (e t s : ℕ) → e < t → min s e ≤ t - 1
+min-down e t s l = omega arith
+
+-- the sum is one of the row that is written
+module _ (c : tie.In-loop Inv-loop μ-loop) where
+  abbrev start : tie.Start Inv-loop μ-loop
+  start = c .before .before .before .before
+
+  abbrev at : ℕ
+  at = c .before .loop .t - 1
+
+  low-at : start .args .next .low ≤ at
+  low-at = le-trans (start .pre .1 .low) (down (c .loop-test .taken))
+
+  high-at : at ≤ start .args .next .high
+  high-at = top-down (c .loop-test .taken) (le-trans (c .before .loop .inv .0) (start .pre .1 .high))
+
+  small-at : at ≤ 255
+  small-at = le-trans (at-total _ _ _ _ _ _ (start .pre .0) _ low-at high-at) (start .pre .0 .small)
+
+  passed-at : Passed (now (start .args .upper)) (start .args .total) (start .args .k) (at + 1) (c .before .loop .w) (c .before .loop .cells)
+  passed-at = subst (λ (t : ℕ). Passed (now (start .args .upper)) (start .args .total) (start .args .k) t (c .before .loop .w) (c .before .loop .cells)) (back (c .loop-test .taken)) (c .before .loop .inv .2)
+
+step-requires : tie.Need-step-requires Inv-loop μ-loop
+step-requires c κs =
+    let d = c .before in
+    let s = start d in
+    (s .pre .0, low-at d, high-at d, passed-at d, s .pre .1 .moves _ (down (d .loop-test .taken)) (below (d .loop-test .taken) (d .before .loop .inv .0)))
+
+less : {t n : ℕ} → t ≤ 255 → n ≡ 256 → t < n
+less l e = omega arith
+
+small : {t : ℕ} → t ≤ 255 → t < 256
+small l = omega arith
+
+returns : tie.Need-returns Inv-loop μ-loop
+returns c =
+    let o = c .before .is-over .ensures .0 (c .if1 .taken) in
+    (λ h. absurd (omega (arith, h, o)), c .before .before .step .ensures .over)
+
+loop-again : tie.Need-loop-again Inv-loop μ-loop
+loop-again c =
+    let d = c .before .before .before .before in
+    let s = start d in
+    let a = s .args in
+    let l = d .before .loop in
+    let v = c .before .before .step in
+    let within = on-test (a .careful) (λ e. c .before .is-over .ensures .1 (c .if1 .left) e) (λ e. v .ensures .within (s .pre .3 e)) in (
+      down-le (l .inv .0),
+      min-down _ _ _ (d .loop-test .taken),
+      stored (now (a .upper)) (a .total) (a .k) (a .m) (a .row) (a .next) (s .pre .0) _ (low-at d) (high-at d) (l .w) (l .cells) (passed-at d) (v .result) (small (small-at d)) (v .ensures .slid) within,
+    )
+
+is-min : {t s e : ℕ} → t ≤ s → min s e ≤ t → t ≤ e → t ≡ min s e
+is-min a b c = omega arith
+
+returns-2 : tie.Need-returns-2 Inv-loop μ-loop
+returns-2 c = let l = c .before .loop in (λ h. (is-min (l .inv .0) (l .inv .1) (c .loop-test .left), l .inv .2), λ h. absurd (omega (arith, h, l .inv .2 .small)))
+
+pub fall-spec : {M : Type 1} → statement M
+fall-spec =
+    tie.close
+    (tie.spec
+    Inv-loop
+    μ-loop
+    (λ c. (le-refl _, min-low _ _, c .before .before .pre .2))
+    (λ c. some (c .loop-test .taken))
+    step-requires
+    (λ c. let b = small-at (c .before .before) in omega arith)
+    (λ c. less (small-at (c .before .before)) (c .before .before .before .loop .inv .2 .long))
+    (λ c κs. search needs)
+    (λ c. let l = c .before .before .before .before .before .loop in length-set (l .cells) _ (l .w) ∙ l .inv .2 .long ∙ sym (c .before .before .before .before .before .before .before .before .pre .2 .long))
+    returns
+    (λ c. below (c .before .before .before .before .loop-test .taken) (le-refl _))
+    loop-again
+    (λ c. c .before .loop .inv .2 .long ∙ sym (c .before .before .before .before .pre .2 .long))
+    returns-2)

@@ -1,0 +1,61 @@
+-- How N is counted in one row of cells, a cell for each sum: the row of one part more is written over it from its highest sum down.
+use mathlib.Core.Path.{_≡_}
+use mathlib.Core.Bool.{Bool, true, false}
+use mathlib.Core.List.{List}
+use Prim.Native.Nat.{ℕ, _+_, _≤_, _<_}
+use lib.ListN.{length, getD}
+use Rattle.walsh.specs.Order.{count}
+use Rattle.bounds.specs.Edition.{whole}
+use Rattle.band.specs.Band.{InBand, lowest, highest, cap}
+use Rattle.band.specs.Window.{Slid}
+use Rattle.count.specs.declared.row.Ends.{Ends}
+
+-- the code's numbers of row k
+pub record IsEnds (ms : List ℕ) (r k : ℕ) (e : Ends) : Type 0 where
+  pub low : e .low ≡ lowest ms r k
+  pub high : e .high ≡ highest ms r k
+
+-- what does not change while row k + 1 is written over row k; m is the bound of part k
+pub record Passing (ms : List ℕ) (r k m : ℕ) (row next : Ends) : Type 0 where
+  pub part : k < length ms
+  pub small : r ≤ 255
+  pub reached : r ≤ whole ms
+  pub bound : m ≡ getD ms k 0
+  pub narrow : m ≤ 255
+  pub from : IsEnds ms r k row
+  pub to : IsEnds ms r (k + 1) next
+
+-- the cells of the sums of row k from a on and below b have their counts, which are within the limit
+abbrev pub Row-counts : List ℕ → ℕ → List ℕ → ℕ → ℕ → ℕ → Type 0
+Row-counts ms r cells k a b = (t : ℕ) → InBand ms r k t → a ≤ t → t < b → (getD cells t 0 ≡ count ms k t) × (count ms k t < cap)
+
+-- every count of the first k parts is within the limit
+abbrev pub Within : List ℕ → ℕ → ℕ → Type 0
+Within ms r k = (t : ℕ) → t ≤ r → count ms k t < cap
+
+-- row k + 1 stands from the sum t on, row k below it, and w is the window for the sum before t
+pub record Passed (ms : List ℕ) (r k t w : ℕ) (cells : List ℕ) : Type 0 where
+  pub long : length cells ≡ 256
+  pub below : Row-counts ms r cells k 0 t
+  pub above : Row-counts ms r cells (k + 1) t 256
+  pub window : Slid ms r k t w
+  pub small : w < cap
+
+-- as the window leaves the sum t, the cell at its low end enters it, or none does, and the cell at t leaves it, or there is none
+pub record Moves (row : Ends) (m t : ℕ) (enters leaves : Bool) : Type 0 where
+  pub entering : enters ≡ true → row .low + m < t
+  pub staying : enters ≡ false → t ≤ row .low + m
+  pub leaving : leaves ≡ true → t ≤ row .high
+  pub passed : leaves ≡ false → row .high < t
+
+-- w is the window for the sum before t, and within the limit where the row after or N is
+pub record Moved (ms : List ℕ) (r k t w : ℕ) : Type 0 where
+  pub slid : Slid ms r k t w
+  pub within : Within ms r (k + 1) → w < cap
+  pub over : cap ≤ w → cap ≤ count ms (length ms) r
+
+-- so at each sum of a stretch of row k + 1, from `from` down to `end`
+pub record Stretch (row next : Ends) (m from end : ℕ) (enters leaves : Bool) : Type 0 where
+  pub low : next .low ≤ end
+  pub high : from ≤ next .high + 1
+  pub moves : (t : ℕ) → end ≤ t → t < from → Moves row m t enters leaves

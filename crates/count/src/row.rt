@@ -1,0 +1,276 @@
+// N in one row of cells, a cell for each sum: the row of one part more is written over it from its highest sum down, by a window that slides along it.
+ghost use mathlib.Core.Path.{_≡_};
+ghost use mathlib.Core.Bool.{true, false};
+ghost use Prim.Native.Nat.{_+_, _-_, _≤_, _<_, min};
+ghost use lib.ListN.{length};
+ghost use Rattle.walsh.specs.Order.{count};
+ghost use Rattle.bounds.specs.Edition.{whole, shapeChecks};
+ghost use Rattle.bounds.specs.Refusal.{firstRefusal};
+ghost use Rattle.band.specs.Band.{InBand, cap, numberOf};
+ghost use Rattle.band.specs.Window.{Slid};
+ghost use Rattle.count.specs.Row.{Passing, Row-counts, Within, Passed, Moves, Moved, Stretch};
+use band::window::table;
+use band::window::table::Counted;
+
+const MOST: u64 = 9_223_372_036_854_775_807;
+
+const CAP: u64 = 9_223_372_036_854_775_808;
+
+// The lowest and the highest sum of a row from which the total can still be reached.
+struct Ends {
+    low: usize,
+    high: usize,
+}
+
+// The sums of the row after from `t` on are written, and `window` is the number for the sum before.
+struct At {
+    t: usize,
+    window: u64,
+}
+
+fn ends_of(total: usize, left: usize, all: usize) -> Ends
+    requires { ⌜ left ≤ all ⌝ }
+    ensures { λ r. ⌜ (r .low ≡ total - (all - left)) × (r .high ≡ min total left) ⌝ }
+{
+    Ends {
+        low: walsh::over(total, all - left),
+        high: walsh::lesser(total, left),
+    }
+}
+
+// Whether a number that has to be looked at is over 2^63 - 1.
+fn is_over(w: u64, careful: bool) -> bool
+    ensures { λ r. ⌜ (r ≡ true → cap ≤ w) × (r ≡ false → careful ≡ true → w < cap) ⌝ }
+{
+    if careful { MOST < w } else { false }
+}
+
+// w - x + y. The difference of x and y comes first, so that one addition a cell waits for the one before.
+fn moved(w: u64, x: u64, y: u64) -> u64
+    requires { ⌜ (x ≤ w) × (w < cap) × (y < cap) ⌝ }
+    ensures { λ r. ⌜ r ≡ w - x + y ⌝ }
+{
+    if x <= y { w + (y - x) } else { w - (x - y) }
+}
+
+// The number for the sum `t` of the first `k` parts.
+fn cell(upper: &[u8], total: usize, k: usize, cells: &[u64], t: usize) -> u64
+    requires { ⌜ (total ≤ 255) × (length (now cells) ≡ 256) × InBand (now upper) total k t × Row-counts (now upper) total (now cells) k 0 (t + 1) ⌝ }
+    ensures { λ r. ⌜ (r ≡ count (now (upper .entry)) k t) × (r < cap) ⌝ }
+{
+    cells[t]
+}
+
+// The window for the highest sum of the row after, or a number over 2^63 - 1.
+fn top(
+    upper: &[u8],
+    total: usize,
+    k: usize,
+    m: usize,
+    row: Ends,
+    next: Ends,
+    cells: &[u64],
+    careful: bool,
+) -> u64
+    requires { ⌜ Passing (now upper) total k m row next × (length (now cells) ≡ 256) × Row-counts (now upper) total (now cells) k 0 256 × (careful ≡ false → Within (now upper) total (k + 1)) ⌝ }
+    ensures { λ r. ⌜ (r < cap → Slid (now (upper .entry)) total k (next .high + 1) r) × (cap ≤ r → cap ≤ count (now (upper .entry)) (length (now (upper .entry))) total) ⌝ }
+{
+    let end = row.high + 1;
+    let mut w: u64 = 0;
+    let mut t = row.low + walsh::over(walsh::over(next.high, m), row.low);
+    while t < end {
+        w += cell(upper, total, k, cells, t);
+        if is_over(w, careful) {
+            return w;
+        }
+        t += 1;
+    }
+    w
+}
+
+// The window moved from the sum `t` to the sum before, where it is known whether a cell enters it and whether one leaves it.
+fn step(
+    upper: &[u8],
+    total: usize,
+    k: usize,
+    m: usize,
+    row: Ends,
+    next: Ends,
+    cells: &[u64],
+    t: usize,
+    w: u64,
+    enters: bool,
+    leaves: bool,
+) -> u64
+    requires { ⌜ Passing (now upper) total k m row next × (next .low ≤ t) × (t ≤ next .high) × Passed (now upper) total k (t + 1) w (now cells) × Moves row m t enters leaves ⌝ }
+    ensures { λ r. ⌜ Moved (now (upper .entry)) total k t r ⌝ }
+{
+    if enters {
+        let y = cell(upper, total, k, cells, t - (m + 1));
+        if leaves {
+            return moved(w, cell(upper, total, k, cells, t), y);
+        }
+        return w + y;
+    }
+    if leaves {
+        return w - cell(upper, total, k, cells, t);
+    }
+    w
+}
+
+// Writes the row after from the sum before `at` down to `end`, or stops at a number over 2^63 - 1.
+fn fall(
+    upper: &[u8],
+    total: usize,
+    k: usize,
+    m: usize,
+    row: Ends,
+    next: Ends,
+    cells: &mut [u64],
+    at: At,
+    end: usize,
+    enters: bool,
+    leaves: bool,
+    careful: bool,
+) -> At
+    requires { ⌜ Passing (now upper) total k m row next × Stretch row next m (at .t) end enters leaves × Passed (now upper) total k (at .t) (at .window) (now cells) × (careful ≡ false → Within (now upper) total (k + 1)) ⌝ }
+    ensures { λ r. ⌜ (r .window < cap → (r .t ≡ min (at .t) end) × Passed (now (upper .entry)) total k (r .t) (r .window) (now (cells .exit))) × (cap ≤ r .window → cap ≤ count (now (upper .entry)) (length (now (upper .entry))) total) ⌝ }
+{
+    let mut w = at.window;
+    let mut t = at.t;
+    while end < t {
+        t -= 1;
+        let before = step(upper, total, k, m, row, next, cells, t, w, enters, leaves);
+        cells[t] = w;
+        w = before;
+        if is_over(w, careful) {
+            return At { t, window: w };
+        }
+    }
+    At { t, window: w }
+}
+
+// The row of `k + 1` parts over that of `k`, or false at a number over 2^63 - 1.
+fn pass(
+    upper: &[u8],
+    total: usize,
+    k: usize,
+    m: usize,
+    row: Ends,
+    next: Ends,
+    cells: &mut [u64],
+    careful: bool,
+) -> bool
+    requires { ⌜ Passing (now upper) total k m row next × (length (now cells) ≡ 256) × Row-counts (now upper) total (now cells) k 0 256 × (careful ≡ false → Within (now upper) total (k + 1)) ⌝ }
+    ensures { λ r. ⌜ (r ≡ true → Row-counts (now (upper .entry)) total (now (cells .exit)) (k + 1) 0 256) × (r ≡ false → cap ≤ count (now (upper .entry)) (length (now (upper .entry))) total) ⌝ }
+{
+    let w = top(upper, total, k, m, row, next, cells, careful);
+    if MOST < w {
+        return false;
+    }
+    let full = row.low + m;
+    let least = walsh::lesser(row.high, full);
+    let both = full < row.high;
+    let first = At {
+        t: next.high + 1,
+        window: w,
+    };
+    let second = fall(
+        upper,
+        total,
+        k,
+        m,
+        row,
+        next,
+        cells,
+        first,
+        row.high + full - least + 1,
+        true,
+        false,
+        careful,
+    );
+    if MOST < second.window {
+        return false;
+    }
+    let low = next.low + walsh::over(least + 1, next.low);
+    let third = fall(
+        upper,
+        total,
+        k,
+        m,
+        row,
+        next,
+        cells,
+        second,
+        low,
+        both,
+        both,
+        careful,
+    );
+    if MOST < third.window {
+        return false;
+    }
+    let last = fall(
+        upper,
+        total,
+        k,
+        m,
+        row,
+        next,
+        cells,
+        third,
+        next.low,
+        false,
+        true,
+        careful,
+    );
+    last.window <= MOST
+}
+
+// The number of compositions, or 2^63 where that is less.
+fn rows(upper: &[u8], total: usize, all: usize, cells: &mut [u64]) -> u64
+    requires { ⌜ (length (now upper) ≤ 24) × (total ≤ 255) × (total ≤ whole (now upper)) × (all ≡ whole (now upper)) × (length (now cells) ≡ 256) ⌝ }
+    ensures { λ r. ⌜ r ≡ min (count (now (upper .entry)) (length (now (upper .entry))) total) cap ⌝ }
+{
+    let few = crate::few_parts(upper, total);
+    let mut left = 0;
+    let mut row = ends_of(total, 0, all);
+    cells[0] = 1;
+    let mut k = 0;
+    while k < upper.len() {
+        let m = walsh::wide(upper[k]);
+        left += m;
+        let next = ends_of(total, left, all);
+        if !pass(upper, total, k, m, row, next, cells, few <= k) {
+            return CAP;
+        }
+        row = next;
+        k += 1;
+    }
+    cells[total]
+}
+
+// N of a shape that is accepted.
+fn count_row(upper: &[u8], total: u32, all: usize) -> Counted
+    requires { ⌜ (firstRefusal (shapeChecks (now upper) total) .number ≡ 0) × (all ≡ whole (now upper)) ⌝ }
+    ensures { λ r. ⌜ r ≡ numberOf (now (upper .entry)) total ⌝ }
+{
+    let mut cells = [0u64; 256];
+    let n = rows(upper, total as usize, all, &mut cells);
+    table::within_limit(n)
+}
+
+// N, or the refusal. "N of a puzzle edition of 2 to 16 sheets is read from" the constant table.
+pub fn number(upper: &[u8], total: u32) -> Counted
+    ensures { λ r. ⌜ r ≡ numberOf (now (upper .entry)) total ⌝ }
+{
+    let s = bounds::shape(upper, total);
+    if 0 < s.number {
+        return table::uncounted(s.number, s.detail);
+    }
+    let e = mahonian::staircase_count(upper, total);
+    if let mahonian::Entry::Count(n) = e {
+        return table::within_limit(n);
+    }
+    count_row(upper, total, s.all)
+}
