@@ -49,7 +49,7 @@ module _ (ms : List ℕ) (r e : ℕ) where
       let long : n ≡ length g = size ∙ sym (valid .size) in
       let same : take n next ≡ g = rw (cells, long) (take-cells g) in
       let serial : serialOf ms r g ≡ e + 1 = serial-composition ms r (e + 1) (omega arith) (omega arith) in
-      let did : _≡_ {A = Bool × List ℕ} (b, h) (advanceOf ms r g) = rw same at (step few (rw same valid)) in
+      let did : _≡_ {A = Bool × List ℕ} (b, h) (advanceOf ms r g) = rw same at (step .next few (rw same valid)) in
       let to : h ≡ compositionOf ms r (min (e + 1 + 1) (length gs)) = ap (λ (p : Bool × List ℕ). p .1) did ∙ reached serial in
       let valid′ : Composition ms r h = rw to (composition-is ms r (min (e + 1 + 1) (length gs)) (omega arith) (omega arith)) in
       rw (cells, long) (refilled g h (valid′ .size ∙ sym (valid .size))) ∙ ap cellsOf to ∙ sym (at-serial (e + 1))

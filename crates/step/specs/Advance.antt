@@ -3,7 +3,7 @@
 use mathlib.Core.Path.{_≡_}
 use mathlib.Core.Bool.{Bool, true, false, cond}
 use mathlib.Core.List.{List}
-use Prim.Native.Nat.{ℕ, _+_, _≤_}
+use Prim.Native.Nat.{ℕ, _+_, _≤_, _<_}
 use lib.Dec.{eqb}
 use lib.ListN.{length}
 use Rattle.walsh.specs.Order.{Composition, countOf}
@@ -13,6 +13,8 @@ use Rattle.walsh.specs.Serial.{serialOf, compositionOf}
 unfoldable pub advanceOf : List ℕ → ℕ → List ℕ → Bool × List ℕ
 advanceOf ms r g = cond (eqb (serialOf ms r g) (countOf ms r)) (false, g) (true, compositionOf ms r (serialOf ms r g + 1))
 
--- with g lent, the answer is b and the bytes are then h. Nothing is said where g is no composition.
-abbrev pub Advances : List ℕ → ℕ → List ℕ → Bool → List ℕ → Type 0
-Advances ms r g b h = length ms ≤ 24 → Composition ms r g → _≡_ {A = Bool × List ℕ} (b, h) (advanceOf ms r g)
+-- with g lent, the answer is b and the bytes are then h. Of parts within no bounds or with another sum nothing is said.
+pub record Advances (ms : List ℕ) (r : ℕ) (g : List ℕ) (b : Bool) (h : List ℕ) : Type 0 where
+  pub next : length ms ≤ 24 → Composition ms r g → _≡_ {A = Bool × List ℕ} (b, h) (advanceOf ms r g)
+  pub many : 24 < length ms → _≡_ {A = Bool × List ℕ} (b, h) (false, g)
+  pub other : (length g ≡ length ms → ⊥) → _≡_ {A = Bool × List ℕ} (b, h) (false, g)

@@ -40,7 +40,7 @@ loop-again c =
     let valid = filling-valid p (l .inv .1) (omega arith) in
     let on = c .before .before .advance in (
       on .kept .1 .1 .0 ∙ l .inv .0,
-      filling-next p (l .inv .1) (omega arith) (on .result) _ (room (c .before .before .before .before .before .before .before .before .before)) (c .before .before .before .before .before .before .put-line .ensures) (on .ensures (p .few) valid),
+      filling-next p (l .inv .1) (omega arith) (on .result) _ (room (c .before .before .before .before .before .before .before .before .before)) (c .before .before .before .before .before .before .put-line .ensures) (on .ensures .next (p .few) valid),
     )
 
 pub put-lines-spec : {M : Type 1} → statement M

@@ -1,4 +1,5 @@
 -- `step::advance` meets its contract.
+use mathlib.Core.Path.{refl}
 use native.Mathlib.Nat.{le-refl}
 use native.Mathlib.Omega.{arith}
 use borrow.Author.Needs.{needs}
@@ -10,9 +11,14 @@ pub advance-spec : {M : Type 1} → statement M
 advance-spec =
     tie.close
     (tie.spec
-    (λ c few valid. advanced-none _ _ _ valid (c .if1 .taken))
-    (λ c few valid. absurd (omega arith))
-    (λ c few valid. absurd (c .if3 .taken (valid .size)))
+    (λ c. record { next = λ few valid. advanced-none _ _ _ valid (c .if1 .taken); many = λ l. refl; other = λ ne. refl })
+    (λ c. record { next = λ few valid. absurd (omega arith); many = λ l. refl; other = λ ne. refl })
+    (λ c. record { next = λ few valid. absurd (c .if3 .taken (valid .size)); many = λ l. refl; other = λ ne. refl })
     (λ c κs. search needs)
     (λ c. search needs)
-    (λ c few valid. advanced _ _ _ valid _ _ (c .before .before .turn .ensures (moving _ _ _ valid _ (le-refl _)))))
+    (λ c.
+    record {
+      next = λ few valid. advanced _ _ _ valid _ _ (c .before .before .turn .ensures (moving _ _ _ valid _ (le-refl _)));
+      many = λ l. absurd (omega arith);
+      other = λ ne. absurd (ne (c .before .before .before .before .if3 .left));
+    }))
