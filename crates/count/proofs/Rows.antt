@@ -21,6 +21,7 @@ use Rattle.band.proofs.Bands.{band-most, band-ends, low-high}
 use Rattle.band.proofs.Slides.{behind-in, slid-done}
 use Rattle.count.specs.Row.{IsEnds, Passing, Row-counts, Within, Passed, Moved}
 use Rattle.count.specs.declared.row.Ends.{Ends}
+use Rattle.count.specs.declared.row.Part.{Part}
 use Rattle.count.proofs.Falls.{fall-leaves, fall-over, fall-under, fall-count}
 
 beyond : (r s h t : ℕ) → h ≡ min r s → h < t → t ≤ r → s < t
@@ -33,54 +34,54 @@ min-le : (r s t : ℕ) → t ≤ min r s → t ≤ r
 min-le r s t l = omega arith
 
 -- at a sum t of row k + 1
-module _ (ms : List ℕ) (r k m : ℕ) (row next : Ends) (p : Passing ms r k m row next) (t : ℕ) (l : next .low ≤ t) (h : t ≤ next .high) where
-  at-high : t ≤ highest ms r (k + 1)
+module _ (ms : List ℕ) (r : ℕ) (part : Part) (p : Passing ms r part) (t : ℕ) (l : part .next .low ≤ t) (h : t ≤ part .next .high) where
+  at-high : t ≤ highest ms r (part .k + 1)
   at-high = rw (← (p .to .high)) h
 
   pub at-total : t ≤ r
-  at-total = min-le r (sumTo ms (k + 1)) t at-high
+  at-total = min-le r (sumTo ms (part .k + 1)) t at-high
 
-  pub at-next : InBand ms r (k + 1) t
-  at-next = band-ends ms r (k + 1) t (rw (← (p .to .low)) l) at-high
+  pub at-next : InBand ms r (part .k + 1) t
+  at-next = band-ends ms r (part .k + 1) t (rw (← (p .to .low)) l) at-high
 
-  pub at-low : lowest ms r k ≤ t
-  at-low = le-trans (low-high ms r k (p .reached) (p .part) .1) (rw (← (p .to .low)) l)
+  pub at-low : lowest ms r (part .k) ≤ t
+  at-low = le-trans (low-high ms r (part .k) (p .reached) (p .given) .1) (rw (← (p .to .low)) l)
 
   -- the cell that leaves, where there is one
-  pub leaving-in : t ≤ row .high → InBand ms r k t
-  leaving-in g = band-ends ms r k t at-low (rw (← (p .from .high)) g)
+  pub leaving-in : t ≤ part .row .high → InBand ms r (part .k) t
+  leaving-in g = band-ends ms r (part .k) t at-low (rw (← (p .from .high)) g)
 
-  pub passed-none : row .high < t → 0 ≡ count ms k t
-  passed-none g = sym (count-none ms k t (beyond r (sumTo ms k) (row .high) t (p .from .high) g at-total))
+  pub passed-none : part .row .high < t → 0 ≡ count ms (part .k) t
+  passed-none g = sym (count-none ms (part .k) t (beyond r (sumTo ms (part .k)) (part .row .high) t (p .from .high) g at-total))
 
   -- and the cell that enters
-  full-at : row .low + m < t → lowest ms r k + m < t
+  full-at : part .row .low + part .m < t → lowest ms r (part .k) + part .m < t
   full-at g = rw (← (p .from .low)) g
 
-  pub entering-in : row .low + m < t → InBand ms r k (t - (m + 1))
-  entering-in g = behind-in ms r k t m (p .bound) at-high (full-at g)
+  pub entering-in : part .row .low + part .m < t → InBand ms r (part .k) (t - (part .m + 1))
+  entering-in g = behind-in ms r (part .k) t (part .m) (p .bound) at-high (full-at g)
 
-  module _ (w : ℕ) (cells : List ℕ) (s : Passed ms r k (t + 1) w cells) where
-    pub leaving-most : (x : ℕ) → x ≡ count ms k t → x ≤ w
-    leaving-most x ex = fall-leaves ms r k t m w x 0 (s .window) (p .bound) at-low ex
+  module _ (w : ℕ) (cells : List ℕ) (s : Passed ms r (part .k) (t + 1) w cells) where
+    pub leaving-most : (x : ℕ) → x ≡ count ms (part .k) t → x ≤ w
+    leaving-most x ex = fall-leaves ms r (part .k) t (part .m) w x 0 (s .window) (p .bound) at-low ex
 
-    pub move-over : (x y v : ℕ) → row .low + m < t → x ≡ count ms k t → y ≡ count ms k (t - (m + 1)) → v ≡ w - x + y → Moved ms r k t v
+    pub move-over : (x y v : ℕ) → part .row .low + part .m < t → x ≡ count ms (part .k) t → y ≡ count ms (part .k) (t - (part .m + 1)) → v ≡ w - x + y → Moved ms r (part .k) t v
     move-over x y v g ex ey ev =
-        let slid : Slid ms r k t v = rw ev (fall-over ms r k t m w x y (s .window) (p .bound) (full-at g) ex ey) in
-        let c = fall-count ms r k t v (p .part) (p .reached) slid (rw (← (p .bound)) (full-at g)) at-high in
+        let slid : Slid ms r (part .k) t v = rw ev (fall-over ms r (part .k) t (part .m) w x y (s .window) (p .bound) (full-at g) ex ey) in
+        let c = fall-count ms r (part .k) t v (p .given) (p .reached) slid (rw (← (p .bound)) (full-at g)) at-high in
         record {
           slid = slid;
           within = λ q. rw (c .1) (q (t - 1) (le-trans before at-total));
-          over = λ q. le-trans (rw (c .1) at q) (band-most ms r (k + 1) (t - 1) (suc-le (p .part)) (c .0));
+          over = λ q. le-trans (rw (c .1) at q) (band-most ms r (part .k + 1) (t - 1) (suc-le (p .given)) (c .0));
         }
       where
         suc-le : {a b : ℕ} → a < b → a + 1 ≤ b
         suc-le q = omega arith
 
-    pub move-under : (x v : ℕ) → t ≤ row .low + m → x ≡ count ms k t → v ≡ w - x → Moved ms r k t v
+    pub move-under : (x v : ℕ) → t ≤ part .row .low + part .m → x ≡ count ms (part .k) t → v ≡ w - x → Moved ms r (part .k) t v
     move-under x v g ex ev =
         record {
-          slid = rw ev (fall-under ms r k t m w x 0 (s .window) (p .bound) at-low (rw (← (p .from .low)) g) ex);
+          slid = rw ev (fall-under ms r (part .k) t (part .m) w x 0 (s .window) (p .bound) at-low (rw (← (p .from .low)) g) ex);
           within = λ q. less (s .small);
           over = λ q. absurd (omega (arith, q, less (s .small)));
         }
@@ -89,22 +90,22 @@ module _ (ms : List ℕ) (r k m : ℕ) (row next : Ends) (p : Passing ms r k m r
         less q = omega arith
 
     -- the window's number is stored
-    pub stored : (v : ℕ) → t < 256 → Slid ms r k t v → v < cap → Passed ms r k t v (set cells t w)
+    pub stored : (v : ℕ) → t < 256 → Slid ms r (part .k) t v → v < cap → Passed ms r (part .k) t v (set cells t w)
     stored v b slid small =
         record {
           long = length-set cells t w ∙ s .long;
           below = λ u i a c. let old = s .below u i a (lt-suc c) in (getD-set-other cells t u w 0 (λ q. omega (arith, c, q)) ∙ old .0, old .1);
           above = λ u i a c. on-less t u
               (λ tu _. let old = s .above u i (suc-le tu) c in (getD-set-other cells t u w 0 (λ q. omega (arith, tu, q)) ∙ old .0, old .1))
-              (λ ut _. let q : t ≡ u = omega arith in subst (λ (n : ℕ). (getD (set cells t w) n 0 ≡ count ms (k + 1) n) × (count ms (k + 1) n < cap)) q here);
+              (λ ut _. let q : t ≡ u = omega arith in subst (λ (n : ℕ). (getD (set cells t w) n 0 ≡ count ms (part .k + 1) n) × (count ms (part .k + 1) n < cap)) q here);
           window = slid;
           small = small;
         }
       where
-        is : w ≡ count ms (k + 1) t
-        is = slid-done ms r k t w (p .part) (p .reached) (s .window) (rw (← (p .to .low)) l)
+        is : w ≡ count ms (part .k + 1) t
+        is = slid-done ms r (part .k) t w (p .given) (p .reached) (s .window) (rw (← (p .to .low)) l)
 
-        here : (getD (set cells t w) t 0 ≡ count ms (k + 1) t) × (count ms (k + 1) t < cap)
+        here : (getD (set cells t w) t 0 ≡ count ms (part .k + 1) t) × (count ms (part .k + 1) t < cap)
         here = (getD-set-same cells t w 0 (rw (s .long) b) ∙ is, rw is at (s .small))
 
         suc-le : {u : ℕ} → t < u → t + 1 ≤ u
@@ -114,46 +115,46 @@ module _ (ms : List ℕ) (r k m : ℕ) (row next : Ends) (p : Passing ms r k m r
         lt-suc q = omega arith
 
 -- the first window of row k + 1 has the cells from a up to the row's end
-module _ (ms : List ℕ) (r k m : ℕ) (row next : Ends) (p : Passing ms r k m row next) where
+module _ (ms : List ℕ) (r : ℕ) (part : Part) (p : Passing ms r part) where
   abbrev f : ℕ → ℕ
-  f = count ms k
+  f = count ms (part .k)
 
-  next-left : sumTo ms (k + 1) ≡ sumTo ms k + m
-  next-left = rw (p .bound) (sum-step (λ j. getD ms j 0) k)
+  next-left : sumTo ms (part .k + 1) ≡ sumTo ms (part .k) + part .m
+  next-left = rw (p .bound) (sum-step (λ j. getD ms j 0) (part .k))
 
-  pub next-rises : next .low ≤ next .high
-  next-rises = rw (p .to .low, p .to .high) (low-high ms r k (p .reached) (p .part) .0)
+  pub next-rises : part .next .low ≤ part .next .high
+  next-rises = rw (p .to .low, p .to .high) (low-high ms r (part .k) (p .reached) (p .given) .0)
 
-  pub top-next : InBand ms r (k + 1) (next .high)
-  top-next = at-next ms r k m row next p (next .high) next-rises (le-refl _)
+  pub top-next : InBand ms r (part .k + 1) (part .next .high)
+  top-next = at-next ms r part p (part .next .high) next-rises (le-refl _)
 
-  high-rises : row .high ≤ next .high
-  high-rises = go (sumTo ms k) (sumTo ms (k + 1)) (p .from .high) (p .to .high) next-left
+  high-rises : part .row .high ≤ part .next .high
+  high-rises = go (sumTo ms (part .k)) (sumTo ms (part .k + 1)) (p .from .high) (p .to .high) next-left
     where
-      go : (s s′ : ℕ) → row .high ≡ min r s → next .high ≡ min r s′ → s′ ≡ s + m → row .high ≤ next .high
+      go : (s s′ : ℕ) → part .row .high ≡ min r s → part .next .high ≡ min r s′ → s′ ≡ s + part .m → part .row .high ≤ part .next .high
       go s s′ a b e = omega arith
 
-  row-rises : row .low ≤ row .high
-  row-rises = go (sumTo ms k) (whole ms) (p .from .low) (p .from .high) (sum-to-mono ms k (length ms) (le-of-lt (p .part))) (p .reached)
+  row-rises : part .row .low ≤ part .row .high
+  row-rises = go (sumTo ms (part .k)) (whole ms) (p .from .low) (p .from .high) (sum-to-mono ms (part .k) (length ms) (le-of-lt (p .given))) (p .reached)
     where
-      go : (s n : ℕ) → row .low ≡ r - (n - s) → row .high ≡ min r s → s ≤ n → r ≤ n → row .low ≤ row .high
+      go : (s n : ℕ) → part .row .low ≡ r - (n - s) → part .row .high ≡ min r s → s ≤ n → r ≤ n → part .row .low ≤ part .row .high
       go s n a b l h = omega arith
 
-  pub first-at : (a : ℕ) → a ≡ row .low + (next .high - m - row .low) → (row .low ≤ a) × (a ≤ row .high + 1) × (next .high - m ≤ a)
-  first-at a e = go (sumTo ms k) (sumTo ms (k + 1)) (p .from .high) (p .to .high) next-left row-rises
+  pub first-at : (a : ℕ) → a ≡ part .row .low + (part .next .high - part .m - part .row .low) → (part .row .low ≤ a) × (a ≤ part .row .high + 1) × (part .next .high - part .m ≤ a)
+  first-at a e = go (sumTo ms (part .k)) (sumTo ms (part .k + 1)) (p .from .high) (p .to .high) next-left row-rises
     where
-      go : (s s′ : ℕ) → row .high ≡ min r s → next .high ≡ min r s′ → s′ ≡ s + m → row .low ≤ row .high → (row .low ≤ a) × (a ≤ row .high + 1) × (next .high - m ≤ a)
+      go : (s s′ : ℕ) → part .row .high ≡ min r s → part .next .high ≡ min r s′ → s′ ≡ s + part .m → part .row .low ≤ part .row .high → (part .row .low ≤ a) × (a ≤ part .row .high + 1) × (part .next .high - part .m ≤ a)
       go s s′ x y z l = (omega arith, omega arith, omega arith)
 
-  pub row-in : (t : ℕ) → row .low ≤ t → t < row .high + 1 → InBand ms r k t
-  row-in t l h = band-ends ms r k t (rw (← (p .from .low)) l) (rw (← (p .from .high)) (le-of h))
+  pub row-in : (t : ℕ) → part .row .low ≤ t → t < part .row .high + 1 → InBand ms r (part .k) t
+  row-in t l h = band-ends ms r (part .k) t (rw (← (p .from .low)) l) (rw (← (p .from .high)) (le-of h))
     where
       le-of : {a b : ℕ} → a < b + 1 → a ≤ b
       le-of q = omega arith
 
   -- it is at most the highest number of row k + 1
-  pub top-within : (a t w : ℕ) → w + sum f a ≡ sum f t → next .high - m ≤ a → t ≤ row .high + 1 → (Within ms r (k + 1) → w < cap) × (cap ≤ w → cap ≤ count ms (length ms) r)
-  top-within a t w e l h = (λ q. le-lt most (q (next .high) (top-next .high)), λ q. le-trans (le-trans q most) (band-most ms r (k + 1) (next .high) (suc-le (p .part)) top-next))
+  pub top-within : (a t w : ℕ) → w + sum f a ≡ sum f t → part .next .high - part .m ≤ a → t ≤ part .row .high + 1 → (Within ms r (part .k + 1) → w < cap) × (cap ≤ w → cap ≤ count ms (length ms) r)
+  top-within a t w e l h = (λ q. le-lt most (q (part .next .high) (top-next .high)), λ q. le-trans (le-trans q most) (band-most ms r (part .k + 1) (part .next .high) (suc-le (p .given)) top-next))
     where
       suc-le : {a b : ℕ} → a < b → a + 1 ≤ b
       suc-le q = omega arith
@@ -167,17 +168,17 @@ module _ (ms : List ℕ) (r k m : ℕ) (row next : Ends) (p : Passing ms r k m r
       add-le : {a b : ℕ} → a ≤ b → a + 1 ≤ b + 1
       add-le q = omega arith
 
-      most : w ≤ count ms (k + 1) (next .high)
+      most : w ≤ count ms (part .k + 1) (part .next .high)
       most =
           rw add-one
-          (join (count-window ms k (next .high)) (sum-mono f (next .high - getD ms k 0) a (rw (p .bound) at l)) (sum-mono f t (next .high + 1) (le-trans h (add-le high-rises))))
+          (join (count-window ms (part .k) (part .next .high)) (sum-mono f (part .next .high - getD ms (part .k) 0) a (rw (p .bound) at l)) (sum-mono f t (part .next .high + 1) (le-trans h (add-le high-rises))))
 
   -- sums that the first k parts do not reach add nothing
-  pub top-slid : (a w : ℕ) → a ≡ row .low + (next .high - m - row .low) → w + sum f a ≡ sum f (row .high + 1) → Slid ms r k (next .high + 1) w
+  pub top-slid : (a w : ℕ) → a ≡ part .row .low + (part .next .high - part .m - part .row .low) → w + sum f a ≡ sum f (part .row .high + 1) → Slid ms r (part .k) (part .next .high + 1) w
   top-slid a w ea e =
       rw (← (p .bound), ← (p .from .low))
-      (join (sum-at f (max (row .low) (next .high + 1 - (m + 1))) a (omega arith))
-      (sum-stop f (row .high + 1) (next .high + 1) (add-le high-rises) (λ i x y. count-none ms k i (beyond r (sumTo ms k) (row .high) i (p .from .high) (lt-of x) (le-trans (le-of y) (top-next .high))))))
+      (join (sum-at f (max (part .row .low) (part .next .high + 1 - (part .m + 1))) a (omega arith))
+      (sum-stop f (part .row .high + 1) (part .next .high + 1) (add-le high-rises) (λ i x y. count-none ms (part .k) i (beyond r (sumTo ms (part .k)) (part .row .high) i (p .from .high) (lt-of x) (le-trans (le-of y) (top-next .high))))))
     where
       le-of : {a b : ℕ} → a < b + 1 → a ≤ b
       le-of q = omega arith
@@ -188,7 +189,7 @@ module _ (ms : List ℕ) (r k m : ℕ) (row next : Ends) (p : Passing ms r k m r
       lt-of : {a b : ℕ} → a + 1 ≤ b → a < b
       lt-of q = omega arith
 
-      join : {b d : ℕ} → b ≡ sum f a → d ≡ sum f (row .high + 1) → w + b ≡ d
+      join : {b d : ℕ} → b ≡ sum f a → d ≡ sum f (part .row .high + 1) → w + b ≡ d
       join x y = omega arith
 
 -- the numbers of the first row and of the next

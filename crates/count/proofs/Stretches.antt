@@ -14,7 +14,7 @@ use Rattle.band.specs.Band.{cap}
 use Rattle.band.specs.Window.{Slid}
 use Rattle.band.proofs.Bands.{low-next}
 use Rattle.count.specs.Row.{Passing, Row-counts, Passed, Stretch}
-use Rattle.count.specs.declared.row.Ends.{Ends}
+use Rattle.count.specs.declared.row.Part.{Part}
 use Rattle.count.proofs.Rows.{next-rises}
 
 no : {G : Type 0} → true ≡ false → G
@@ -54,62 +54,62 @@ under a n x t l h = omega arith
 ends-at : (a b n x : ℕ) → n ≤ a → n ≤ b → min (min (min a b) (n + x)) n ≡ n
 ends-at a b n x p q = omega arith
 
-module _ (ms : List ℕ) (r k m : ℕ) (row next : Ends) (p : Passing ms r k m row next) (l : ℕ) (e : l ≡ min (row .high) (row .low + m)) where
+module _ (ms : List ℕ) (r : ℕ) (part : Part) (p : Passing ms r part) (l : ℕ) (e : l ≡ min (part .row .high) (part .row .low + part .m)) where
   abbrev full : ℕ
-  full = row .low + m
+  full = part .row .low + part .m
 
   abbrev most : ℕ
-  most = row .high + full - l
+  most = part .row .high + full - l
 
-  low-full : next .low ≤ full
-  low-full = rw (p .to .low, p .from .low, p .bound) (low-next ms r k (p .part))
+  low-full : part .next .low ≤ full
+  low-full = rw (p .to .low, p .from .low, p .bound) (low-next ms r (part .k) (p .given))
 
-  high-next : next .low ≤ next .high + 1
-  high-next = go (next-rises ms r k m row next p)
+  high-next : part .next .low ≤ part .next .high + 1
+  high-next = go (next-rises ms r part p)
     where
       go : {a b : ℕ} → a ≤ b → a ≤ b + 1
       go q = omega arith
 
-  pub grows : Stretch row next m (next .high + 1) (most + 1) true false
+  pub grows : Stretch (part .row) (part .next) (part .m) (part .next .high + 1) (most + 1) true false
   grows =
       record {
-        low = larger (row .high) full l (next .low) e low-full;
+        low = larger (part .row .high) full l (part .next .low) e low-full;
         high = le-refl _;
-        moves = λ t a b. let q = above (row .high) full l t e a in record { entering = λ _. q .0; staying = no; leaving = no′; passed = λ _. q .1 };
+        moves = λ t a b. let q = above (part .row .high) full l t e a in record { entering = λ _. q .0; staying = no; leaving = no′; passed = λ _. q .1 };
       }
 
-  pub slides : (from end : ℕ) → from ≡ min (next .high + 1) (most + 1) → end ≡ next .low + (l + 1 - next .low) → Stretch row next m from end (ltb full (row .high)) (ltb full (row .high))
+  pub slides : (from end : ℕ) → from ≡ min (part .next .high + 1) (most + 1) → end ≡ part .next .low + (l + 1 - part .next .low) → Stretch (part .row) (part .next) (part .m) from end (ltb full (part .row .high)) (ltb full (part .row .high))
   slides from end ef ee =
       record {
-        low = rw ee (least-le (next .low) (l + 1));
+        low = rw ee (least-le (part .next .low) (l + 1));
         high = rw ef (min-left _ _ _ (le-refl _));
         moves = λ t a b.
-            let q = between (row .high) full l t e (least-lt (next .low) l t (rw ee at a)) (min-right (next .high + 1) most t (rw ef at b)) in
+            let q = between (part .row .high) full l t e (least-lt (part .next .low) l t (rw ee at a)) (min-right (part .next .high + 1) most t (rw ef at b)) in
             record {
-              entering = λ h. q .0 (ltb-true full (row .high) h) .0;
-              staying = λ h. q .1 (ltb-false full (row .high) h) .1;
-              leaving = λ h. q .0 (ltb-true full (row .high) h) .1;
-              passed = λ h. q .1 (ltb-false full (row .high) h) .0;
+              entering = λ h. q .0 (ltb-true full (part .row .high) h) .0;
+              staying = λ h. q .1 (ltb-false full (part .row .high) h) .1;
+              leaving = λ h. q .0 (ltb-true full (part .row .high) h) .1;
+              passed = λ h. q .1 (ltb-false full (part .row .high) h) .0;
             };
       }
 
-  pub shrinks : (before from : ℕ) → before ≡ min (next .high + 1) (most + 1) → from ≡ min before (next .low + (l + 1 - next .low)) → Stretch row next m from (next .low) false true
+  pub shrinks : (before from : ℕ) → before ≡ min (part .next .high + 1) (most + 1) → from ≡ min before (part .next .low + (l + 1 - part .next .low)) → Stretch (part .row) (part .next) (part .m) from (part .next .low) false true
   shrinks before from eb ef =
       record {
         low = le-refl _;
         high = rw (ef, eb) (min-left _ _ _ (min-left _ _ _ (le-refl _)));
         moves = λ t a b.
-            let q = below (row .high) full l t e (under before (next .low) l t a (rw ef at b)) in
+            let q = below (part .row .high) full l t e (under before (part .next .low) l t a (rw ef at b)) in
             record { entering = no′; staying = λ _. q .0; leaving = λ _. q .1; passed = no };
       }
 
   -- they end at the row's lowest sum
-  pub ends : (before from t : ℕ) → before ≡ min (next .high + 1) (most + 1) → from ≡ min before (next .low + (l + 1 - next .low)) → t ≡ min from (next .low) → t ≡ next .low
-  ends before from t eb ef et = et ∙ rw (ef, eb) (ends-at (next .high + 1) (most + 1) (next .low) (l + 1 - next .low) high-next (larger (row .high) full l (next .low) e low-full))
+  pub ends : (before from t : ℕ) → before ≡ min (part .next .high + 1) (most + 1) → from ≡ min before (part .next .low + (l + 1 - part .next .low)) → t ≡ min from (part .next .low) → t ≡ part .next .low
+  ends before from t eb ef et = et ∙ rw (ef, eb) (ends-at (part .next .high + 1) (most + 1) (part .next .low) (l + 1 - part .next .low) high-next (larger (part .row .high) full l (part .next .low) e low-full))
 
 -- before the row is written, and when it is
-module _ (ms : List ℕ) (r k m : ℕ) (row next : Ends) (p : Passing ms r k m row next) (w : ℕ) (cells : List ℕ) where
-  pub unwritten : length cells ≡ 256 → Row-counts ms r cells k 0 256 → Slid ms r k (next .high + 1) w → w < cap → Passed ms r k (next .high + 1) w cells
+module _ (ms : List ℕ) (r : ℕ) (part : Part) (p : Passing ms r part) (w : ℕ) (cells : List ℕ) where
+  pub unwritten : length cells ≡ 256 → Row-counts ms r cells (part .k) 0 256 → Slid ms r (part .k) (part .next .high + 1) w → w < cap → Passed ms r (part .k) (part .next .high + 1) w cells
   unwritten long old s small =
       record {
         long = long;
@@ -122,8 +122,8 @@ module _ (ms : List ℕ) (r k m : ℕ) (row next : Ends) (p : Passing ms r k m r
       less : {u : ℕ} → u ≤ r → r ≤ 255 → u < 256
       less a b = omega arith
 
-  pub written : (t : ℕ) → t ≡ next .low → Passed ms r k t w cells → Row-counts ms r cells (k + 1) 0 256
+  pub written : (t : ℕ) → t ≡ part .next .low → Passed ms r (part .k) t w cells → Row-counts ms r cells (part .k + 1) 0 256
   written t e s u i a b = s .above u i (le (i .low)) b
     where
-      le : r ≤ u + (whole ms - sumTo ms (k + 1)) → t ≤ u
+      le : r ≤ u + (whole ms - sumTo ms (part .k + 1)) → t ≤ u
       le h = omega (arith, e, p .to .low)

@@ -9,6 +9,7 @@ use Rattle.bounds.specs.Edition.{whole}
 use Rattle.band.specs.Band.{InBand, lowest, highest, cap}
 use Rattle.band.specs.Window.{Slid}
 use Rattle.count.specs.declared.row.Ends.{Ends}
+use Rattle.count.specs.declared.row.Part.{Part}
 
 -- the code's numbers of row k
 pub record IsEnds (ms : List ℕ) (r k : ℕ) (e : Ends) : Type 0 where
@@ -16,14 +17,14 @@ pub record IsEnds (ms : List ℕ) (r k : ℕ) (e : Ends) : Type 0 where
   pub high : e .high ≡ highest ms r k
 
 -- what does not change while row k + 1 is written over row k; m is the bound of part k
-pub record Passing (ms : List ℕ) (r k m : ℕ) (row next : Ends) : Type 0 where
-  pub part : k < length ms
+pub record Passing (ms : List ℕ) (r : ℕ) (part : Part) : Type 0 where
+  pub given : part .k < length ms
   pub small : r ≤ 255
   pub reached : r ≤ whole ms
-  pub bound : m ≡ getD ms k 0
-  pub narrow : m ≤ 255
-  pub from : IsEnds ms r k row
-  pub to : IsEnds ms r (k + 1) next
+  pub bound : part .m ≡ getD ms (part .k) 0
+  pub narrow : part .m ≤ 255
+  pub from : IsEnds ms r (part .k) (part .row)
+  pub to : IsEnds ms r (part .k + 1) (part .next)
 
 -- the cells of the sums of row k from a on and below b have their counts, which are within the limit
 abbrev pub Row-counts : List ℕ → ℕ → List ℕ → ℕ → ℕ → ℕ → Type 0

@@ -28,6 +28,14 @@ struct At {
     window: u64,
 }
 
+// Part `k`, counted from 0, with its bound, and the sums of the rows before and after it.
+struct Part {
+    k: usize,
+    m: usize,
+    row: Ends,
+    next: Ends,
+}
+
 fn ends_of(total: usize, left: usize, all: usize) -> Ends
     requires { ⌜ left ≤ all ⌝ }
     ensures { λ r. ⌜ (r .low ≡ total - (all - left)) × (r .high ≡ min total left) ⌝ }
@@ -62,24 +70,17 @@ fn cell(upper: &[u8], total: usize, k: usize, cells: &[u64], t: usize) -> u64
 }
 
 // The window for the highest sum of the row after, or a number over 2^63 - 1.
-fn top(
-    upper: &[u8],
-    total: usize,
-    k: usize,
-    m: usize,
-    row: Ends,
-    next: Ends,
-    cells: &[u64],
-    careful: bool,
-) -> u64
-    requires { ⌜ Passing (now upper) total k m row next × (length (now cells) ≡ 256) × Row-counts (now upper) total (now cells) k 0 256 × (careful ≡ false → Within (now upper) total (k + 1)) ⌝ }
-    ensures { λ r. ⌜ (r < cap → Slid (now (upper .entry)) total k (next .high + 1) r) × (cap ≤ r → cap ≤ count (now (upper .entry)) (length (now (upper .entry))) total) ⌝ }
+fn top(upper: &[u8], total: usize, part: Part, cells: &[u64], careful: bool) -> u64
+    requires { ⌜ Passing (now upper) total part × (length (now cells) ≡ 256) × Row-counts (now upper) total (now cells) (part .k) 0 256 × (careful ≡ false → Within (now upper) total (part .k + 1)) ⌝ }
+    ensures { λ r. ⌜ (r < cap → Slid (now (upper .entry)) total (part .k) (part .next .high + 1) r) × (cap ≤ r → cap ≤ count (now (upper .entry)) (length (now (upper .entry))) total) ⌝ }
 {
+    let row = part.row;
+    let next = part.next;
     let end = row.high + 1;
     let mut w: u64 = 0;
-    let mut t = row.low + walsh::over(walsh::over(next.high, m), row.low);
+    let mut t = row.low + walsh::over(walsh::over(next.high, part.m), row.low);
     while t < end {
-        w += cell(upper, total, k, cells, t);
+        w += cell(upper, total, part.k, cells, t);
         if is_over(w, careful) {
             return w;
         }
@@ -92,25 +93,24 @@ fn top(
 fn step(
     upper: &[u8],
     total: usize,
-    k: usize,
-    m: usize,
-    row: Ends,
-    next: Ends,
+    part: Part,
     cells: &[u64],
     t: usize,
     w: u64,
     enters: bool,
     leaves: bool,
 ) -> u64
-    requires { ⌜ Passing (now upper) total k m row next × (next .low ≤ t) × (t ≤ next .high) × Passed (now upper) total k (t + 1) w (now cells) × Moves row m t enters leaves ⌝ }
-    ensures { λ r. ⌜ Moved (now (upper .entry)) total k t r ⌝ }
+    requires { ⌜ Passing (now upper) total part × (part .next .low ≤ t) × (t ≤ part .next .high) × Passed (now upper) total (part .k) (t + 1) w (now cells) × Moves (part .row) (part .m) t enters leaves ⌝ }
+    ensures { λ r. ⌜ Moved (now (upper .entry)) total (part .k) t r ⌝ }
 {
+    let k = part.k;
+    let m = part.m;
     if enters {
-        let y = cell(upper, total, k, cells, t - (m + 1));
         if leaves {
-            return moved(w, cell(upper, total, k, cells, t), y);
+            let x = cell(upper, total, k, cells, t);
+            return moved(w, x, cell(upper, total, k, cells, t - (m + 1)));
         }
-        return w + y;
+        return w + cell(upper, total, k, cells, t - (m + 1));
     }
     if leaves {
         return w - cell(upper, total, k, cells, t);
@@ -122,10 +122,7 @@ fn step(
 fn fall(
     upper: &[u8],
     total: usize,
-    k: usize,
-    m: usize,
-    row: Ends,
-    next: Ends,
+    part: Part,
     cells: &mut [u64],
     at: At,
     end: usize,
@@ -133,14 +130,14 @@ fn fall(
     leaves: bool,
     careful: bool,
 ) -> At
-    requires { ⌜ Passing (now upper) total k m row next × Stretch row next m (at .t) end enters leaves × Passed (now upper) total k (at .t) (at .window) (now cells) × (careful ≡ false → Within (now upper) total (k + 1)) ⌝ }
-    ensures { λ r. ⌜ (r .window < cap → (r .t ≡ min (at .t) end) × Passed (now (upper .entry)) total k (r .t) (r .window) (now (cells .exit))) × (cap ≤ r .window → cap ≤ count (now (upper .entry)) (length (now (upper .entry))) total) ⌝ }
+    requires { ⌜ Passing (now upper) total part × Stretch (part .row) (part .next) (part .m) (at .t) end enters leaves × Passed (now upper) total (part .k) (at .t) (at .window) (now cells) × (careful ≡ false → Within (now upper) total (part .k + 1)) ⌝ }
+    ensures { λ r. ⌜ (r .window < cap → (r .t ≡ min (at .t) end) × Passed (now (upper .entry)) total (part .k) (r .t) (r .window) (now (cells .exit))) × (cap ≤ r .window → cap ≤ count (now (upper .entry)) (length (now (upper .entry))) total) ⌝ }
 {
     let mut w = at.window;
     let mut t = at.t;
     while end < t {
         t -= 1;
-        let before = step(upper, total, k, m, row, next, cells, t, w, enters, leaves);
+        let before = step(upper, total, part, cells, t, w, enters, leaves);
         cells[t] = w;
         w = before;
         if is_over(w, careful) {
@@ -150,73 +147,38 @@ fn fall(
     At { t, window: w }
 }
 
-// The row of `k + 1` parts over that of `k`, or false at a number over 2^63 - 1.
-fn pass(
-    upper: &[u8],
-    total: usize,
-    k: usize,
-    m: usize,
-    row: Ends,
-    next: Ends,
-    cells: &mut [u64],
-    careful: bool,
-) -> bool
-    requires { ⌜ Passing (now upper) total k m row next × (length (now cells) ≡ 256) × Row-counts (now upper) total (now cells) k 0 256 × (careful ≡ false → Within (now upper) total (k + 1)) ⌝ }
-    ensures { λ r. ⌜ (r ≡ true → Row-counts (now (upper .entry)) total (now (cells .exit)) (k + 1) 0 256) × (r ≡ false → cap ≤ count (now (upper .entry)) (length (now (upper .entry))) total) ⌝ }
+// The row of one part more over the row before, or false at a number over 2^63 - 1.
+fn pass(upper: &[u8], total: usize, part: Part, cells: &mut [u64], careful: bool) -> bool
+    requires { ⌜ Passing (now upper) total part × (length (now cells) ≡ 256) × Row-counts (now upper) total (now cells) (part .k) 0 256 × (careful ≡ false → Within (now upper) total (part .k + 1)) ⌝ }
+    ensures { λ r. ⌜ (r ≡ true → Row-counts (now (upper .entry)) total (now (cells .exit)) (part .k + 1) 0 256) × (r ≡ false → cap ≤ count (now (upper .entry)) (length (now (upper .entry))) total) ⌝ }
 {
-    let w = top(upper, total, k, m, row, next, cells, careful);
+    let w = top(upper, total, part, cells, careful);
     if MOST < w {
         return false;
     }
-    let full = row.low + m;
+    let row = part.row;
+    let next = part.next;
+    let full = row.low + part.m;
     let least = walsh::lesser(row.high, full);
-    let both = full < row.high;
     let first = At {
         t: next.high + 1,
         window: w,
     };
-    let second = fall(
-        upper,
-        total,
-        k,
-        m,
-        row,
-        next,
-        cells,
-        first,
-        row.high + full - least + 1,
-        true,
-        false,
-        careful,
-    );
+    let most = row.high + full - least + 1;
+    let second = fall(upper, total, part, cells, first, most, true, false, careful);
     if MOST < second.window {
         return false;
     }
+    let both = full < row.high;
     let low = next.low + walsh::over(least + 1, next.low);
-    let third = fall(
-        upper,
-        total,
-        k,
-        m,
-        row,
-        next,
-        cells,
-        second,
-        low,
-        both,
-        both,
-        careful,
-    );
+    let third = fall(upper, total, part, cells, second, low, both, both, careful);
     if MOST < third.window {
         return false;
     }
     let last = fall(
         upper,
         total,
-        k,
-        m,
-        row,
-        next,
+        part,
         cells,
         third,
         next.low,
@@ -241,7 +203,8 @@ fn rows(upper: &[u8], total: usize, all: usize, cells: &mut [u64]) -> u64
         let m = walsh::wide(upper[k]);
         left += m;
         let next = ends_of(total, left, all);
-        if !pass(upper, total, k, m, row, next, cells, few <= k) {
+        let part = Part { k, m, row, next };
+        if !pass(upper, total, part, cells, few <= k) {
             return CAP;
         }
         row = next;

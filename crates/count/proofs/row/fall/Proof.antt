@@ -13,10 +13,10 @@ use Rattle.count.proofs.row.fall.Statement.{statement}
 use Rattle.count.proofs.row.fall.Tie as tie
 
 abbrev Inv-loop : tie.InvT-loop
-Inv-loop upper total k m row next cells₀ end enters leaves careful w₀ t₀ cells w t = (t ≤ t₀) × (min t₀ end ≤ t) × Passed upper total k t w cells
+Inv-loop upper total part cells₀ end enters leaves careful w₀ t₀ cells w t = (t ≤ t₀) × (min t₀ end ≤ t) × Passed upper total (part .k) t w cells
 
 abbrev μ-loop : tie.MeasureT-loop
-μ-loop upper total k m row next cells₀ end enters leaves careful w₀ t₀ cells w t = t
+μ-loop upper total part cells₀ end enters leaves careful w₀ t₀ cells w t = t
 
 min-low : (a b : ℕ) → min a b ≤ a
 min-low a b = omega arith
@@ -50,17 +50,17 @@ module _ (c : tie.In-loop Inv-loop μ-loop) where
   abbrev at : ℕ
   at = c .before .loop .t - 1
 
-  low-at : start .args .next .low ≤ at
+  low-at : start .args .part .next .low ≤ at
   low-at = le-trans (start .pre .1 .low) (down (c .loop-test .taken))
 
-  high-at : at ≤ start .args .next .high
+  high-at : at ≤ start .args .part .next .high
   high-at = top-down (c .loop-test .taken) (le-trans (c .before .loop .inv .0) (start .pre .1 .high))
 
   small-at : at ≤ 255
-  small-at = le-trans (at-total _ _ _ _ _ _ (start .pre .0) _ low-at high-at) (start .pre .0 .small)
+  small-at = le-trans (at-total _ _ _ (start .pre .0) _ low-at high-at) (start .pre .0 .small)
 
-  passed-at : Passed (now (start .args .upper)) (start .args .total) (start .args .k) (at + 1) (c .before .loop .w) (c .before .loop .cells)
-  passed-at = subst (λ (t : ℕ). Passed (now (start .args .upper)) (start .args .total) (start .args .k) t (c .before .loop .w) (c .before .loop .cells)) (back (c .loop-test .taken)) (c .before .loop .inv .2)
+  passed-at : Passed (now (start .args .upper)) (start .args .total) (start .args .part .k) (at + 1) (c .before .loop .w) (c .before .loop .cells)
+  passed-at = subst (λ (t : ℕ). Passed (now (start .args .upper)) (start .args .total) (start .args .part .k) t (c .before .loop .w) (c .before .loop .cells)) (back (c .loop-test .taken)) (c .before .loop .inv .2)
 
 step-requires : tie.Need-step-requires Inv-loop μ-loop
 step-requires c κs =
@@ -89,7 +89,7 @@ loop-again c =
     let within = on-test (a .careful) (λ e. c .before .is-over .ensures .1 (c .if1 .left) e) (λ e. v .ensures .within (s .pre .3 e)) in (
       down-le (l .inv .0),
       min-down _ _ _ (d .loop-test .taken),
-      stored (now (a .upper)) (a .total) (a .k) (a .m) (a .row) (a .next) (s .pre .0) _ (low-at d) (high-at d) (l .w) (l .cells) (passed-at d) (v .result) (small (small-at d)) (v .ensures .slid) within,
+      stored (now (a .upper)) (a .total) (a .part) (s .pre .0) _ (low-at d) (high-at d) (l .w) (l .cells) (passed-at d) (v .result) (small (small-at d)) (v .ensures .slid) within,
     )
 
 is-min : {t s e : ℕ} → t ≤ s → min s e ≤ t → t ≤ e → t ≡ min s e

@@ -1,5 +1,5 @@
 -- `count::row::pass` meets its contract.
-use mathlib.Core.Path.{_≡_}
+use mathlib.Core.Path.{_≡_, ap}
 use mathlib.Core.Bool.{true, false, false≢true}
 use Prim.Native.Nat.{ℕ, _+_, _-_, _≤_, _<_, min}
 use native.Mathlib.Omega.{arith}
@@ -34,7 +34,7 @@ low-small l r x e h = omega arith
 high-small : (h r x : ℕ) → h ≡ min r x → r ≤ 255 → h ≤ 255
 high-small h r x e l = omega arith
 
-small-at : (c : tie.Start) → Small (c .args .row) (c .args .next) (c .args .m)
+small-at : (c : tie.Start) → Small (c .args .part .row) (c .args .part .next) (c .args .part .m)
 small-at c =
     let p = c .pre .0 in
     record {
@@ -65,52 +65,56 @@ least-le l a b e = omega arith
 
 fall-requires : tie.Need-fall-requires
 fall-requires c κs =
-    let s = c .before .before .before .before .before .before .before .before .before .before .before in
+    let s = c .before .before .before .before .before .before .before .before .before .before .before .before .before in
     let a = s .args in
-    let small = lt-of (c .before .before .before .before .before .before .if1 .left) in (
+    let small = lt-of (c .before .before .before .before .before .before .before .before .if1 .left) in (
       s .pre .0,
-      grows (now (a .upper)) (a .total) (a .k) (a .m) (a .row) (a .next) (s .pre .0) _ (c .before .before .before .before .lesser .ensures),
-      unwritten (now (a .upper)) (a .total) (a .k) (a .m) (a .row) (a .next) (s .pre .0) _ (now (a .cells)) (s .pre .1) (s .pre .2) (c .before .before .before .before .before .before .before .top .ensures .0 small) small,
+      grows (now (a .upper)) (a .total) (a .part) (s .pre .0) _ (c .before .before .before .lesser .ensures),
+      unwritten (now (a .upper)) (a .total) (a .part) (s .pre .0) _ (now (a .cells)) (s .pre .1) (s .pre .2) (c .before .before .before .before .before .before .before .before .before .top .ensures .0 small) small,
       s .pre .3,
     )
 
-low-at : (c : tie.After-over) → c .before .before .before .before .before .before .before .before .before .before .before .before .before .before .before .before .before .args .next .low + c .over .result ≡ c .before .before .before .before .before .before .before .before .before .before .before .before .before .before .before .before .before .args .next .low + (c .before .before .before .before .before .before .before .before .before .before .lesser .result + 1 - c .before .before .before .before .before .before .before .before .before .before .before .before .before .before .before .before .before .args .next .low)
-low-at c = rw (c .over .ensures)
+-- what is known when the first stretch is written, and when the second is
+module _ (c : tie.After-over) where
+  abbrev start : tie.Start
+  start = c .before .before .before .before .before .before .before .before .before .before .before .before .before .before .before .before .before .before .before .before
+
+  abbrev next : Ends
+  next = start .args .part .next
+
+  least-at : c .before .before .before .before .before .before .before .before .before .before .lesser .result ≡ min (start .args .part .row .high) (start .args .part .row .low + start .args .part .m)
+  least-at = c .before .before .before .before .before .before .before .before .before .before .lesser .ensures
+
+  low-at : next .low + c .over .result ≡ next .low + (c .before .before .before .before .before .before .before .before .before .before .lesser .result + 1 - next .low)
+  low-at = ap (λ (n : ℕ). next .low + n) (c .over .ensures)
 
 fall-requires-2 : tie.Need-fall-requires-2
 fall-requires-2 c κs =
-    let s = c .before .before .before .before .before .before .before .before .before .before .before .before .before .before .before .before .before .before .before in
+    let s = c .before .before .before .before .before .before .before .before .before .before .before .before .before .before .before .before .before .before .before .before .before .before in
     let a = s .args in
-    let f = c .before .before .before .before .before .before .before .fall .ensures .0 (lt-of (c .before .before .before .if2 .left)) in (
-      s .pre .0,
-      slides (now (a .upper)) (a .total) (a .k) (a .m) (a .row) (a .next) (s .pre .0) _ (c .before .before .before .before .before .before .before .before .before .before .before .before .lesser .ensures) _ _ (f .0) (low-at (c .before .before)),
-      f .1,
-      s .pre .3,
-    )
+    let f = c .before .before .before .before .before .before .before .before .fall .ensures .0 (lt-of (c .before .before .before .before .if2 .left)) in
+    (s .pre .0, slides (now (a .upper)) (a .total) (a .part) (s .pre .0) _ (least-at (c .before .before)) _ _ (f .0) (low-at (c .before .before)), f .1, s .pre .3)
 
 fall-requires-3 : tie.Need-fall-requires-3
 fall-requires-3 c κs =
-    let s = c .before .before .before .before .before .before .before .before .before .before .before .before .before .before .before .before .before .before .before .before .before .before .before .before .before in
+    let s = c .before .before .before .before .before .before .before .before .before .before .before .before .before .before .before .before .before .before .before .before .before .before .before .before .before .before .before .before in
     let a = s .args in
-    let f = c .before .before .before .before .before .before .before .before .before .before .before .before .before .fall .ensures .0 (lt-of (c .before .before .before .before .before .before .before .before .before .if2 .left)) in
-    let g = c .before .before .before .before .before .fall2 .ensures .0 (lt-of (c .before .if3 .left)) in (
-      s .pre .0,
-      shrinks (now (a .upper)) (a .total) (a .k) (a .m) (a .row) (a .next) (s .pre .0) _ (c .before .before .before .before .before .before .before .before .before .before .before .before .before .before .before .before .before .before .lesser .ensures) _ _ (f .0) (rw (← (low-at (c .before .before .before .before .before .before .before .before))) (g .0)),
-      g .1,
-      s .pre .3,
-    )
+    let o = c .before .before .before .before .before .before .before .before in
+    let f = c .before .before .before .before .before .before .before .before .before .before .before .before .before .before .fall .ensures .0 (lt-of (c .before .before .before .before .before .before .before .before .before .before .if2 .left)) in
+    let g = c .before .before .before .before .before .fall2 .ensures .0 (lt-of (c .before .if3 .left)) in
+    (s .pre .0, shrinks (now (a .upper)) (a .total) (a .part) (s .pre .0) _ (least-at o) _ _ (f .0) (rw (← (low-at o)) (g .0)), g .1, s .pre .3)
 
 returns-4 : tie.Need-returns-4
 returns-4 c =
-    let s = c .before .before .before .before .before .before .before .before .before .before .before .before .before .before .before .before .before .before .before .before .before .before .before .before .before .before .before .before .before in
+    let s = c .before .before .before .before .before .before .before .before .before .before .before .before .before .before .before .before .before .before .before .before .before .before .before .before .before .before .before .before .before .before .before .before in
     let a = s .args in
-    let f = c .before .before .before .before .before .before .before .before .before .before .before .before .before .before .before .before .before .fall .ensures .0 (lt-of (c .before .before .before .before .before .before .before .before .before .before .before .before .before .if2 .left)) in
+    let o = c .before .before .before .before .before .before .before .before .before .before .before .before in
+    let f = c .before .before .before .before .before .before .before .before .before .before .before .before .before .before .before .before .before .before .fall .ensures .0 (lt-of (c .before .before .before .before .before .before .before .before .before .before .before .before .before .before .if2 .left)) in
     let g = c .before .before .before .before .before .before .before .before .before .fall2 .ensures .0 (lt-of (c .before .before .before .before .before .if3 .left)) in
-    let o = c .before .before .before .fall3 in (
-      λ h. let e = o .ensures .0 (lt-of (leb-true _ _ h)) in
-          written (now (a .upper)) (a .total) (a .k) (a .m) (a .row) (a .next) (s .pre .0) _ _ _
-          (ends (now (a .upper)) (a .total) (a .k) (a .m) (a .row) (a .next) (s .pre .0) _ (c .before .before .before .before .before .before .before .before .before .before .before .before .before .before .before .before .before .before .before .before .before .before .lesser .ensures) _ _ _ (f .0) (rw (← (low-at (c .before .before .before .before .before .before .before .before .before .before .before .before))) (g .0)) (e .0)) (e .1),
-      λ h. o .ensures .1 (leb-false _ _ h),
+    let h = c .before .before .before .fall3 .ensures in (
+      λ q. let e = h .0 (lt-of (leb-true _ _ q)) in
+          written (now (a .upper)) (a .total) (a .part) (s .pre .0) _ _ _ (ends (now (a .upper)) (a .total) (a .part) (s .pre .0) _ (least-at o) _ _ _ (f .0) (rw (← (low-at o)) (g .0)) (e .0)) (e .1),
+      λ q. h .1 (leb-false _ _ q),
     )
 
 pub pass-spec : {M : Type 1} → statement M
@@ -120,18 +124,18 @@ pass-spec =
     (λ c κs. c .before .before .before .pre)
     (λ c. search needs)
     (λ c. (no, λ h. c .before .top .ensures .1 (c .if1 .taken)))
-    (λ c. let n = small-at (c .before .before .before .before .before .before) in fits-2 _ _ (n .low) (n .bound))
+    (λ c. let n = small-at (c .before .before .before .before .before .before .before .before .before) in fits-2 _ _ (n .low) (n .bound))
     (λ c κs. search needs)
-    (λ c. let n = small-at (c .before .before .before .before .before .before .before .before .before) in fits-2 _ 1 (n .most) (omega arith))
-    (λ c. let n = small-at (c .before .before .before .before .before .before .before .before .before .before .before) in fits-3 _ _ _ (n .high) (n .low) (n .bound))
-    (λ c. least-le _ _ _ (c .before .before .before .before .lesser .ensures))
-    (λ c. let n = small-at (c .before .before .before .before .before .before .before .before .before .before .before) in fits-less _ _ _ _ (n .high) (n .low) (n .bound))
+    (λ c. let n = small-at (c .before .before .before .before .before .before .before .before .before .before .before) in fits-2 _ 1 (n .most) (omega arith))
+    (λ c. let n = small-at (c .before .before .before .before .before .before .before .before .before .before .before .before) in fits-3 _ _ _ (n .high) (n .low) (n .bound))
+    (λ c. least-le _ _ _ (c .before .before .lesser .ensures))
+    (λ c. let n = small-at (c .before .before .before .before .before .before .before .before .before .before .before .before) in fits-less _ _ _ _ (n .high) (n .low) (n .bound))
     fall-requires
     (λ c. search needs)
     (λ c. (no, λ h. c .before .before .before .before .fall .ensures .1 (c .if2 .taken)))
-    (λ c. let n = small-at (c .before .before .before .before .before .before .before .before .before .before .before .before .before .before .before .before) in fits-least _ _ _ (c .before .before .before .before .before .before .before .before .before .lesser .ensures) (n .high))
+    (λ c. let n = small-at (c .before .before .before .before .before .before .before .before .before .before .before .before .before .before .before .before .before .before .before) in fits-least _ _ _ (c .before .before .before .before .before .before .before .before .before .lesser .ensures) (n .high))
     (λ c κs. search needs)
-    (λ c. let n = small-at (c .before .before .before .before .before .before .before .before .before .before .before .before .before .before .before .before .before .before) in fits-low _ _ _ _ _ (c .before .over .ensures) (c .before .before .before .before .before .before .before .before .before .before .before .lesser .ensures) (n .high) (n .least))
+    (λ c. let n = small-at (c .before .before .before .before .before .before .before .before .before .before .before .before .before .before .before .before .before .before .before .before .before) in fits-low _ _ _ _ _ (c .before .over .ensures) (least-at (c .before)) (n .high) (n .least))
     fall-requires-2
     (λ c. search needs)
     (λ c. (no, λ h. c .before .before .before .before .fall2 .ensures .1 (c .if3 .taken)))

@@ -65,7 +65,7 @@ pass-requires c κs =
     let l = c .before .before .before .before .before .loop in
     let m = c .before .before .wide .ensures in (
       record {
-        part = c .before .before .before .before .loop-test .taken;
+        given = c .before .before .before .before .loop-test .taken;
         small = s .pre .1;
         reached = s .pre .2;
         bound = m .0;
@@ -82,7 +82,7 @@ loop-again : tie.Need-loop-again Inv-loop μ-loop
 loop-again c =
     let f = c .before .before .before .pass in
     let l = c .before .before .before .before .before .before .before .before .before .loop in
-    (suc-le (c .before .before .before .before .before .before .before .before .loop-test .taken), f .kept .1 .1 .1 .1 .1 .1 .0 ∙ l .inv .1, left-at (c .before .before .before .before .before .before) .0, next-at (c .before .before .before .before .before), f .ensures .0 (not-false (f .result) (c .if1 .left)))
+    (suc-le (c .before .before .before .before .before .before .before .before .loop-test .taken), f .kept .1 .1 .1 .0 ∙ l .inv .1, left-at (c .before .before .before .before .before .before) .0, next-at (c .before .before .before .before .before), f .ensures .0 (not-false (f .result) (c .if1 .left)))
 
 returns-2 : tie.Need-returns-2 Inv-loop μ-loop
 returns-2 c =
@@ -109,7 +109,7 @@ rows-spec =
     (λ c. let q = left-at c .1 in omega arith)
     (λ c κs. left-at c .1)
     pass-requires
-    (λ c. c .before .before .before .pass .kept .1 .1 .1 .1 .1 .1 .0 ∙ c .before .before .before .before .before .before .before .before .before .loop .inv .1 ∙ sym (c .before .before .before .before .before .before .before .before .before .before .before .before .before .before .pre .4))
+    (λ c. c .before .before .before .pass .kept .1 .1 .1 .0 ∙ c .before .before .before .before .before .before .before .before .before .loop .inv .1 ∙ sym (c .before .before .before .before .before .before .before .before .before .before .before .before .before .before .pre .4))
     (λ c. let f = c .before .before .before .pass in over (f .ensures .1 (not-true (f .result) (c .if1 .taken))))
     (λ c. search needs)
     (λ c. closer _ _ (c .before .before .before .before .before .before .before .before .loop-test .taken))
