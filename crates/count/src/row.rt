@@ -53,14 +53,6 @@ fn is_over(w: u64, careful: bool) -> bool
     if careful { MOST < w } else { false }
 }
 
-// w - x + y. The difference of x and y comes first, so that one addition a cell waits for the one before.
-fn moved(w: u64, x: u64, y: u64) -> u64
-    requires { ⌜ (x ≤ w) × (w < cap) × (y < cap) ⌝ }
-    ensures { λ r. ⌜ r ≡ w - x + y ⌝ }
-{
-    if x <= y { w + (y - x) } else { w - (x - y) }
-}
-
 // The number for the sum `t` of the first `k` parts.
 fn cell(upper: &[u8], total: usize, k: usize, cells: &[u64], t: usize) -> u64
     requires { ⌜ (total ≤ 255) × (length (now cells) ≡ 256) × InBand (now upper) total k t × Row-counts (now upper) total (now cells) k 0 (t + 1) ⌝ }
@@ -108,7 +100,7 @@ fn step(
     if enters {
         if leaves {
             let x = cell(upper, total, k, cells, t);
-            return moved(w, x, cell(upper, total, k, cells, t - (m + 1)));
+            return band::window::moved(w, x, cell(upper, total, k, cells, t - (m + 1)));
         }
         return w + cell(upper, total, k, cells, t - (m + 1));
     }

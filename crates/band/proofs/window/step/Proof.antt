@@ -75,6 +75,13 @@ at-requires-3 c κs = let s = c .before .before .before .before in let p = s .pr
 at-requires-4 : tie.Need-cell-requires-4
 at-requires-4 c κs = let s = c .before .before .before .before in let p = s .pre .0 in (le-of-lt (p .part), le-of-lt (p .few), p .small, p .from, leave-at (c .before .before .before .before) (c .if3 .taken), p .room, s .pre .4 .rows _ (le-refl _))
 
+returns : tie.Need-returns
+returns c =
+    let s = c .before .before .before .before .before .before .before in
+    let x = c .before .before .cell in
+    let less = rest-at s (x .result) (c .before .before .before .if2 .taken) (x .ensures .0) in
+    rw (c .moved .ensures less (s .pre .4 .small) (c .before .cell2 .ensures .1)) (over-at s _ _ (c .before .before .before .if2 .taken) (x .ensures .0) (c .before .cell2 .ensures .0))
+
 returns-3 : tie.Need-returns-3
 returns-3 c =
     let s = c .before .before .before .before .before in
@@ -93,10 +100,9 @@ step-spec =
     (λ c. back-at (c .before .before .before .before) (c .if2 .taken) .0)
     (λ c. back-at (c .before .before .before .before) (c .if2 .taken) .1)
     at-requires
-    (λ c. rest-at (c .before .before .before .before .before) (c .cell .result) (c .before .if2 .taken) (c .cell .ensures .0))
     at-requires-2
-    (λ c. search needs)
-    (λ c. over-at (c .before .before .before .before .before .before) (c .before .cell .result) (c .cell2 .result) (c .before .before .if2 .taken) (c .before .cell .ensures .0) (c .cell2 .ensures .0))
+    (λ c κs. search needs)
+    returns
     at-requires-3
     (λ c. search needs)
     (λ c. below-at (c .before .before .before .before .before) (c .cell3 .result) (c .before .if2 .left) (c .cell3 .ensures .0))

@@ -5,6 +5,7 @@ use mathlib.Core.List.{List}
 use Prim.Native.Nat.{ℕ, _+_, _-_, _≤_, _<_}
 use native.Mathlib.Omega.{arith}
 use lib.ListN.{length}
+use borrow.Author.Needs.{needs}
 use denote.Ref.{now}
 use mir.Val.{Fits}
 use mir.Syntax.{w64}
@@ -72,12 +73,13 @@ enter-cell c h = (c .pre .0 .small, c .pre .3 .long, enter-at c h, low-counts c)
 leave-cell : (c : tie.Start) → c .args .leaves ≡ true → (r c ≤ 255) × (length (now (c .args .cells)) ≡ 256) × InBand (ms c) (r c) (k c) (t c) × Row-counts (ms c) (r c) (now (c .args .cells)) (k c) 0 (t c + 1)
 leave-cell c h = (c .pre .0 .small, c .pre .3 .long, leave-at c h, c .pre .3 .below)
 
-moved-requires : tie.Need-moved-requires
-moved-requires c κs = let s = c .before .before .before .before .before .before in (most-at s (c .before .cell .result) (c .before .cell .ensures .0), s .pre .3 .small, c .cell2 .ensures .1)
-
 returns : tie.Need-returns
 returns c =
-    over-at (c .before .before .before .before .before .before .before) (c .before .before .cell .result) (c .before .cell2 .result) _ (c .before .before .before .before .if1 .taken) (c .before .before .cell .ensures .0) (c .before .cell2 .ensures .0) (c .moved .ensures)
+    let s = c .before .before .before .before .before .before .before in
+    let x = c .before .before .cell in
+    let y = c .before .cell2 in
+    over-at s (x .result) (y .result) _ (c .before .before .before .before .if1 .taken) (x .ensures .0) (y .ensures .0)
+    (c .moved .ensures (most-at s (x .result) (x .ensures .0)) (s .pre .3 .small) (y .ensures .1))
 
 returns-2 : tie.Need-returns-2
 returns-2 c =
@@ -101,7 +103,7 @@ step-spec =
     (λ c. fits-at (c .before .before .before .before .before) (c .before .before .if1 .taken) .0)
     (λ c. fits-at (c .before .before .before .before .before) (c .before .before .if1 .taken) .1)
     (λ c κs. enter-cell (c .before .before .before .before .before) (c .before .before .if1 .taken))
-    moved-requires
+    (λ c κs. search needs)
     returns
     (λ c. fits-at (c .before .before .before .before) (c .before .if1 .taken) .0)
     (λ c. fits-at (c .before .before .before .before) (c .before .if1 .taken) .1)
