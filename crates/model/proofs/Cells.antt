@@ -1,17 +1,12 @@
 -- Laws of the 24 cells that a list of at most 24 numbers is kept in.
 use mathlib.Core.Path.{_≡_, refl, sym, ap, _∙_}
 use mathlib.Core.List.{List, [], _∷_, _++_}
-use Prim.Native.Nat.{ℕ, zero, suc, _-_, _≤_}
-use native.Mathlib.Omega.{arith}
-use lib.ListN.{length, getD, take, replicate, length-append, length-replicate}
+use Prim.Native.Nat.{ℕ, zero, suc, _-_}
+use lib.ListN.{length, getD, take, replicate}
 use lib.Seq.{take-append-seam}
 use Rattle.walsh.specs.Neighbours.{Neighbours}
 use Rattle.bounds.specs.Edition.{cellsOf}
 use Rattle.model.specs.Model.{blank}
-
-pub cells-length : (g : List ℕ) → length g ≤ 24 → length (cellsOf g) ≡ 24
-unfolding cellsOf
-cells-length g h = length-append g (replicate (24 - length g) 0) ∙ omega (arith, length-replicate {A = ℕ} (24 - length g) 0)
 
 pub cells-nil : cellsOf [] ≡ blank
 unfolding cellsOf

@@ -2,6 +2,7 @@
 use mathlib.Core.Path.{_≡_}
 use Prim.Native.Nat.{ℕ, _≤_}
 use native.Mathlib.Omega.{arith}
+use lib.Arith.{le-zero}
 use denote.Ref.{now}
 use mir.Val.{Fits}
 use mir.Syntax.{w64}
@@ -20,13 +21,10 @@ returns c =
     let a = c .before .before .before .before .args in
     survey-refused (now (a .upper)) (a .total) (s .result .number) (s .result .detail) (shaped-refused _ _ (s .result) (s .ensures) (c .if1 .taken)) (c .if1 .taken)
 
-zero-of : {n : ℕ} → n ≤ 0 → n ≡ 0
-zero-of l = omega arith
-
 shapely-at : (c : tie.Else1) → let a = c .before .before .before .before .args in Shapely (now (a .upper)) (a .total) × (c .before .before .shape .result .all ≡ whole (now (a .upper)))
 shapely-at c =
     let s = c .before .before .shape in
-    let p = shaped-accepted _ _ (s .result) (s .ensures) (zero-of (c .if1 .left)) in
+    let p = shaped-accepted _ _ (s .result) (s .ensures) (le-zero (c .if1 .left)) in
     (shapely _ _ (p .0), p .1)
 
 last-requires : tie.Need-last-requires
@@ -45,7 +43,7 @@ add-t6 c =
 returns-2 : tie.Need-returns-2
 returns-2 c =
     let s = c .before .before .before .before .shape in
-    let p = shaped-accepted _ _ (s .result) (s .ensures) (zero-of (c .before .before .if1 .left)) in
+    let p = shaped-accepted _ _ (s .result) (s .ensures) (le-zero (c .before .before .if1 .left)) in
     let l = c .before .last in
     let a = c .before .before .before .before .before .before .args in
     survey-accepted _ _ _ _ (p .0) (p .1) (last-size (now (a .upper)) (a .total) (l .result) (shapely (now (a .upper)) (a .total) (p .0) .reached) (l .ensures))

@@ -1,8 +1,8 @@
 -- `count::check` meets its contract.
 use mathlib.Core.Path.{_≡_, ap, _∙_}
 use mathlib.Core.List.{List}
-use Prim.Native.Nat.{ℕ, _≤_}
-use native.Mathlib.Omega.{arith}
+use Prim.Native.Nat.{ℕ}
+use lib.Arith.{le-zero}
 use lib.ListN.{length, take}
 use lib.Seq.{take-all}
 use denote.Ref.{now}
@@ -17,13 +17,10 @@ use Rattle.count.proofs.Answers.{check-refused, check-accepted}
 use Rattle.count.proofs.check.Statement.{statement}
 use Rattle.count.proofs.check.Tie as tie
 
-zero-of : {n : ℕ} → n ≤ 0 → n ≡ 0
-zero-of l = omega arith
-
 counted-at : (c : tie.Else1)
     → let a = c .before .before .before .before .args in
     (firstRefusal (editionChecks (now (a .upper)) (a .total)) .number ≡ 0) × (c .before .before .number .result .count ≡ countOf (now (a .upper)) (a .total))
-counted-at c = let n = c .before .before .number in numbered-accepted _ _ (n .result) (n .ensures) (zero-of (c .if1 .left))
+counted-at c = let n = c .before .before .number in numbered-accepted _ _ (n .result) (n .ensures) (le-zero (c .if1 .left))
 
 returns : tie.Need-returns
 returns c =

@@ -4,6 +4,7 @@ use mathlib.Core.List.{List}
 use Prim.Native.Nat.{ℕ, _≤_, _<_}
 use native.Mathlib.Nat.{le-refl}
 use native.Mathlib.Omega.{arith}
+use lib.Arith.{le-zero}
 use lib.ListN.{length}
 use denote.Ref.{now}
 use borrow.Author.Needs.{needs}
@@ -14,9 +15,6 @@ use Rattle.bounds.proofs.Answers.{shaped-refused, shaped-accepted, edition-refu
 use Rattle.band.proofs.Answers.{number-refusal}
 use Rattle.count.proofs.refusal.Statement.{statement}
 use Rattle.count.proofs.refusal.Tie as tie
-
-zero-of : {n : ℕ} → n ≤ 0 → n ≡ 0
-zero-of l = omega arith
 
 returns : tie.Need-returns
 returns c =
@@ -38,7 +36,7 @@ returns-2 : tie.Need-returns-2
 returns-2 c =
     let s = c .before .before .before .before .shape in
     let a = c .before .before .before .before .before .before .args in
-    let p = shaped-accepted _ _ (s .result) (s .ensures) (zero-of (c .before .before .if1 .left)) in
+    let p = shaped-accepted _ _ (s .result) (s .ensures) (le-zero (c .before .before .if1 .left)) in
     let f = c .before .few-parts in
     sym (edition-none (now (a .upper)) (a .total) (p .0) (most (now (a .upper)) (a .total) (f .result) (c .if2 .taken) (f .ensures .1)))
 

@@ -1,7 +1,8 @@
 -- `integrity::test` meets its contract: each way out is a law of proofs/Checks.antt.
-use mathlib.Core.Path.{_≡_, sym, _∙_}
-use Prim.Native.Nat.{ℕ, _≤_}
+use mathlib.Core.Path.{sym, _∙_}
+use Prim.Native.Nat.{_≤_}
 use native.Mathlib.Omega.{arith}
+use lib.Arith.{le-zero}
 use lib.ListN.{length}
 use denote.Ref.{now}
 use borrow.Author.Needs.{needs}
@@ -11,12 +12,9 @@ use Rattle.integrity.proofs.Checks.{Asked, asked, no-edition, too-many,
 use Rattle.integrity.proofs.test.Statement.{statement}
 use Rattle.integrity.proofs.test.Tie as tie
 
-zero-of : {n : ℕ} → n ≤ 0 → n ≡ 0
-zero-of l = omega arith
-
 -- the edition is accepted
 known : (c : tie.Else1) → let s = c .before .before .before in Asked (s .args .ledger .bounds) (s .args .ledger .entries) (s .args .at)
-known c = let s = c .before .before .before in asked (s .args .ledger .bounds) (s .args .ledger .entries) (s .args .at) (s .pre .1) (zero-of (c .if1 .left))
+known c = let s = c .before .before .before in asked (s .args .ledger .bounds) (s .args .ledger .entries) (s .args .at) (s .pre .1) (le-zero (c .if1 .left))
 
 returns : tie.Need-returns
 returns c = no-edition _ _ _ (c .unseen .ensures) (c .before .before .before .before .pre .1) (c .before .if1 .taken)

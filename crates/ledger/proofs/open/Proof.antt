@@ -1,14 +1,10 @@
 -- `ledger::open` meets its contract.
-use mathlib.Core.Path.{_≡_, _∙_}
-use Prim.Native.Nat.{ℕ, _≤_}
-use native.Mathlib.Omega.{arith}
+use mathlib.Core.Path.{_∙_}
+use lib.Arith.{le-zero}
 use borrow.Author.Needs.{needs}
 use Rattle.ledger.proofs.Openings.{opening-edition, opening-many, opening-short, opening-good}
 use Rattle.ledger.proofs.open.Statement.{statement}
 use Rattle.ledger.proofs.open.Tie as tie
-
-zero-of : {n : ℕ} → n ≤ 0 → n ≡ 0
-zero-of l = omega arith
 
 returns : tie.Need-returns
 returns c = c .unopened .ensures ∙ opening-edition _ _ _ (c .before .before .before .locate .ensures) (c .before .if1 .taken)
@@ -16,18 +12,18 @@ returns c = c .unopened .ensures ∙ opening-edition _ _ _ (c .before .before .b
 returns-2 : tie.Need-returns-2
 returns-2 c =
     let e = c .before .before .before in
-    c .unopened2 .ensures ∙ opening-many _ _ _ (e .before .before .locate .ensures) (zero-of (e .if1 .left)) (c .before .if2 .taken)
+    c .unopened2 .ensures ∙ opening-many _ _ _ (e .before .before .locate .ensures) (le-zero (e .if1 .left)) (c .before .if2 .taken)
 
 returns-3 : tie.Need-returns-3
 returns-3 c =
     let e = c .before .before .before .before in
     c .unopened3 .ensures
-    ∙ opening-short _ _ _ (e .before .before .locate .ensures) (zero-of (e .if1 .left)) (c .before .before .if2 .left) (c .before .if3 .taken)
+    ∙ opening-short _ _ _ (e .before .before .locate .ensures) (le-zero (e .if1 .left)) (c .before .before .if2 .left) (c .before .if3 .taken)
 
 returns-4 : tie.Need-returns-4
 returns-4 c =
     let e = c .before .before .before .before .before in
-    opening-good _ _ _ (e .before .before .locate .ensures) (zero-of (e .if1 .left)) (c .before .before .before .if2 .left) _
+    opening-good _ _ _ (e .before .before .locate .ensures) (le-zero (e .if1 .left)) (c .before .before .before .if2 .left) _
     (c .before .before .if3 .left) (c .before .pack .ensures)
 
 pub open-spec : {M : Type 1} → statement M

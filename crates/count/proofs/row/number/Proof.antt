@@ -1,7 +1,6 @@
 -- `count::row::number` meets its contract.
 use mathlib.Core.Path.{_≡_, ap, _∙_}
-use Prim.Native.Nat.{ℕ, _≤_}
-use native.Mathlib.Omega.{arith}
+use lib.Arith.{le-zero}
 use denote.Ref.{now}
 use borrow.Author.Needs.{needs}
 use Rattle.bounds.specs.Refusal.{firstRefusal}
@@ -13,13 +12,10 @@ use Rattle.count.proofs.Answers.{staircase-number}
 use Rattle.count.proofs.row.number.Statement.{statement}
 use Rattle.count.proofs.row.number.Tie as tie
 
-zero-of : {n : ℕ} → n ≤ 0 → n ≡ 0
-zero-of l = omega arith
-
 shape-at : (c : tie.Else1)
     → let a = c .before .before .before .before .args in
     (firstRefusal (shapeChecks (now (a .upper)) (a .total)) .number ≡ 0) × (c .before .before .shape .result .all ≡ whole (now (a .upper)))
-shape-at c = let s = c .before .before .shape in shaped-accepted _ _ (s .result) (s .ensures) (zero-of (c .if1 .left))
+shape-at c = let s = c .before .before .shape in shaped-accepted _ _ (s .result) (s .ensures) (le-zero (c .if1 .left))
 
 returns : tie.Need-returns
 returns c =

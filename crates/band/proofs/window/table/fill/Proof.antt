@@ -1,7 +1,8 @@
 -- `band::window::table::fill` meets its contract.
 use mathlib.Core.Path.{_≡_, sym, ap, _∙_}
-use Prim.Native.Nat.{ℕ, _≤_, _<_}
+use Prim.Native.Nat.{ℕ, _<_}
 use native.Mathlib.Omega.{arith}
+use lib.Arith.{le-zero}
 use lib.ListN.{length}
 use denote.Ref.{now}
 use borrow.Author.Needs.{needs}
@@ -16,14 +17,11 @@ use Rattle.band.proofs.window.table.fill.Tie as tie
 none : {G : Type 0} {x : Counted} {n d : ℕ} → x ≡ record { number = n; detail = d; count = 0 } → 0 < n → x .number ≡ 0 → G
 none e l z = let q = ap (λ (y : Counted). y .number) e in absurd (omega arith)
 
-zero-of : {n : ℕ} → n ≤ 0 → n ≡ 0
-zero-of l = omega arith
-
 survey-at : (c : tie.Else1)
     → let a = c .before .before .before .before .before .args in
     let s = c .before .before .survey .result in
     (firstRefusal (shapeChecks (now (a .upper)) (a .total)) .number ≡ 0) × (s .all ≡ whole (now (a .upper))) × (s .size ≡ bandSize (now (a .upper)) (a .total))
-survey-at c = let s = c .before .before .survey in surveyed-accepted _ _ (s .result) (s .ensures) (zero-of (c .if1 .left))
+survey-at c = let s = c .before .before .survey in surveyed-accepted _ _ (s .result) (s .ensures) (le-zero (c .if1 .left))
 
 returns : tie.Need-returns
 returns c =

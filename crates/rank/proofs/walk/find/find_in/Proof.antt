@@ -1,8 +1,9 @@
 -- `rank::walk::find::find_in` meets its contract.
 use mathlib.Core.Path.{_≡_, refl, sym, ap, _∙_}
-use Prim.Native.Nat.{ℕ, _+_, _-_, _≤_, _<_}
+use Prim.Native.Nat.{ℕ, _+_, _-_, _<_}
 use native.Mathlib.Nat.{le-refl}
 use native.Mathlib.Omega.{arith}
+use lib.Arith.{le-zero}
 use lib.ListN.{length}
 use denote.Ref.{now}
 use borrow.Author.Needs.{needs}
@@ -16,9 +17,6 @@ use Rattle.rank.specs.declared.walk.find.Task.{Task}
 use Rattle.rank.proofs.Finds.{found-edition, found-any}
 use Rattle.rank.proofs.walk.find.find_in.Statement.{statement}
 use Rattle.rank.proofs.walk.find.find_in.Tie as tie
-
-none : {n : ℕ} → n ≤ 0 → n ≡ 0
-none l = omega arith
 
 -- with the cells of the table, `fill` answers N or the edition's refusal
 number-at : (c : tie.After-fill) → let a = c .before .before .before .before .before .args in c .fill .result ≡ numberOf (now (a .upper)) (a .total)
@@ -58,7 +56,7 @@ ready-at c =
     let ms = now (s .args .upper) in
     let r = s .args .total in
     let f = c .before .before .before .before .fill in
-    let z = none (c .if1 .left) in
+    let z = le-zero (c .if1 .left) in
     let k = numbered-accepted ms r (f .result) (number-at (c .before .before .before .before)) z in
     let shape = shapely ms r (s .pre .0) in
     let size = size-at (c .before .before .before .before) in

@@ -1,5 +1,5 @@
 -- `rank::walk::find::in_large` meets its contract. Each array lends the table's cells.
-use mathlib.Core.Path.{_≡_, sym, _∙_}
+use mathlib.Core.Path.{sym, _∙_}
 use denote.Ref.{now}
 use borrow.Author.Needs.{needs}
 use Rattle.bounds.proofs.Cells.{prefix-length}

@@ -1,5 +1,5 @@
 -- `rank::walk::find::in_small` meets its contract. Each array lends the table's cells.
-use mathlib.Core.Path.{_≡_, sym}
+use mathlib.Core.Path.{sym}
 use borrow.Author.Needs.{needs}
 use Rattle.bounds.proofs.Cells.{prefix-length}
 use Rattle.rank.proofs.Finds.{lent-cells}

@@ -1,7 +1,8 @@
 -- `rank::walk::find::rank_in` meets its contract.
 use mathlib.Core.Path.{_≡_, sym, ap, _∙_}
-use Prim.Native.Nat.{ℕ, _+_, _≤_, _<_}
+use Prim.Native.Nat.{ℕ, _+_, _<_}
 use native.Mathlib.Omega.{arith}
+use lib.Arith.{le-zero}
 use denote.Ref.{now}
 use mir.Val.{Fits}
 use mir.Syntax.{w64}
@@ -23,10 +24,7 @@ composition-at : (c : tie.Else1) → let a = c .before .before .before .before .
 composition-at c =
     let v = c .before .before .composition-refusal in
     let a = c .before .before .before .before .before .before .args in
-    composition-passed (now (a .upper)) (a .total) (now (a .given)) (sym (ap (λ (w : Refusal). w .number) (v .ensures)) ∙ none (c .if1 .left))
-  where
-    none : {n : ℕ} → n ≤ 0 → n ≡ 0
-    none l = omega arith
+    composition-passed (now (a .upper)) (a .total) (now (a .given)) (sym (ap (λ (w : Refusal). w .number) (v .ensures)) ∙ le-zero (c .if1 .left))
 
 add-serial : tie.Need-add-t11
 add-serial c =
