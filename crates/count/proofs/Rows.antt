@@ -1,5 +1,6 @@
 -- Laws of the row that is written over the row before: where its sums stand, the window's next number, and what a stored cell leaves.
 use mathlib.Core.Path.{_≡_, sym, _∙_, subst}
+use mathlib.Core.Bool.{Bool, true, false}
 use mathlib.Core.List.{List}
 use Prim.Native.Nat.{ℕ, _+_, _-_, _≤_, _<_, min, max}
 use native.Mathlib.Omega.{arith}
@@ -9,7 +10,7 @@ use lib.ListN.{length, getD, set, length-set}
 use lib.Seq.{getD-set-same, getD-set-other}
 use Rattle.walsh.specs.Sums.{sum, sumTo}
 use Rattle.walsh.specs.Order.{count}
-use Rattle.walsh.proofs.Cases.{on-less}
+use Rattle.walsh.proofs.Cases.{on-test, on-less}
 use Rattle.walsh.proofs.Lists.{sum-mono}
 use Rattle.walsh.proofs.Listing.{count-none}
 use Rattle.walsh.proofs.Peel.{sum-stop}
@@ -19,7 +20,7 @@ use Rattle.band.specs.Band.{InBand, lowest, highest, cap}
 use Rattle.band.specs.Window.{Slid}
 use Rattle.band.proofs.Bands.{band-most, band-ends, low-high}
 use Rattle.band.proofs.Slides.{behind-in, slid-done}
-use Rattle.count.specs.Row.{IsEnds, Passing, Row-counts, Within, Passed, Moved}
+use Rattle.count.specs.Row.{IsEnds, Passing, Row-counts, Within, Passed, Enters, Moved}
 use Rattle.count.specs.declared.row.Ends.{Ends}
 use Rattle.count.specs.declared.row.Part.{Part}
 use Rattle.count.proofs.Falls.{fall-leaves, fall-over, fall-under, fall-count}
@@ -65,7 +66,7 @@ module _ (ms : List ℕ) (r : ℕ) (part : Part) (p : Passing ms r part) (t : �
     pub leaving-most : (x : ℕ) → x ≡ count ms (part .k) t → x ≤ w
     leaving-most x ex = fall-leaves ms r (part .k) t (part .m) w x 0 (s .window) (p .bound) at-low ex
 
-    pub move-over : (x y v : ℕ) → part .row .low + part .m < t → x ≡ count ms (part .k) t → y ≡ count ms (part .k) (t - (part .m + 1)) → v ≡ w - x + y → Moved ms r (part .k) t v
+    move-over : (x y v : ℕ) → part .row .low + part .m < t → x ≡ count ms (part .k) t → y ≡ count ms (part .k) (t - (part .m + 1)) → v ≡ w - x + y → Moved ms r (part .k) t v
     move-over x y v g ex ey ev =
         let slid : Slid ms r (part .k) t v = rw ev (fall-over ms r (part .k) t (part .m) w x y (s .window) (p .bound) (full-at g) ex ey) in
         let c = fall-count ms r (part .k) t v (p .given) (p .reached) slid (rw (← (p .bound)) (full-at g)) at-high in
@@ -78,7 +79,7 @@ module _ (ms : List ℕ) (r : ℕ) (part : Part) (p : Passing ms r part) (t : �
         suc-le : {a b : ℕ} → a < b → a + 1 ≤ b
         suc-le q = omega arith
 
-    pub move-under : (x v : ℕ) → t ≤ part .row .low + part .m → x ≡ count ms (part .k) t → v ≡ w - x → Moved ms r (part .k) t v
+    move-under : (x v : ℕ) → t ≤ part .row .low + part .m → x ≡ count ms (part .k) t → v ≡ w - x → Moved ms r (part .k) t v
     move-under x v g ex ev =
         record {
           slid = rw ev (fall-under ms r (part .k) t (part .m) w x 0 (s .window) (p .bound) at-low (rw (← (p .from .low)) g) ex);
@@ -88,6 +89,17 @@ module _ (ms : List ℕ) (r : ℕ) (part : Part) (p : Passing ms r part) (t : �
       where
         less : w < cap → v < cap
         less q = omega arith
+
+    -- x leaves, and y enters where a cell does
+    pub moves : (enters : Bool) (x y v : ℕ) → Enters (part .row) (part .m) t enters → x ≡ count ms (part .k) t
+        → (enters ≡ true → y ≡ count ms (part .k) (t - (part .m + 1))) → (enters ≡ false → y ≡ 0) → v ≡ w - x + y → Moved ms r (part .k) t v
+    moves enters x y v q ex ey ez ev =
+        on-test enters
+        (λ h. move-over x y v (q .entering h) ex (ey h) ev)
+        (λ h. move-under x v (q .staying h) ex (ev ∙ rw (ez h) (plain (w - x))))
+      where
+        plain : (n : ℕ) → n + 0 ≡ n
+        plain n = omega arith
 
     -- the window's number is stored
     pub stored : (v : ℕ) → t < 256 → Slid ms r (part .k) t v → v < cap → Passed ms r (part .k) t v (set cells t w)

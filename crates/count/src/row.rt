@@ -8,7 +8,7 @@ ghost use Rattle.bounds.specs.Edition.{whole, shapeChecks};
 ghost use Rattle.bounds.specs.Refusal.{firstRefusal};
 ghost use Rattle.band.specs.Band.{InBand, cap, numberOf};
 ghost use Rattle.band.specs.Window.{Slid};
-ghost use Rattle.count.specs.Row.{Passing, Row-counts, Within, Passed, Moves, Moved, Stretch};
+ghost use Rattle.count.specs.Row.{Passing, Row-counts, Within, Passed, Enters, Leaves, Stretch};
 use band::window::table;
 use band::window::table::Counted;
 
@@ -54,11 +54,11 @@ fn is_over(w: u64, careful: bool) -> bool
 }
 
 // w - x + y. The difference of x and y comes first, so that one addition a cell waits for the one before.
-fn moved(w: u64, x: u64, y: u64) -> u64
+fn moved(x: u64, y: u64, w: u64) -> u64
     requires { ⌜ (x ≤ w) × (w < cap) × (y < cap) ⌝ }
     ensures { λ r. ⌜ r ≡ w - x + y ⌝ }
 {
-    if x <= y { w + (y - x) } else { w - (x - y) }
+    std::num::wrapping_add_u64(w, std::num::wrapping_sub_u64(y, x))
 }
 
 // The number for the sum `t` of the first `k` parts.
@@ -89,33 +89,28 @@ fn top(upper: &[u8], total: usize, part: Part, cells: &[u64], careful: bool) -> 
     w
 }
 
-// The window moved from the sum `t` to the sum before, where it is known whether a cell enters it and whether one leaves it.
-fn step(
-    upper: &[u8],
-    total: usize,
-    part: Part,
-    cells: &[u64],
-    t: usize,
-    w: u64,
-    enters: bool,
-    leaves: bool,
-) -> u64
-    requires { ⌜ Passing (now upper) total part × (part .next .low ≤ t) × (t ≤ part .next .high) × Passed (now upper) total (part .k) (t + 1) w (now cells) × Moves (part .row) (part .m) t enters leaves ⌝ }
-    ensures { λ r. ⌜ Moved (now (upper .entry)) total (part .k) t r ⌝ }
+// The cell that leaves the window as it moves from the sum `t` to the sum before, or 0.
+fn leaving(upper: &[u8], total: usize, part: Part, cells: &[u64], t: usize, leaves: bool) -> u64
+    requires { ⌜ Passing (now upper) total part × (part .next .low ≤ t) × (t ≤ part .next .high) × (length (now cells) ≡ 256) × Row-counts (now upper) total (now cells) (part .k) 0 (t + 1) × Leaves (part .row) t leaves ⌝ }
+    ensures { λ r. ⌜ r ≡ count (now (upper .entry)) (part .k) t ⌝ }
 {
-    let k = part.k;
-    let m = part.m;
-    if enters {
-        if leaves {
-            let x = cell(upper, total, k, cells, t);
-            return moved(w, x, cell(upper, total, k, cells, t - (m + 1)));
-        }
-        return w + cell(upper, total, k, cells, t - (m + 1));
-    }
     if leaves {
-        return w - cell(upper, total, k, cells, t);
+        cell(upper, total, part.k, cells, t)
+    } else {
+        0
     }
-    w
+}
+
+// The cell that enters it, or 0.
+fn entering(upper: &[u8], total: usize, part: Part, cells: &[u64], t: usize, enters: bool) -> u64
+    requires { ⌜ Passing (now upper) total part × (part .next .low ≤ t) × (t ≤ part .next .high) × (length (now cells) ≡ 256) × Row-counts (now upper) total (now cells) (part .k) 0 (t + 1) × Enters (part .row) (part .m) t enters ⌝ }
+    ensures { λ r. ⌜ (r < cap) × (enters ≡ true → r ≡ count (now (upper .entry)) (part .k) (t - (part .m + 1))) × (enters ≡ false → r ≡ 0) ⌝ }
+{
+    if enters {
+        cell(upper, total, part.k, cells, t - (part.m + 1))
+    } else {
+        0
+    }
 }
 
 // Writes the row after from the sum before `at` down to `end`, or stops at a number over 2^63 - 1.
@@ -137,9 +132,10 @@ fn fall(
     let mut t = at.t;
     while end < t {
         t -= 1;
-        let before = step(upper, total, part, cells, t, w, enters, leaves);
+        let x = leaving(upper, total, part, cells, t, leaves);
+        let y = entering(upper, total, part, cells, t, enters);
         cells[t] = w;
-        w = before;
+        w = moved(x, y, w);
         if is_over(w, careful) {
             return At { t, window: w };
         }
