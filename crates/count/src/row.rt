@@ -46,7 +46,7 @@ fn ends_of(total: usize, left: usize, all: usize) -> Ends
     }
 }
 
-// Whether a number that has to be looked at is over 2^63 - 1.
+// Whether a number is over 2^63 - 1. It is looked at only where `careful` is true: elsewhere every number of the row is known to be within the limit.
 fn is_over(w: u64, careful: bool) -> bool
     ensures { λ r. ⌜ (r ≡ true → cap ≤ w) × (r ≡ false → careful ≡ true → w < cap) ⌝ }
 {
@@ -185,7 +185,7 @@ fn pass(upper: &[u8], total: usize, part: Part, cells: &mut [u64], careful: bool
     last.window <= MOST
 }
 
-// The number of compositions, or 2^63 where that is less.
+// The number of compositions, or 2^63 where that is less. Numbers are looked at only from the first row on that `few_parts` does not bound.
 fn rows(upper: &[u8], total: usize, all: usize, cells: &mut [u64]) -> u64
     requires { ⌜ (length (now upper) ≤ 24) × (total ≤ 255) × (total ≤ whole (now upper)) × (all ≡ whole (now upper)) × (length (now cells) ≡ 256) ⌝ }
     ensures { λ r. ⌜ r ≡ min (count (now (upper .entry)) (length (now (upper .entry))) total) cap ⌝ }
