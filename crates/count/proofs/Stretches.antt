@@ -101,7 +101,8 @@ module _ (ms : List ℕ) (r : ℕ) (part : Part) (p : Passing ms r part) (l : �
               };
         }
 
-  pub shrinks : (before from : ℕ) → before ≡ min (part .next .high + 1) (most + 1) → from ≡ min before (part .next .low + (l + 1 - part .next .low)) → Stretch (part .row) (part .next) (part .m) from (part .next .low) false true
+  pub shrinks : (before from : ℕ) → before ≡ min (part .next .high + 1) (most + 1) → from ≡ min before (part .next .low + (l + 1 - part .next .low))
+      → Stretch (part .row) (part .next) (part .m) from (part .next .low) false true
   shrinks before from eb ef =
       record {
         low = le-refl _;
@@ -111,12 +112,17 @@ module _ (ms : List ℕ) (r : ℕ) (part : Part) (p : Passing ms r part) (l : �
       }
 
   -- they end at the row's lowest sum
-  pub ends : (before from t : ℕ) → before ≡ min (part .next .high + 1) (most + 1) → from ≡ min before (part .next .low + (l + 1 - part .next .low)) → t ≡ min from (part .next .low) → t ≡ part .next .low
-  ends before from t eb ef et = et ∙ rw (ef, eb) (ends-at (part .next .high + 1) (most + 1) (part .next .low) (l + 1 - part .next .low) high-next (larger (part .row .high) full l (part .next .low) e low-full))
+  pub ends : (before from t : ℕ) → before ≡ min (part .next .high + 1) (most + 1) → from ≡ min before (part .next .low + (l + 1 - part .next .low))
+      → t ≡ min from (part .next .low) → t ≡ part .next .low
+  ends before from t eb ef et =
+      et
+      ∙ rw (ef, eb)
+      (ends-at (part .next .high + 1) (most + 1) (part .next .low) _ high-next (larger (part .row .high) full l (part .next .low) e low-full))
 
 -- before the row is written, and when it is
 module _ (ms : List ℕ) (r : ℕ) (part : Part) (p : Passing ms r part) (w : ℕ) (cells : List ℕ) where
-  pub unwritten : length cells ≡ 256 → Row-counts ms r cells (part .k) 0 256 → Slid ms r (part .k) (part .next .high + 1) w → w < cap → Passed ms r (part .k) (part .next .high + 1) w cells
+  pub unwritten : length cells ≡ 256 → Row-counts ms r cells (part .k) 0 256 → Slid ms r (part .k) (part .next .high + 1) w → w < cap
+      → Passed ms r (part .k) (part .next .high + 1) w cells
   unwritten long old s small =
       record {
         long = long;
