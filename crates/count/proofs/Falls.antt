@@ -44,7 +44,8 @@ module _ (ms : List ℕ) (r k : ℕ) where
         omega (arith, slid-m, ex, fall-leaves a ex, sum-step f t))
 
   -- a window that a cell has entered is a number of the row after
-  pub fall-count : (t w : ℕ) → k < length ms → r ≤ whole ms → Slid ms r k t w → lo + getD ms k 0 < t → t ≤ highest ms r (k + 1) → InBand ms r (k + 1) (t - 1) × (w ≡ count ms (k + 1) (t - 1))
+  pub fall-count : (t w : ℕ) → k < length ms → r ≤ whole ms → Slid ms r k t w → lo + getD ms k 0 < t → t ≤ highest ms r (k + 1)
+      → InBand ms r (k + 1) (t - 1) × (w ≡ count ms (k + 1) (t - 1))
   fall-count t w l reach s h b =
       let low = low-next ms r k l in
       let e : t ≡ t - 1 + 1 = omega arith in

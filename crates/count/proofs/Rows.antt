@@ -1,5 +1,6 @@
 -- Laws of the row that is written over the row before: where its sums stand, the window's next number, and what a stored cell leaves.
 use mathlib.Core.Path.{_≡_, sym, _∙_, subst}
+use mathlib.Core.Bool.{Bool, true, false}
 use mathlib.Core.List.{List}
 use Prim.Native.Nat.{ℕ, _+_, _-_, _≤_, _<_, min, max}
 use native.Mathlib.Omega.{arith}
@@ -9,7 +10,7 @@ use lib.ListN.{length, getD, set, length-set}
 use lib.Seq.{getD-set-same, getD-set-other}
 use Rattle.walsh.specs.Sums.{sum, sumTo}
 use Rattle.walsh.specs.Order.{count}
-use Rattle.walsh.proofs.Cases.{on-less}
+use Rattle.walsh.proofs.Cases.{on-test, on-less}
 use Rattle.walsh.proofs.Lists.{sum-mono}
 use Rattle.walsh.proofs.Listing.{count-none}
 use Rattle.walsh.proofs.Peel.{sum-stop}
@@ -19,7 +20,7 @@ use Rattle.band.specs.Band.{InBand, lowest, highest, cap}
 use Rattle.band.specs.Window.{Slid}
 use Rattle.band.proofs.Bands.{band-most, band-ends, low-high}
 use Rattle.band.proofs.Slides.{behind-in, slid-done}
-use Rattle.count.specs.Row.{IsEnds, Passing, Row-counts, Within, Passed, Moved}
+use Rattle.count.specs.Row.{IsEnds, Passing, Row-counts, Within, Passed, Enters, Moved}
 use Rattle.count.specs.declared.row.Ends.{Ends}
 use Rattle.count.specs.declared.row.Part.{Part}
 use Rattle.count.proofs.Falls.{fall-leaves, fall-over, fall-under, fall-count}
@@ -65,7 +66,8 @@ module _ (ms : List ℕ) (r : ℕ) (part : Part) (p : Passing ms r part) (t : �
     pub leaving-most : (x : ℕ) → x ≡ count ms (part .k) t → x ≤ w
     leaving-most x ex = fall-leaves ms r (part .k) t (part .m) w x 0 (s .window) (p .bound) at-low ex
 
-    pub move-over : (x y v : ℕ) → part .row .low + part .m < t → x ≡ count ms (part .k) t → y ≡ count ms (part .k) (t - (part .m + 1)) → v ≡ w - x + y → Moved ms r (part .k) t v
+    move-over : (x y v : ℕ) → part .row .low + part .m < t → x ≡ count ms (part .k) t → y ≡ count ms (part .k) (t - (part .m + 1)) → v ≡ w - x + y
+        → Moved ms r (part .k) t v
     move-over x y v g ex ey ev =
         let slid : Slid ms r (part .k) t v = rw ev (fall-over ms r (part .k) t (part .m) w x y (s .window) (p .bound) (full-at g) ex ey) in
         let c = fall-count ms r (part .k) t v (p .given) (p .reached) slid (rw (← (p .bound)) (full-at g)) at-high in
@@ -78,7 +80,7 @@ module _ (ms : List ℕ) (r : ℕ) (part : Part) (p : Passing ms r part) (t : �
         suc-le : {a b : ℕ} → a < b → a + 1 ≤ b
         suc-le q = omega arith
 
-    pub move-under : (x v : ℕ) → t ≤ part .row .low + part .m → x ≡ count ms (part .k) t → v ≡ w - x → Moved ms r (part .k) t v
+    move-under : (x v : ℕ) → t ≤ part .row .low + part .m → x ≡ count ms (part .k) t → v ≡ w - x → Moved ms r (part .k) t v
     move-under x v g ex ev =
         record {
           slid = rw ev (fall-under ms r (part .k) t (part .m) w x 0 (s .window) (p .bound) at-low (rw (← (p .from .low)) g) ex);
@@ -89,6 +91,17 @@ module _ (ms : List ℕ) (r : ℕ) (part : Part) (p : Passing ms r part) (t : �
         less : w < cap → v < cap
         less q = omega arith
 
+    -- x leaves, and y enters where a cell does
+    pub moves : (enters : Bool) (x y v : ℕ) → Enters (part .row) (part .m) t enters → x ≡ count ms (part .k) t
+        → (enters ≡ true → y ≡ count ms (part .k) (t - (part .m + 1))) → (enters ≡ false → y ≡ 0) → v ≡ w - x + y → Moved ms r (part .k) t v
+    moves enters x y v q ex ey ez ev =
+        on-test enters
+        (λ h. move-over x y v (q .entering h) ex (ey h) ev)
+        (λ h. move-under x v (q .staying h) ex (ev ∙ rw (ez h) (plain (w - x))))
+      where
+        plain : (n : ℕ) → n + 0 ≡ n
+        plain n = omega arith
+
     -- the window's number is stored
     pub stored : (v : ℕ) → t < 256 → Slid ms r (part .k) t v → v < cap → Passed ms r (part .k) t v (set cells t w)
     stored v b slid small =
@@ -97,7 +110,7 @@ module _ (ms : List ℕ) (r : ℕ) (part : Part) (p : Passing ms r part) (t : �
           below = λ u i a c. let old = s .below u i a (lt-suc c) in (getD-set-other cells t u w 0 (λ q. omega (arith, c, q)) ∙ old .0, old .1);
           above = λ u i a c. on-less t u
               (λ tu _. let old = s .above u i (suc-le tu) c in (getD-set-other cells t u w 0 (λ q. omega (arith, tu, q)) ∙ old .0, old .1))
-              (λ ut _. let q : t ≡ u = omega arith in subst (λ (n : ℕ). (getD (set cells t w) n 0 ≡ count ms (part .k + 1) n) × (count ms (part .k + 1) n < cap)) q here);
+              (λ ut _. let q : t ≡ u = omega arith in subst Here q here);
           window = slid;
           small = small;
         }
@@ -105,7 +118,10 @@ module _ (ms : List ℕ) (r : ℕ) (part : Part) (p : Passing ms r part) (t : �
         is : w ≡ count ms (part .k + 1) t
         is = slid-done ms r (part .k) t w (p .given) (p .reached) (s .window) (rw (← (p .to .low)) l)
 
-        here : (getD (set cells t w) t 0 ≡ count ms (part .k + 1) t) × (count ms (part .k + 1) t < cap)
+        Here : ℕ → Type 0
+        Here n = (getD (set cells t w) n 0 ≡ count ms (part .k + 1) n) × (count ms (part .k + 1) n < cap)
+
+        here : Here t
         here = (getD-set-same cells t w 0 (rw (s .long) b) ∙ is, rw is at (s .small))
 
         suc-le : {u : ℕ} → t < u → t + 1 ≤ u
@@ -140,10 +156,12 @@ module _ (ms : List ℕ) (r : ℕ) (part : Part) (p : Passing ms r part) where
       go : (s n : ℕ) → part .row .low ≡ r - (n - s) → part .row .high ≡ min r s → s ≤ n → r ≤ n → part .row .low ≤ part .row .high
       go s n a b l h = omega arith
 
-  pub first-at : (a : ℕ) → a ≡ part .row .low + (part .next .high - part .m - part .row .low) → (part .row .low ≤ a) × (a ≤ part .row .high + 1) × (part .next .high - part .m ≤ a)
+  pub first-at : (a : ℕ) → a ≡ part .row .low + (part .next .high - part .m - part .row .low)
+      → (part .row .low ≤ a) × (a ≤ part .row .high + 1) × (part .next .high - part .m ≤ a)
   first-at a e = go (sumTo ms (part .k)) (sumTo ms (part .k + 1)) (p .from .high) (p .to .high) next-left row-rises
     where
-      go : (s s′ : ℕ) → part .row .high ≡ min r s → part .next .high ≡ min r s′ → s′ ≡ s + part .m → part .row .low ≤ part .row .high → (part .row .low ≤ a) × (a ≤ part .row .high + 1) × (part .next .high - part .m ≤ a)
+      go : (s s′ : ℕ) → part .row .high ≡ min r s → part .next .high ≡ min r s′ → s′ ≡ s + part .m → part .row .low ≤ part .row .high
+          → (part .row .low ≤ a) × (a ≤ part .row .high + 1) × (part .next .high - part .m ≤ a)
       go s s′ x y z l = (omega arith, omega arith, omega arith)
 
   pub row-in : (t : ℕ) → part .row .low ≤ t → t < part .row .high + 1 → InBand ms r (part .k) t
@@ -153,8 +171,12 @@ module _ (ms : List ℕ) (r : ℕ) (part : Part) (p : Passing ms r part) where
       le-of q = omega arith
 
   -- it is at most the highest number of row k + 1
-  pub top-within : (a t w : ℕ) → w + sum f a ≡ sum f t → part .next .high - part .m ≤ a → t ≤ part .row .high + 1 → (Within ms r (part .k + 1) → w < cap) × (cap ≤ w → cap ≤ count ms (length ms) r)
-  top-within a t w e l h = (λ q. le-lt most (q (part .next .high) (top-next .high)), λ q. le-trans (le-trans q most) (band-most ms r (part .k + 1) (part .next .high) (suc-le (p .given)) top-next))
+  pub top-within : (a t w : ℕ) → w + sum f a ≡ sum f t → part .next .high - part .m ≤ a → t ≤ part .row .high + 1
+      → (Within ms r (part .k + 1) → w < cap) × (cap ≤ w → cap ≤ count ms (length ms) r)
+  top-within a t w e l h = (
+    λ q. le-lt most (q (part .next .high) (top-next .high)),
+    λ q. le-trans (le-trans q most) (band-most ms r (part .k + 1) (part .next .high) (suc-le (p .given)) top-next),
+  )
     where
       suc-le : {a b : ℕ} → a < b → a + 1 ≤ b
       suc-le q = omega arith
@@ -171,14 +193,17 @@ module _ (ms : List ℕ) (r : ℕ) (part : Part) (p : Passing ms r part) where
       most : w ≤ count ms (part .k + 1) (part .next .high)
       most =
           rw add-one
-          (join (count-window ms (part .k) (part .next .high)) (sum-mono f (part .next .high - getD ms (part .k) 0) a (rw (p .bound) at l)) (sum-mono f t (part .next .high + 1) (le-trans h (add-le high-rises))))
+          (join (count-window ms (part .k) (part .next .high))
+          (sum-mono f (part .next .high - getD ms (part .k) 0) a (rw (p .bound) at l))
+          (sum-mono f t (part .next .high + 1) (le-trans h (add-le high-rises))))
 
   -- sums that the first k parts do not reach add nothing
-  pub top-slid : (a w : ℕ) → a ≡ part .row .low + (part .next .high - part .m - part .row .low) → w + sum f a ≡ sum f (part .row .high + 1) → Slid ms r (part .k) (part .next .high + 1) w
+  pub top-slid : (a w : ℕ) → a ≡ part .row .low + (part .next .high - part .m - part .row .low) → w + sum f a ≡ sum f (part .row .high + 1)
+      → Slid ms r (part .k) (part .next .high + 1) w
   top-slid a w ea e =
       rw (← (p .bound), ← (p .from .low))
       (join (sum-at f (max (part .row .low) (part .next .high + 1 - (part .m + 1))) a (omega arith))
-      (sum-stop f (part .row .high + 1) (part .next .high + 1) (add-le high-rises) (λ i x y. count-none ms (part .k) i (beyond r (sumTo ms (part .k)) (part .row .high) i (p .from .high) (lt-of x) (le-trans (le-of y) (top-next .high))))))
+      (sum-stop f (part .row .high + 1) (part .next .high + 1) (add-le high-rises) none))
     where
       le-of : {a b : ℕ} → a < b + 1 → a ≤ b
       le-of q = omega arith
@@ -189,6 +214,10 @@ module _ (ms : List ℕ) (r : ℕ) (part : Part) (p : Passing ms r part) where
       lt-of : {a b : ℕ} → a + 1 ≤ b → a < b
       lt-of q = omega arith
 
+      none : (i : ℕ) → part .row .high + 1 ≤ i → i < part .next .high + 1 → count ms (part .k) i ≡ 0
+      none i x y =
+          count-none ms (part .k) i (beyond r (sumTo ms (part .k)) (part .row .high) i (p .from .high) (lt-of x) (le-trans (le-of y) (top-next .high)))
+
       join : {b d : ℕ} → b ≡ sum f a → d ≡ sum f (part .row .high + 1) → w + b ≡ d
       join x y = omega arith
 
@@ -196,7 +225,8 @@ module _ (ms : List ℕ) (r : ℕ) (part : Part) (p : Passing ms r part) where
 pub ends-first : (ms : List ℕ) (r all : ℕ) (e : Ends) → all ≡ whole ms → e .low ≡ r - (all - 0) → e .high ≡ min r 0 → IsEnds ms r 0 e
 ends-first ms r all e ea el eh = record { low = el ∙ rw ea; high = eh }
 
-pub left-fits : (ms : List ℕ) (k left m all : ℕ) → k < length ms → left ≡ sumTo ms k → m ≡ getD ms k 0 → all ≡ whole ms → (left + m ≡ sumTo ms (k + 1)) × (left + m ≤ all)
+pub left-fits : (ms : List ℕ) (k left m all : ℕ) → k < length ms → left ≡ sumTo ms k → m ≡ getD ms k 0 → all ≡ whole ms
+    → (left + m ≡ sumTo ms (k + 1)) × (left + m ≤ all)
 left-fits ms k left m all l e em ea =
     let q : left + m ≡ sumTo ms (k + 1) = rw (e, em) (sym (sum-step (λ j. getD ms j 0) k)) in
     (q, rw (q, ea) (sum-to-mono ms (k + 1) (length ms) (suc-le l)))
@@ -204,7 +234,8 @@ left-fits ms k left m all l e em ea =
     suc-le : {a b : ℕ} → a < b → a + 1 ≤ b
     suc-le q = omega arith
 
-pub ends-next : (ms : List ℕ) (r k left all : ℕ) (e : Ends) → all ≡ whole ms → left ≡ sumTo ms k → e .low ≡ r - (all - left) → e .high ≡ min r left → IsEnds ms r k e
+pub ends-next : (ms : List ℕ) (r k left all : ℕ) (e : Ends) → all ≡ whole ms → left ≡ sumTo ms k → e .low ≡ r - (all - left) → e .high ≡ min r left
+    → IsEnds ms r k e
 ends-next ms r k left all e ea q el eh = record { low = el ∙ rw (ea, q); high = eh ∙ rw q }
 
 -- the row of no parts: 1 at the sum 0

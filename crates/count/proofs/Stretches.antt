@@ -75,41 +75,54 @@ module _ (ms : List ℕ) (r : ℕ) (part : Part) (p : Passing ms r part) (l : �
       record {
         low = larger (part .row .high) full l (part .next .low) e low-full;
         high = le-refl _;
-        moves = λ t a b. let q = above (part .row .high) full l t e a in record { entering = λ _. q .0; staying = no; leaving = no′; passed = λ _. q .1 };
+        entering = λ t a b. record { entering = λ _. above (part .row .high) full l t e a .0; staying = no };
+        leaving = λ t a b. record { leaving = no′; passed = λ _. above (part .row .high) full l t e a .1 };
       }
 
-  pub slides : (from end : ℕ) → from ≡ min (part .next .high + 1) (most + 1) → end ≡ part .next .low + (l + 1 - part .next .low) → Stretch (part .row) (part .next) (part .m) from end (ltb full (part .row .high)) (ltb full (part .row .high))
-  slides from end ef ee =
-      record {
-        low = rw ee (least-le (part .next .low) (l + 1));
-        high = rw ef (min-left _ _ _ (le-refl _));
-        moves = λ t a b.
-            let q = between (part .row .high) full l t e (least-lt (part .next .low) l t (rw ee at a)) (min-right (part .next .high + 1) most t (rw ef at b)) in
-            record {
-              entering = λ h. q .0 (ltb-true full (part .row .high) h) .0;
-              staying = λ h. q .1 (ltb-false full (part .row .high) h) .1;
-              leaving = λ h. q .0 (ltb-true full (part .row .high) h) .1;
-              passed = λ h. q .1 (ltb-false full (part .row .high) h) .0;
-            };
-      }
+  module _ (from end : ℕ) (ef : from ≡ min (part .next .high + 1) (most + 1)) (ee : end ≡ part .next .low + (l + 1 - part .next .low)) where
+    slide : (t : ℕ) → end ≤ t → t < from
+        → (full < part .row .high → (full < t) × (t ≤ part .row .high)) × (part .row .high ≤ full → (part .row .high < t) × (t ≤ full))
+    slide t a b = between (part .row .high) full l t e (least-lt (part .next .low) l t (rw ee at a)) (min-right (part .next .high + 1) most t (rw ef at b))
 
-  pub shrinks : (before from : ℕ) → before ≡ min (part .next .high + 1) (most + 1) → from ≡ min before (part .next .low + (l + 1 - part .next .low)) → Stretch (part .row) (part .next) (part .m) from (part .next .low) false true
+    pub slides : Stretch (part .row) (part .next) (part .m) from end (ltb full (part .row .high)) (ltb full (part .row .high))
+    slides =
+        record {
+          low = rw ee (least-le (part .next .low) (l + 1));
+          high = rw ef (min-left _ _ _ (le-refl _));
+          entering = λ t a b.
+              record {
+                entering = λ h. slide t a b .0 (ltb-true full (part .row .high) h) .0;
+                staying = λ h. slide t a b .1 (ltb-false full (part .row .high) h) .1;
+              };
+          leaving = λ t a b.
+              record {
+                leaving = λ h. slide t a b .0 (ltb-true full (part .row .high) h) .1;
+                passed = λ h. slide t a b .1 (ltb-false full (part .row .high) h) .0;
+              };
+        }
+
+  pub shrinks : (before from : ℕ) → before ≡ min (part .next .high + 1) (most + 1) → from ≡ min before (part .next .low + (l + 1 - part .next .low))
+      → Stretch (part .row) (part .next) (part .m) from (part .next .low) false true
   shrinks before from eb ef =
       record {
         low = le-refl _;
         high = rw (ef, eb) (min-left _ _ _ (min-left _ _ _ (le-refl _)));
-        moves = λ t a b.
-            let q = below (part .row .high) full l t e (under before (part .next .low) l t a (rw ef at b)) in
-            record { entering = no′; staying = λ _. q .0; leaving = λ _. q .1; passed = no };
+        entering = λ t a b. record { entering = no′; staying = λ _. below (part .row .high) full l t e (under before (part .next .low) l t a (rw ef at b)) .0 };
+        leaving = λ t a b. record { leaving = λ _. below (part .row .high) full l t e (under before (part .next .low) l t a (rw ef at b)) .1; passed = no };
       }
 
   -- they end at the row's lowest sum
-  pub ends : (before from t : ℕ) → before ≡ min (part .next .high + 1) (most + 1) → from ≡ min before (part .next .low + (l + 1 - part .next .low)) → t ≡ min from (part .next .low) → t ≡ part .next .low
-  ends before from t eb ef et = et ∙ rw (ef, eb) (ends-at (part .next .high + 1) (most + 1) (part .next .low) (l + 1 - part .next .low) high-next (larger (part .row .high) full l (part .next .low) e low-full))
+  pub ends : (before from t : ℕ) → before ≡ min (part .next .high + 1) (most + 1) → from ≡ min before (part .next .low + (l + 1 - part .next .low))
+      → t ≡ min from (part .next .low) → t ≡ part .next .low
+  ends before from t eb ef et =
+      et
+      ∙ rw (ef, eb)
+      (ends-at (part .next .high + 1) (most + 1) (part .next .low) _ high-next (larger (part .row .high) full l (part .next .low) e low-full))
 
 -- before the row is written, and when it is
 module _ (ms : List ℕ) (r : ℕ) (part : Part) (p : Passing ms r part) (w : ℕ) (cells : List ℕ) where
-  pub unwritten : length cells ≡ 256 → Row-counts ms r cells (part .k) 0 256 → Slid ms r (part .k) (part .next .high + 1) w → w < cap → Passed ms r (part .k) (part .next .high + 1) w cells
+  pub unwritten : length cells ≡ 256 → Row-counts ms r cells (part .k) 0 256 → Slid ms r (part .k) (part .next .high + 1) w → w < cap
+      → Passed ms r (part .k) (part .next .high + 1) w cells
   unwritten long old s small =
       record {
         long = long;

@@ -42,10 +42,13 @@ pub record Passed (ms : List ℕ) (r k t w : ℕ) (cells : List ℕ) : Type 0 wh
   pub window : Slid ms r k t w
   pub small : w < cap
 
--- as the window leaves the sum t, the cell at its low end enters it, or none does, and the cell at t leaves it, or there is none
-pub record Moves (row : Ends) (m t : ℕ) (enters leaves : Bool) : Type 0 where
+-- as the window leaves the sum t, the cell at its low end enters it, or none does
+pub record Enters (row : Ends) (m t : ℕ) (enters : Bool) : Type 0 where
   pub entering : enters ≡ true → row .low + m < t
   pub staying : enters ≡ false → t ≤ row .low + m
+
+-- and the cell at t leaves it, or there is none
+pub record Leaves (row : Ends) (t : ℕ) (leaves : Bool) : Type 0 where
   pub leaving : leaves ≡ true → t ≤ row .high
   pub passed : leaves ≡ false → row .high < t
 
@@ -59,4 +62,5 @@ pub record Moved (ms : List ℕ) (r k t w : ℕ) : Type 0 where
 pub record Stretch (row next : Ends) (m from end : ℕ) (enters leaves : Bool) : Type 0 where
   pub low : next .low ≤ end
   pub high : from ≤ next .high + 1
-  pub moves : (t : ℕ) → end ≤ t → t < from → Moves row m t enters leaves
+  pub entering : (t : ℕ) → end ≤ t → t < from → Enters row m t enters
+  pub leaving : (t : ℕ) → end ≤ t → t < from → Leaves row t leaves

@@ -8,7 +8,7 @@ ghost use Rattle.bounds.specs.Edition.{whole, shapeChecks};
 ghost use Rattle.bounds.specs.Refusal.{firstRefusal};
 ghost use Rattle.band.specs.Band.{InBand, cap, numberOf};
 ghost use Rattle.band.specs.Window.{Slid};
-ghost use Rattle.count.specs.Row.{Passing, Row-counts, Within, Passed, Moves, Moved, Stretch};
+ghost use Rattle.count.specs.Row.{Passing, Row-counts, Within, Passed, Enters, Leaves, Stretch};
 use band::window::table;
 use band::window::table::Counted;
 
@@ -46,7 +46,7 @@ fn ends_of(total: usize, left: usize, all: usize) -> Ends
     }
 }
 
-// Whether a number that has to be looked at is over 2^63 - 1.
+// Whether a number is over 2^63 - 1. It is looked at only where `careful` is true: elsewhere every number of the row is known to be within the limit.
 fn is_over(w: u64, careful: bool) -> bool
     ensures { λ r. ⌜ (r ≡ true → cap ≤ w) × (r ≡ false → careful ≡ true → w < cap) ⌝ }
 {
@@ -81,33 +81,28 @@ fn top(upper: &[u8], total: usize, part: Part, cells: &[u64], careful: bool) -> 
     w
 }
 
-// The window moved from the sum `t` to the sum before, where it is known whether a cell enters it and whether one leaves it.
-fn step(
-    upper: &[u8],
-    total: usize,
-    part: Part,
-    cells: &[u64],
-    t: usize,
-    w: u64,
-    enters: bool,
-    leaves: bool,
-) -> u64
-    requires { ⌜ Passing (now upper) total part × (part .next .low ≤ t) × (t ≤ part .next .high) × Passed (now upper) total (part .k) (t + 1) w (now cells) × Moves (part .row) (part .m) t enters leaves ⌝ }
-    ensures { λ r. ⌜ Moved (now (upper .entry)) total (part .k) t r ⌝ }
+// The cell that leaves the window as it moves from the sum `t` to the sum before, or 0.
+fn leaving(upper: &[u8], total: usize, part: Part, cells: &[u64], t: usize, leaves: bool) -> u64
+    requires { ⌜ Passing (now upper) total part × (part .next .low ≤ t) × (t ≤ part .next .high) × (length (now cells) ≡ 256) × Row-counts (now upper) total (now cells) (part .k) 0 (t + 1) × Leaves (part .row) t leaves ⌝ }
+    ensures { λ r. ⌜ r ≡ count (now (upper .entry)) (part .k) t ⌝ }
 {
-    let k = part.k;
-    let m = part.m;
-    if enters {
-        if leaves {
-            let x = cell(upper, total, k, cells, t);
-            return band::window::moved(w, x, cell(upper, total, k, cells, t - (m + 1)));
-        }
-        return w + cell(upper, total, k, cells, t - (m + 1));
-    }
     if leaves {
-        return w - cell(upper, total, k, cells, t);
+        cell(upper, total, part.k, cells, t)
+    } else {
+        0
     }
-    w
+}
+
+// The cell that enters it, or 0.
+fn entering(upper: &[u8], total: usize, part: Part, cells: &[u64], t: usize, enters: bool) -> u64
+    requires { ⌜ Passing (now upper) total part × (part .next .low ≤ t) × (t ≤ part .next .high) × (length (now cells) ≡ 256) × Row-counts (now upper) total (now cells) (part .k) 0 (t + 1) × Enters (part .row) (part .m) t enters ⌝ }
+    ensures { λ r. ⌜ (r < cap) × (enters ≡ true → r ≡ count (now (upper .entry)) (part .k) (t - (part .m + 1))) × (enters ≡ false → r ≡ 0) ⌝ }
+{
+    if enters {
+        cell(upper, total, part.k, cells, t - (part.m + 1))
+    } else {
+        0
+    }
 }
 
 // Writes the row after from the sum before `at` down to `end`, or stops at a number over 2^63 - 1.
@@ -129,9 +124,10 @@ fn fall(
     let mut t = at.t;
     while end < t {
         t -= 1;
-        let before = step(upper, total, part, cells, t, w, enters, leaves);
+        let x = leaving(upper, total, part, cells, t, leaves);
+        let y = entering(upper, total, part, cells, t, enters);
         cells[t] = w;
-        w = before;
+        w = band::window::moved(w, x, y);
         if is_over(w, careful) {
             return At { t, window: w };
         }
@@ -181,7 +177,7 @@ fn pass(upper: &[u8], total: usize, part: Part, cells: &mut [u64], careful: bool
     last.window <= MOST
 }
 
-// The number of compositions, or 2^63 where that is less.
+// The number of compositions, or 2^63 where that is less. Numbers are looked at only from the first row on that `few_parts` does not bound.
 fn rows(upper: &[u8], total: usize, all: usize, cells: &mut [u64]) -> u64
     requires { ⌜ (length (now upper) ≤ 24) × (total ≤ 255) × (total ≤ whole (now upper)) × (all ≡ whole (now upper)) × (length (now cells) ≡ 256) ⌝ }
     ensures { λ r. ⌜ r ≡ min (count (now (upper .entry)) (length (now (upper .entry))) total) cap ⌝ }

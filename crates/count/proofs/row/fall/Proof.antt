@@ -7,8 +7,8 @@ use lib.ListN.{length-set}
 use denote.Ref.{now}
 use borrow.Author.Needs.{needs}
 use Rattle.walsh.proofs.Cases.{on-test}
-use Rattle.count.specs.Row.{Passed}
-use Rattle.count.proofs.Rows.{at-total, stored}
+use Rattle.count.specs.Row.{Passed, Enters, Moved}
+use Rattle.count.proofs.Rows.{at-total, leaving-most, moves, stored}
 use Rattle.count.proofs.row.fall.Statement.{statement}
 use Rattle.count.proofs.row.fall.Tie as tie
 
@@ -62,11 +62,35 @@ module _ (c : tie.In-loop Inv-loop μ-loop) where
   passed-at : Passed (now (start .args .upper)) (start .args .total) (start .args .part .k) (at + 1) (c .before .loop .w) (c .before .loop .cells)
   passed-at = subst (λ (t : ℕ). Passed (now (start .args .upper)) (start .args .total) (start .args .part .k) t (c .before .loop .w) (c .before .loop .cells)) (back (c .loop-test .taken)) (c .before .loop .inv .2)
 
-step-requires : tie.Need-step-requires Inv-loop μ-loop
-step-requires c κs =
+  enters-at : Enters (start .args .part .row) (start .args .part .m) at (start .args .enters)
+  enters-at = start .pre .1 .entering _ (down (c .loop-test .taken)) (below (c .loop-test .taken) (c .before .loop .inv .0))
+
+leaving-requires : tie.Need-leaving-requires Inv-loop μ-loop
+leaving-requires c κs =
     let d = c .before in
     let s = start d in
-    (s .pre .0, low-at d, high-at d, passed-at d, s .pre .1 .moves _ (down (d .loop-test .taken)) (below (d .loop-test .taken) (d .before .loop .inv .0)))
+    let l = passed-at d in
+    (s .pre .0, low-at d, high-at d, l .long, l .below, s .pre .1 .leaving _ (down (d .loop-test .taken)) (below (d .loop-test .taken) (d .before .loop .inv .0)))
+
+entering-requires : tie.Need-entering-requires Inv-loop μ-loop
+entering-requires c κs =
+    let d = c .before .before .before in
+    let s = start d in
+    let l = passed-at d in
+    (s .pre .0, low-at d, high-at d, l .long, l .below, enters-at d)
+
+-- the window's next number
+moved-at : (c : tie.After-moved Inv-loop μ-loop)
+    → let a = start (c .before .before .before .before .before) .args in
+    Moved (now (a .upper)) (a .total) (a .part .k) (at (c .before .before .before .before .before)) (c .moved .result)
+moved-at c =
+    let d = c .before .before .before .before .before in
+    let a = start d .args in
+    let l = d .before .loop in
+    let x = c .before .before .before .leaving in
+    let y = c .before .entering in
+    moves (now (a .upper)) (a .total) (a .part) (start d .pre .0) _ (low-at d) (high-at d) (l .w) (l .cells) (passed-at d) (a .enters) (x .result) (y .result) _ (enters-at d) (x .ensures) (y .ensures .1) (y .ensures .2)
+    (c .moved .ensures (leaving-most (now (a .upper)) (a .total) (a .part) (start d .pre .0) _ (low-at d) (high-at d) (l .w) (l .cells) (passed-at d) (x .result) (x .ensures)) (l .inv .2 .small) (y .ensures .0))
 
 less : {t n : ℕ} → t ≤ 255 → n ≡ 256 → t < n
 less l e = omega arith
@@ -77,19 +101,19 @@ small l = omega arith
 returns : tie.Need-returns Inv-loop μ-loop
 returns c =
     let o = c .before .is-over .ensures .0 (c .if1 .taken) in
-    (λ h. absurd (omega (arith, h, o)), c .before .before .step .ensures .over)
+    (λ h. absurd (omega (arith, h, o)), moved-at (c .before .before) .over)
 
 loop-again : tie.Need-loop-again Inv-loop μ-loop
 loop-again c =
-    let d = c .before .before .before .before in
+    let d = c .before .before .before .before .before .before .before in
     let s = start d in
     let a = s .args in
     let l = d .before .loop in
-    let v = c .before .before .step in
-    let within = on-test (a .careful) (λ e. c .before .is-over .ensures .1 (c .if1 .left) e) (λ e. v .ensures .within (s .pre .3 e)) in (
+    let v = moved-at (c .before .before) in
+    let within = on-test (a .careful) (λ e. c .before .is-over .ensures .1 (c .if1 .left) e) (λ e. v .within (s .pre .3 e)) in (
       down-le (l .inv .0),
       min-down _ _ _ (d .loop-test .taken),
-      stored (now (a .upper)) (a .total) (a .part) (s .pre .0) _ (low-at d) (high-at d) (l .w) (l .cells) (passed-at d) (v .result) (small (small-at d)) (v .ensures .slid) within,
+      stored (now (a .upper)) (a .total) (a .part) (s .pre .0) _ (low-at d) (high-at d) (l .w) (l .cells) (passed-at d) _ (small (small-at d)) (v .slid) within,
     )
 
 is-min : {t s e : ℕ} → t ≤ s → min s e ≤ t → t ≤ e → t ≡ min s e
@@ -106,13 +130,15 @@ fall-spec =
     μ-loop
     (λ c. (le-refl _, min-low _ _, c .before .before .pre .2))
     (λ c. some (c .loop-test .taken))
-    step-requires
-    (λ c. let b = small-at (c .before .before) in omega arith)
-    (λ c. less (small-at (c .before .before)) (c .before .before .before .loop .inv .2 .long))
+    leaving-requires
+    entering-requires
+    (λ c. let b = small-at (c .before .before .before .before) in omega arith)
+    (λ c. less (small-at (c .before .before .before .before)) (c .before .before .before .before .before .loop .inv .2 .long))
     (λ c κs. search needs)
-    (λ c. let l = c .before .before .before .before .before .loop in length-set (l .cells) _ (l .w) ∙ l .inv .2 .long ∙ sym (c .before .before .before .before .before .before .before .before .pre .2 .long))
+    (λ c κs. search needs)
+    (λ c. let l = c .before .before .before .before .before .before .before .before .loop in length-set (l .cells) _ (l .w) ∙ l .inv .2 .long ∙ sym (c .before .before .before .before .before .before .before .before .before .before .before .pre .2 .long))
     returns
-    (λ c. below (c .before .before .before .before .loop-test .taken) (le-refl _))
+    (λ c. below (c .before .before .before .before .before .before .before .loop-test .taken) (le-refl _))
     loop-again
     (λ c. c .before .loop .inv .2 .long ∙ sym (c .before .before .before .before .pre .2 .long))
     returns-2)
