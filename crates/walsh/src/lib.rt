@@ -3,7 +3,7 @@
 ghost use mathlib.Core.Path.{_≡_};
 ghost use Prim.Native.Nat.{ℕ, _-_, _≤_, min};
 ghost use Rattle.walsh.specs.Order.{isOdd};
-ghost use Rattle.walsh.specs.Step.{firstValue, lastValue, nextValue};
+ghost use Rattle.walsh.specs.Step.{firstValue, nextValue};
 
 pub fn wide(x: u8) -> usize
     ensures { λ r. ⌜ (r ≡ x) × (r ≤ 255) ⌝ }
@@ -36,13 +36,6 @@ pub fn first_value(lo: usize, hi: usize, falling: bool) -> usize
     ensures { λ r. ⌜ r ≡ firstValue lo hi falling ⌝ }
 {
     if falling { hi } else { lo }
-}
-
-// The last of the values lo..hi.
-pub fn last_value(lo: usize, hi: usize, falling: bool) -> usize
-    ensures { λ r. ⌜ r ≡ lastValue lo hi falling ⌝ }
-{
-    if falling { lo } else { hi }
 }
 
 // The value after v.
