@@ -9,7 +9,7 @@ use Rattle.walsh.specs.Order.{countOf}
 use Rattle.walsh.proofs.Cases.{on-test, on-less}
 use Rattle.bounds.specs.Refusal.{Check, check, refused, firstRefusal}
 use Rattle.bounds.specs.Edition.{whole, shapeChecks, editionChecks}
-use Rattle.band.specs.Band.{bandSize, cap, surveyOf, tableChecks, limited, numberOf, countedOf}
+use Rattle.band.specs.Band.{bandSize, cap, surveyOf, limited, numberOf}
 use Rattle.bounds.specs.declared.Refusal.{Refusal}
 use Rattle.band.specs.declared.Surveyed.{Surveyed}
 use Rattle.band.specs.declared.window.table.Counted.{Counted}
@@ -22,9 +22,6 @@ module _ (ms : List ℕ) (r : ℕ) where
 
   abbrev edition : Refusal
   edition = firstRefusal (editionChecks ms r)
-
-  abbrev limit : List Check
-  limit = check 5 (ltb 9223372036854775807 (countOf ms r)) 0 ∷ []
 
   -- ---- the survey
 
@@ -90,36 +87,3 @@ module _ (ms : List ℕ) (r : ℕ) where
       on-test (eqb (edition .number) 0)
       (λ t. rw (e, t) (sym (refusal-none (editionChecks ms r) refl (eqb-true (edition .number) 0 t))))
       (λ t. rw (e, t))
-
-  -- ---- N with a lent table
-
-  module _ (size : ℕ) where
-    abbrev room : List Check
-    room = check 13 (ltb size (bandSize ms r)) 0 ∷ limit
-
-    abbrev table : Refusal
-    table = firstRefusal (tableChecks ms r size)
-
-    pub counted-refused : (n d : ℕ) → shape ≡ refused n d → 0 < n → record { number = n; detail = d; count = 0 } ≡ countedOf ms r size
-    unfolding countedOf
-    counted-refused n d e l =
-        let t : table ≡ refused n d = refusal-first (shapeChecks ms r) room (λ z. let q : n ≡ 0 = rw e at z in omega arith) ∙ e in
-        rw (by-refusal table _ _ n d t l, t)
-
-    pub counted-short : shape .number ≡ 0 → size < bandSize ms r → record { number = 13; detail = 0; count = 0 } ≡ countedOf ms r size
-    unfolding countedOf
-    counted-short e l =
-        let t : table ≡ refused 13 0 = refusal-later (shapeChecks ms r) room refl e ∙ refusal-here _ _ (lt-ltb _ _ l) in
-        rw (by-refusal table _ _ 13 0 t (omega arith), t)
-
-    -- where there is room, the checks are those of the edition
-    table-edition : bandSize ms r ≤ size → table ≡ edition
-    table-edition l =
-        on-test (eqb (shape .number) 0)
-        (λ t. let z = eqb-true (shape .number) 0 t in
-        refusal-later (shapeChecks ms r) room refl z ∙ refusal-next _ _ (le-ltb _ _ l) ∙ sym (refusal-later (shapeChecks ms r) limit refl z))
-        (λ t. let z = eqb-false (shape .number) 0 t in refusal-first (shapeChecks ms r) room z ∙ sym (refusal-first (shapeChecks ms r) limit z))
-
-    pub counted-number : bandSize ms r ≤ size → countedOf ms r size ≡ numberOf ms r
-    unfolding countedOf numberOf
-    counted-number l = rw (table-edition l)

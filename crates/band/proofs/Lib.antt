@@ -3,3 +3,7 @@ pub mod Bands
 pub mod Slides
 pub mod Rows
 pub mod Nonempty
+pub mod Runs
+pub mod Picks
+pub mod Parts
+pub mod Finds

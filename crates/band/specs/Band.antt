@@ -2,13 +2,13 @@
 -- at most N, so where N is within the limit all of them are.
 use mathlib.Core.Path.{_≡_}
 use mathlib.Core.Bool.{cond}
-use mathlib.Core.List.{List, [], _∷_, _++_}
+use mathlib.Core.List.{List}
 use Prim.Native.Nat.{ℕ, suc, _+_, _-_, _≤_, _<_, min}
 use lib.Dec.{ltb, eqb}
 use lib.ListN.{length, getD}
 use Rattle.walsh.specs.Sums.{sum, sumTo}
 use Rattle.walsh.specs.Order.{count, countOf}
-use Rattle.bounds.specs.Refusal.{Check, check, firstRefusal}
+use Rattle.bounds.specs.Refusal.{firstRefusal}
 use Rattle.bounds.specs.Edition.{whole, shapeChecks, editionChecks}
 use Rattle.bounds.specs.declared.Refusal.{Refusal}
 use Rattle.band.specs.declared.Surveyed.{Surveyed}
@@ -82,14 +82,6 @@ surveyedBy v ms r =
 unfoldable pub surveyOf : List ℕ → ℕ → Surveyed
 surveyOf ms r = surveyedBy (firstRefusal (shapeChecks ms r)) ms r
 
--- the checks of a call that is lent a table of `size` cells: 13 where that is too short
-abbrev pub tableChecks : List ℕ → ℕ → ℕ → List Check
-tableChecks ms r size =
-    shapeChecks ms r
-    ++ (check 13 (ltb size (bandSize ms r)) 0
-    ∷ check 5 (ltb 9223372036854775807 (countOf ms r)) 0
-    ∷ [])
-
 abbrev pub countedBy : Refusal → List ℕ → ℕ → Counted
 countedBy v ms r =
     cond (eqb (v .number) 0)
@@ -103,7 +95,3 @@ limited n = cond (ltb 9223372036854775807 n) (record { number = 5; detail = 0; c
 -- N, or the refusal of the edition
 unfoldable pub numberOf : List ℕ → ℕ → Counted
 numberOf ms r = countedBy (firstRefusal (editionChecks ms r)) ms r
-
--- the same, with a lent table
-unfoldable pub countedOf : List ℕ → ℕ → ℕ → Counted
-countedOf ms r size = countedBy (firstRefusal (tableChecks ms r size)) ms r

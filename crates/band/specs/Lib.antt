@@ -1,2 +1,4 @@
 pub mod Band
 pub mod Window
+pub mod Walk
+pub mod Find

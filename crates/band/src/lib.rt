@@ -1,5 +1,6 @@
 // The counting table (document 01: N, and everything that counts). For the first k parts it has the sums from which the total can still be reached, so every
-// count in it is at most N. Here are the places of its rows; `window` fills a row from the row before, `window::table` the whole.
+// count in it is at most N. Here are the places of its rows; `window` fills a row from the row before, `window::table` the whole; `walk` goes from a serial
+// to its composition and back over a filled table, and `find` gives both directions the table they need.
 ghost use mathlib.Core.Path.{_≡_};
 ghost use Prim.Native.Nat.{_+_, _-_, _≤_, _<_, min};
 ghost use lib.ListN.{length, getD};
@@ -7,30 +8,25 @@ ghost use Rattle.walsh.specs.Order.{count};
 ghost use Rattle.bounds.specs.Edition.{whole};
 ghost use Rattle.band.specs.Band.{InBand, bandSize, cap, Row-holds, IsRow, surveyOf};
 
+pub mod find;
+mod walk;
 pub mod window;
 
 // Row k: the cells before it, the sum of the first k bounds and of all, and the lowest and the highest sum in the band.
-pub struct Row {
-    pub start: usize,
-    pub left: usize,
-    pub all: usize,
-    pub low: usize,
-    pub high: usize,
+struct Row {
+    start: usize,
+    left: usize,
+    all: usize,
+    low: usize,
+    high: usize,
 }
 
 // The answer of the checks 1 to 4; where they refuse nothing, the sum of the bounds and the number of cells of the table.
-pub struct Surveyed {
-    pub number: u32,
-    pub detail: u64,
-    pub all: usize,
-    pub size: usize,
-}
-
-// Cell i of a table, and 0 past its end.
-pub fn at(cells: &[u64], i: usize) -> u64
-    ensures { λ r. ⌜ r ≡ getD (now (cells .entry)) i 0 ⌝ }
-{
-    if i < cells.len() { cells[i] } else { 0 }
+struct Surveyed {
+    number: u32,
+    detail: u64,
+    all: usize,
+    size: usize,
 }
 
 // The bound of part `k`, counted from 0.
@@ -92,7 +88,7 @@ fn cell(upper: &[u8], total: usize, k: usize, row: Row, cells: &[u64], t: usize)
 }
 
 // The checks 1 to 4, and how many cells the table has.
-pub fn survey(upper: &[u8], total: u32) -> Surveyed
+fn survey(upper: &[u8], total: u32) -> Surveyed
     ensures { λ r. ⌜ r ≡ surveyOf (now (upper .entry)) total ⌝ }
 {
     let s = bounds::shape(upper, total);

@@ -22,9 +22,9 @@ use Rattle.bounds.proofs.Filling.{filling-refused, filling-done}
 use Rattle.rank.specs.Rank.{rankChecks, rankAnswer}
 use Rattle.rank.specs.Unrank.{unrankChecks, unrankCall}
 use Rattle.rank.specs.Locate.{clamp, nearest, locateOf}
-use Rattle.rank.specs.Find.{foundOf}
-use Rattle.rank.specs.declared.walk.find.Found.{Found}
-use Rattle.rank.specs.declared.walk.find.Task.the-variants.{Rank, Unrank}
+use Rattle.band.specs.Find.{foundOf}
+use Rattle.band.specs.declared.find.Found.{Found}
+use Rattle.band.specs.declared.find.Task.the-variants.{Rank, Unrank}
 
 abbrev number-of : Found → ℕ
 number-of x = x .number

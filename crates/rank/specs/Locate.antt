@@ -2,24 +2,16 @@
 -- as 24 cells, those past n being 0. A refused one answers such a mix all zeros"), together with N.
 use mathlib.Core.Bool.{cond}
 use mathlib.Core.List.{List}
-use Prim.Native.Nat.{ℕ, min, max}
+use Prim.Native.Nat.{ℕ}
 use lib.Dec.{eqb}
 use lib.ListN.{take, replicate}
 use Rattle.walsh.specs.Order.{countOf}
-use Rattle.walsh.specs.Serial.{compositionOf}
 use Rattle.bounds.specs.Refusal.{firstRefusal}
-use Rattle.bounds.specs.Edition.{editionChecks, recordChecks, cellsOf}
+use Rattle.bounds.specs.Edition.{editionChecks, recordChecks}
 use Rattle.bounds.specs.declared.Refusal.{Refusal}
 use Rattle.bounds.specs.declared.Bounds.{Bounds}
+pub use Rattle.band.specs.Find.{clamp, nearest}
 use Rattle.rank.specs.declared.Located.{Located}
-
--- the serial of 1..n that is nearest to s: 0 counts as 1, and one over n as n
-abbrev pub clamp : ℕ → ℕ → ℕ
-clamp n s = max 1 (min s n)
-
--- the cells of that serial's composition
-abbrev pub nearest : List ℕ → ℕ → ℕ → List ℕ
-nearest ms r s = cellsOf (compositionOf ms r (clamp (countOf ms r) s))
 
 abbrev pub locatedBy : Refusal → List ℕ → ℕ → ℕ → Located
 locatedBy v ms r s =

@@ -1,13 +1,12 @@
 -- Document 01, "Serial and mix": "Mix to serial answers the serial, or the refusal with its detail."
 use mathlib.Core.Bool.{cond}
-use mathlib.Core.List.{List, _++_}
+use mathlib.Core.List.{List}
 use Prim.Native.Nat.{ℕ}
 use lib.Dec.{eqb}
 use Rattle.walsh.specs.Serial.{serialOf}
-use Rattle.bounds.specs.Refusal.{Check, firstRefusal}
-use Rattle.bounds.specs.Edition.{editionChecks}
-use Rattle.bounds.specs.Places.{compositionChecks}
+use Rattle.bounds.specs.Refusal.{firstRefusal}
 use Rattle.bounds.specs.declared.Refusal.{Refusal}
+pub use Rattle.band.specs.Find.{rankChecks}
 use Rattle.rank.specs.declared.Ranked.{Ranked}
 use Rattle.rank.specs.declared.Ranked.the-variants.{Serial, Refused}
 
@@ -20,10 +19,6 @@ pub record Answer : Type 0 where
 abbrev pub answerOf : Ranked → Answer
 answerOf (Serial s) = record { number = 0; detail = 0; serial = s }
 answerOf (Refused n d) = record { number = n; detail = d; serial = 0 }
-
--- the places 'edition' and 'mix given'
-abbrev pub rankChecks : List ℕ → ℕ → List ℕ → List Check
-rankChecks ms r g = editionChecks ms r ++ compositionChecks ms r g
 
 abbrev pub rankedBy : Refusal → ℕ → Answer
 rankedBy v s =

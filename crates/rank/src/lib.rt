@@ -5,11 +5,9 @@ ghost use lib.ListN.{length, take};
 ghost use Rattle.rank.specs.Rank.{answerOf, rankAnswer};
 ghost use Rattle.rank.specs.Unrank.{unrankCall};
 ghost use Rattle.rank.specs.Locate.{locateOf, locateRecordOf};
+use band::find;
 use bounds::Bounds;
 use bounds::Refusal;
-use walk::find;
-
-mod walk;
 
 // A serial, or a refusal's number and detail.
 pub enum Ranked {

@@ -5,7 +5,7 @@ ghost use lib.ListN.{length};
 ghost use Rattle.walsh.specs.Order.{count};
 ghost use Rattle.bounds.specs.Edition.{whole, shapeChecks};
 ghost use Rattle.bounds.specs.Refusal.{firstRefusal};
-ghost use Rattle.band.specs.Band.{bandSize, cap, Band, limited, numberOf, countedOf};
+ghost use Rattle.band.specs.Band.{bandSize, cap, Band, limited, numberOf};
 
 const MOST: u64 = 9_223_372_036_854_775_807;
 
@@ -62,26 +62,11 @@ pub fn within_limit(n: u64) -> Counted
     }
 }
 
-// `fill` of a shape that is accepted, with room for its table.
-fn fill_shaped(upper: &[u8], total: u32, all: usize, cells: &mut [u64]) -> Counted
+// Fills the table of a shape that is accepted and answers N, or 5.
+pub(crate) fn fill(upper: &[u8], total: u32, all: usize, cells: &mut [u64]) -> Counted
     requires { ⌜ (firstRefusal (shapeChecks (now upper) total) .number ≡ 0) × (all ≡ whole (now upper)) × (bandSize (now upper) total ≤ length (now cells)) ⌝ }
     ensures { λ r. ⌜ (r ≡ numberOf (now (upper .entry)) total) × (r .number ≡ 0 → Band (now (upper .entry)) total (now (cells .exit))) ⌝ }
 {
     let n = fill_rows(upper, total as usize, all, cells);
     within_limit(n)
-}
-
-// Fills the table and answers N, or the first of the refusals 1 to 4, 13 where `cells` is too short, and 5.
-pub fn fill(upper: &[u8], total: u32, cells: &mut [u64]) -> Counted
-    ensures answer { λ r. ⌜ r ≡ countedOf (now (upper .entry)) total (length (now (cells .entry))) ⌝ }
-    ensures table { λ r. ⌜ (r .number ≡ 0 → Band (now (upper .entry)) total (now (cells .exit))) ⌝ }
-{
-    let s = crate::survey(upper, total);
-    if 0 < s.number {
-        return uncounted(s.number, s.detail);
-    }
-    if cells.len() < s.size {
-        return uncounted(13, 0);
-    }
-    fill_shaped(upper, total, s.all, cells)
 }

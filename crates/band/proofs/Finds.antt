@@ -1,0 +1,102 @@
+-- Laws of what the two directions have in common: the answer of `find` case by case.
+use mathlib.Core.Path.{_≡_, refl, sym, ap, _∙_}
+use mathlib.Core.List.{List}
+use Prim.Native.Nat.{ℕ, suc, _+_, _-_, _≤_, _<_}
+use native.Mathlib.Numerals.{add-one}
+use native.Mathlib.Omega.{arith}
+use lib.ListN.{length, take, replicate}
+use Rattle.walsh.specs.Order.{Composition, count, countOf}
+use Rattle.walsh.specs.Serial.{serialOf, compositionOf}
+use Rattle.walsh.specs.Rank.{rankOf}
+use Rattle.walsh.proofs.Serials.{serial-rank}
+use Rattle.bounds.specs.Refusal.{refused, firstRefusal}
+use Rattle.bounds.specs.Edition.{whole, editionChecks, shapeChecks, cellsOf}
+use Rattle.bounds.specs.Places.{compositionChecks}
+use Rattle.bounds.specs.declared.Refusal.{Refusal}
+use Rattle.bounds.proofs.Answers.{edition-refused}
+use Rattle.bounds.proofs.Cells.{prefix-length}
+use Rattle.bounds.proofs.Compositions.{composition-passes}
+use Rattle.band.specs.Band.{bandSize}
+use Rattle.band.specs.declared.Surveyed.{Surveyed}
+use Rattle.band.specs.Band.{surveyOf}
+use Rattle.band.proofs.Answers.{surveyed-accepted}
+use Rattle.band.proofs.Nonempty.{count-some}
+use Rattle.band.proofs.Rows.{size-small}
+use Rattle.bounds.proofs.Editions.{shapely}
+use Rattle.bounds.proofs.Refusals.{refusal-first, refusal-later, by-refusal, by-acceptance}
+use Rattle.band.specs.Find.{rankChecks, clamp, Sized, foundBy, foundOf}
+use Rattle.band.specs.declared.find.Found.{Found}
+use Rattle.band.specs.declared.find.Task.{Task}
+use Rattle.band.specs.declared.find.Task.the-variants.{Rank, Unrank}
+
+-- ---- the table
+
+-- what a survey that refuses nothing says
+pub sized : (ms : List ℕ) (r : ℕ) (s : Surveyed) → s ≡ surveyOf ms r → s .number ≤ 0 → Sized ms r (s .all) (s .size)
+sized ms r s e l = let k = surveyed-accepted ms r s e (omega arith) in record { accepted = k .0; all-is = k .1; size-is = k .2 }
+
+-- no table is longer
+pub sized-most : {ms : List ℕ} {r all size : ℕ} → Sized ms r all size → size ≤ 6145
+sized-most {ms} {r} z = let h = shapely ms r (z .accepted) in rw (z .size-is) (size-small ms r (h .reached) (h .small) (h .few))
+
+-- the first cells of an array of m are those of the table
+pub lent-cells : {ms : List ℕ} {r all size : ℕ} (m : ℕ) → Sized ms r all size → size ≤ m
+    → (firstRefusal (shapeChecks ms r) .number ≡ 0) × (all ≡ whole ms) × (length (take {A = ℕ} size (replicate m 0)) ≡ bandSize ms r)
+lent-cells {size} m z l = (z .accepted, z .all-is, prefix-length size m l ∙ z .size-is)
+
+-- ---- the answer
+
+abbrev nothing : ℕ → ℕ → Found
+nothing n d = record { number = n; detail = d; count = 0; serial = 0; composition = replicate 24 0 }
+
+found-refused : (v : Refusal) (count serial : ℕ) (g : List ℕ) (n d : ℕ) → v ≡ refused n d → 0 < n → nothing n d ≡ foundBy v count serial g
+found-refused v count serial g n d e l = rw (by-refusal v _ _ n d e l, e)
+
+some-number : {v : Refusal} {n d : ℕ} → v ≡ refused n d → 0 < n → v .number ≡ 0 → ⊥
+some-number e l z = let q = ap (λ (w : Refusal). w .number) e in omega arith
+
+module _ (ms : List ℕ) (r : ℕ) where
+  -- an edition that is refused
+  pub found-edition : (task : Task) (g : List ℕ) (n d : ℕ) → firstRefusal (editionChecks ms r) ≡ refused n d → 0 < n → nothing n d ≡ foundOf task ms r g
+  unfolding foundOf
+  found-edition Rank g n d e l =
+      found-refused (firstRefusal (rankChecks ms r g)) _ _ _ n d (refusal-first (editionChecks ms r) (compositionChecks ms r g) (some-number e l) ∙ e) l
+  found-edition (Unrank s) g n d e l = found-refused (firstRefusal (editionChecks ms r)) _ _ _ n d e l
+
+  pub found-shape : (task : Task) (g : List ℕ) (n d : ℕ) → firstRefusal (shapeChecks ms r) ≡ refused n d → 0 < n → nothing n d ≡ foundOf task ms r g
+  found-shape task g n d e l = found-edition task g n d (edition-refused ms r n d e l) l
+
+  -- a serial's entry does not depend on what is given
+  pub found-any : (s : ℕ) (g h : List ℕ) → foundOf (Unrank s) ms r g ≡ foundOf (Unrank s) ms r h
+  unfolding foundOf
+  found-any s g h = refl
+
+  -- an edition that is accepted
+  module _ (accepted : firstRefusal (editionChecks ms r) .number ≡ 0) (g : List ℕ) where
+    later : firstRefusal (rankChecks ms r g) ≡ firstRefusal (compositionChecks ms r g)
+    later = refusal-later (editionChecks ms r) (compositionChecks ms r g) refl accepted
+
+    pub found-composition : (n d : ℕ) → firstRefusal (compositionChecks ms r g) ≡ refused n d → 0 < n → nothing n d ≡ foundOf Rank ms r g
+    unfolding foundOf
+    found-composition n d e l = found-refused (firstRefusal (rankChecks ms r g)) _ _ _ n d (later ∙ e) l
+
+    pub found-place : (count place : ℕ) → count ≡ countOf ms r → Composition ms r g → place ≡ rankOf ms (length ms) r 0 g
+        → record { number = 0; detail = 0; count = count; serial = place + 1; composition = replicate 24 0 } ≡ foundOf Rank ms r g
+    unfolding foundOf
+    found-place count place ec comp ep =
+        let is : place + 1 ≡ serialOf ms r g = add-one place ∙ ap suc ep ∙ sym (serial-rank ms r g comp) in
+        let none : firstRefusal (rankChecks ms r g) ≡ refused 0 0 = later ∙ composition-passes ms r g comp in
+        rw (none, is, ec)
+
+    pub found-entry : (count asked serial : ℕ) (cells : List ℕ) → count ≡ countOf ms r → serial ≡ clamp (countOf ms r) asked → cells ≡ cellsOf (compositionOf ms r serial)
+        → record { number = 0; detail = 0; count = count; serial = serial; composition = cells } ≡ foundOf (Unrank asked) ms r g
+    unfolding foundOf
+    found-entry count asked serial cells ec es el = rw (by-acceptance (firstRefusal (editionChecks ms r)) _ _ accepted, el, es, ec)
+
+-- the serial that is found, and its place
+pub clamp-place : (ms : List ℕ) (r n s asked : ℕ) → r ≤ whole ms → n ≡ countOf ms r → s ≡ clamp n asked
+    → (0 < s) × (s - 1 < count ms (length ms) r) × (s ≡ clamp (countOf ms r) asked)
+unfolding countOf
+clamp-place ms r n s asked reach en es =
+    let some : 0 < count ms (length ms) r = count-some ms r reach in
+    (omega arith, omega arith, es ∙ ap (λ (m : ℕ). clamp m asked) en)

@@ -1,0 +1,14 @@
+-- `band::walk::run_of` meets its contract.
+use borrow.Author.Needs.{needs}
+use Rattle.band.specs.Walk.{runOf}
+use Rattle.band.proofs.walk.run_of.Statement.{statement}
+use Rattle.band.proofs.walk.run_of.Tie as tie
+
+returns : tie.Need-returns
+unfolding runOf
+returns c = simp (c .before .before .before .before .over .ensures, c .before .lesser .ensures, c .is-odd .ensures, c .before .before .wide .ensures .0, c .before .before .before .before .before .before .pre .1)
+
+pub run-of-spec : {M : Type 1} → statement M
+run-of-spec =
+    tie.close
+    (tie.spec (λ c κs. search needs) (λ c. search needs) (λ c κs. search needs) (λ c κs. search needs) (λ c κs. search needs) returns)

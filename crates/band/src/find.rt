@@ -1,0 +1,219 @@
+// An entry of the order, found by its composition or by its serial, with a counting table of as many cells as it needs.
+ghost use mathlib.Core.Path.{_≡_};
+ghost use mathlib.Core.List.{[]};
+ghost use Prim.Native.Nat.{_≤_};
+ghost use lib.ListN.{length, replicate};
+ghost use Rattle.bounds.specs.Refusal.{firstRefusal};
+ghost use Rattle.bounds.specs.Edition.{whole, shapeChecks};
+ghost use Rattle.band.specs.Band.{bandSize};
+ghost use Rattle.band.specs.Find.{clamp, Ready, Sized, foundOf};
+ghost use Rattle.band.specs.declared.find.Task.the-variants.{Rank, Unrank};
+use crate::Row;
+use crate::window::table;
+
+// What is asked: the serial of a given composition, or the composition of a serial.
+pub enum Task {
+    Rank,
+    Unrank(u64),
+}
+
+// N, the entry's serial, and its cells where they were asked for; all zeros where something is refused.
+pub struct Found {
+    pub number: u32,
+    pub detail: u64,
+    pub count: u64,
+    pub serial: u64,
+    pub composition: [u8; 24],
+}
+
+fn nothing(number: u32, detail: u64) -> Found
+    ensures { λ r. ⌜ r ≡ record { number = number; detail = detail; count = 0; serial = 0; composition = replicate 24 0 } ⌝ }
+{
+    Found {
+        number,
+        detail,
+        count: 0,
+        serial: 0,
+        composition: [0; 24],
+    }
+}
+
+// The serial of 1..n that is nearest to s.
+fn nearest(n: u64, s: u64) -> u64
+    ensures { λ r. ⌜ r ≡ clamp n s ⌝ }
+{
+    if s < 1 {
+        return 1;
+    }
+    if s < n {
+        return s;
+    }
+    if n < 1 { 1 } else { n }
+}
+
+// The serial of `given`, or its refusal.
+fn rank_in(
+    upper: &[u8],
+    total: u32,
+    last: Row,
+    cells: &[u64],
+    count: u64,
+    given: &[u8],
+) -> Found
+    requires { ⌜ Ready (now upper) total last (now cells) count ⌝ }
+    ensures { λ r. ⌜ r ≡ foundOf Rank (now (upper .entry)) total (now (given .entry)) ⌝ }
+{
+    let v = places::composition_refusal(upper, total, given);
+    if 0 < v.number {
+        return nothing(v.number, v.detail);
+    }
+    let before = crate::walk::place(upper, total as usize, last, cells, given);
+    Found {
+        number: 0,
+        detail: 0,
+        count,
+        serial: before + 1,
+        composition: [0; 24],
+    }
+}
+
+// The composition of the serial nearest to `serial`.
+fn unrank_in(
+    upper: &[u8],
+    total: u32,
+    last: Row,
+    cells: &[u64],
+    count: u64,
+    serial: u64,
+) -> Found
+    requires { ⌜ Ready (now upper) total last (now cells) count ⌝ }
+    ensures { λ r. ⌜ r ≡ foundOf (Unrank serial) (now (upper .entry)) total [] ⌝ }
+{
+    let s = nearest(count, serial);
+    let n = upper.len();
+    let mut composition = [0u8; 24];
+    crate::walk::write(
+        upper,
+        total as usize,
+        last,
+        cells,
+        s - 1,
+        &mut composition[..n],
+    );
+    Found {
+        number: 0,
+        detail: 0,
+        count,
+        serial: s,
+        composition,
+    }
+}
+
+// `find` of a shape that is accepted, whose bounds sum to `all`, with the cells of its table.
+fn find_in(
+    upper: &[u8],
+    total: u32,
+    all: usize,
+    cells: &mut [u64],
+    task: Task,
+    given: &[u8],
+) -> Found
+    requires { ⌜ (firstRefusal (shapeChecks (now upper) total) .number ≡ 0) × (all ≡ whole (now upper)) × (length (now cells) ≡ bandSize (now upper) total) ⌝ }
+    ensures { λ r. ⌜ r ≡ foundOf task (now (upper .entry)) total (now (given .entry)) ⌝ }
+{
+    let c = table::fill(upper, total, all, cells);
+    if 0 < c.number {
+        return nothing(c.number, c.detail);
+    }
+    let last = Row {
+        start: cells.len() - 1,
+        left: all,
+        all,
+        low: total as usize,
+        high: total as usize,
+    };
+    match task {
+        Task::Rank => rank_in(upper, total, last, cells, c.count, given),
+        Task::Unrank(serial) => unrank_in(upper, total, last, cells, c.count, serial),
+    }
+}
+
+// `find_in` of a table that is not large: its cells are the first of an array that is not much longer, since all of it is cleared.
+fn in_small(upper: &[u8], total: u32, all: usize, size: usize, task: Task, given: &[u8]) -> Found
+    requires { ⌜ Sized (now upper) total all size × (size ≤ 1024) ⌝ }
+    ensures { λ r. ⌜ r ≡ foundOf task (now (upper .entry)) total (now (given .entry)) ⌝ }
+{
+    if size <= 64 {
+        let mut cells = [0u64; 64];
+        return find_in(upper, total, all, &mut cells[..size], task, given);
+    }
+    if size <= 128 {
+        let mut cells = [0u64; 128];
+        return find_in(upper, total, all, &mut cells[..size], task, given);
+    }
+    if size <= 256 {
+        let mut cells = [0u64; 256];
+        return find_in(upper, total, all, &mut cells[..size], task, given);
+    }
+    if size <= 512 {
+        let mut cells = [0u64; 512];
+        return find_in(upper, total, all, &mut cells[..size], task, given);
+    }
+    let mut cells = [0u64; 1024];
+    find_in(upper, total, all, &mut cells[..size], task, given)
+}
+
+// The same of any table, in larger arrays. It surveys anew, which costs little beside such a table and makes it a call of its own, so that the others
+// have small frames.
+fn in_large(upper: &[u8], total: u32, task: Task, given: &[u8]) -> Found
+    ensures { λ r. ⌜ r ≡ foundOf task (now (upper .entry)) total (now (given .entry)) ⌝ }
+{
+    let s = crate::survey(upper, total);
+    if 0 < s.number {
+        return nothing(s.number, s.detail);
+    }
+    let all = s.all;
+    let size = s.size;
+    if size <= 1536 {
+        let mut cells = [0u64; 1536];
+        return find_in(upper, total, all, &mut cells[..size], task, given);
+    }
+    if size <= 2048 {
+        let mut cells = [0u64; 2048];
+        return find_in(upper, total, all, &mut cells[..size], task, given);
+    }
+    if size <= 4096 {
+        let mut cells = [0u64; 4096];
+        return find_in(upper, total, all, &mut cells[..size], task, given);
+    }
+    let mut cells = [0u64; 6145];
+    find_in(upper, total, all, &mut cells[..size], task, given)
+}
+
+// The serial of a composition, or the refusal.
+pub fn serial_of(upper: &[u8], total: u32, composition: &[u8]) -> Found
+    ensures { λ r. ⌜ r ≡ foundOf Rank (now (upper .entry)) total (now (composition .entry)) ⌝ }
+{
+    let s = crate::survey(upper, total);
+    if 0 < s.number {
+        return nothing(s.number, s.detail);
+    }
+    if s.size <= 1024 {
+        return in_small(upper, total, s.all, s.size, Task::Rank, composition);
+    }
+    in_large(upper, total, Task::Rank, composition)
+}
+
+// N and the composition of the serial nearest to `serial`, or the refusal. (No composition is given, so the bounds are lent for it.)
+pub fn composition_of(upper: &[u8], total: u32, serial: u64) -> Found
+    ensures { λ r. ⌜ r ≡ foundOf (Unrank serial) (now (upper .entry)) total [] ⌝ }
+{
+    let s = crate::survey(upper, total);
+    if 0 < s.number {
+        return nothing(s.number, s.detail);
+    }
+    if s.size <= 1024 {
+        return in_small(upper, total, s.all, s.size, Task::Unrank(serial), upper);
+    }
+    in_large(upper, total, Task::Unrank(serial), upper)
+}
