@@ -52,14 +52,7 @@ fn nearest(n: u64, s: u64) -> u64
 }
 
 // The serial of `given`, or its refusal.
-fn rank_in(
-    upper: &[u8],
-    total: u32,
-    last: Row,
-    cells: &[u64],
-    count: u64,
-    given: &[u8],
-) -> Found
+fn rank_in(upper: &[u8], total: u32, last: Row, cells: &[u64], count: u64, given: &[u8]) -> Found
     requires { ⌜ Ready (now upper) total last (now cells) count ⌝ }
     ensures { λ r. ⌜ r ≡ foundOf Rank (now (upper .entry)) total (now (given .entry)) ⌝ }
 {
@@ -78,14 +71,7 @@ fn rank_in(
 }
 
 // The composition of the serial nearest to `serial`.
-fn unrank_in(
-    upper: &[u8],
-    total: u32,
-    last: Row,
-    cells: &[u64],
-    count: u64,
-    serial: u64,
-) -> Found
+fn unrank_in(upper: &[u8], total: u32, last: Row, cells: &[u64], count: u64, serial: u64) -> Found
     requires { ⌜ Ready (now upper) total last (now cells) count ⌝ }
     ensures { λ r. ⌜ r ≡ foundOf (Unrank serial) (now (upper .entry)) total [] ⌝ }
 {

@@ -128,15 +128,7 @@ pub(crate) fn write(upper: &[u8], total: usize, last: Row, cells: &[u64], rank: 
 }
 
 // How many compositions have an earlier value of part `k` than `v`.
-fn earlier(
-    upper: &[u8],
-    k: usize,
-    row: Row,
-    cells: &[u64],
-    rem: usize,
-    t: usize,
-    v: usize,
-) -> u64
+fn earlier(upper: &[u8], k: usize, row: Row, cells: &[u64], rem: usize, t: usize, v: usize) -> u64
     requires { ⌜ Here (now upper) k rem t row (now cells) × (least (now upper) k rem ≤ v) × (v ≤ most (now upper) k rem) ⌝ }
     ensures { λ r. ⌜ r ≡ sum (blockSize (now (upper .entry)) k rem t) (partIndex (now (upper .entry)) k rem t v) ⌝ }
 {
