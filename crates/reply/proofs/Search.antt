@@ -1,5 +1,5 @@
 -- The search for the first place of a number.
-use mathlib.Core.Path.{_≡_, ap}
+use mathlib.Core.Path.{_≡_, sym, ap, _∙_}
 use mathlib.Core.Logic.{_≢_}
 use mathlib.Core.Bool.{false}
 use mathlib.Core.List.{List, [], _∷_}
@@ -10,7 +10,7 @@ use native.Mathlib.Omega.{arith}
 use lib.Dec.{eqb}
 use lib.ListN.{length, getD, take}
 use borrow.Author.Tests.{eq-eqb, ne-eqb}
-use Rattle.walsh.proofs.Cases.{on-test}
+use Rattle.walsh.proofs.Cases.{on-test, on-less}
 use Rattle.model.specs.Basics.{indexOf}
 
 passes : (x y i : ℕ) (l : List ℕ) → indexOf x (y ∷ l) ≡ suc i → (eqb y x ≡ false) × (indexOf x l ≡ i)
@@ -37,3 +37,28 @@ index-more l i x h p n = rw (add-one i) (go l i h p n)
     go (y ∷ l) (suc i) h p n =
         let q = passes x y i (take i l) p in
         rw (q .0) (ap suc (go l i (le-of-suc-le-suc h) (q .1) n))
+
+-- the search among the first n has passed i of them: x stands at place `at`, or at none of those passed
+pub record Seeking (l : List ℕ) (n x at i : ℕ) : Type 0 where
+  pub within : at ≤ n
+  pub none : i ≤ at → (at ≡ n) × (indexOf x (take i l) ≡ i)
+  pub found : at < i → at ≡ indexOf x (take n l)
+
+module _ {l : List ℕ} {n x at i : ℕ} (k : n ≤ length l) (s : Seeking l n x at i) where
+  pub seeking-hit : {at′ : ℕ} → i < at → getD l i 0 ≡ x → at′ ≡ i → Seeking l n x at′ (i + 1)
+  seeking-hit h e q =
+      let w = s .within in
+      let here = index-found l n i x (omega arith) k (s .none (omega arith) .1) e in
+      record { within = omega arith; none = λ z. absurd (omega arith); found = λ z. rw (q, here) }
+
+  pub seeking-miss : {at′ : ℕ} → i < at → getD l i 0 ≢ x → at′ ≡ at → Seeking l n x at′ (i + 1)
+  seeking-miss h e q =
+      let w = s .within in
+      let p = s .none (omega arith) in
+      record { within = omega arith; none = λ z. (q ∙ p .0, index-more l i x (omega arith) (p .1) e); found = λ z. absurd (omega arith) }
+
+  pub seeking-done : at ≤ i → at ≡ indexOf x (take n l)
+  seeking-done h =
+      on-less at i
+      (λ z t. s .found z)
+      (λ z t. let p = s .none z in let q : i ≡ n = omega arith in p .0 ∙ sym (ap (λ (j : ℕ). indexOf x (take j l)) (sym q) ∙ p .1 ∙ q))

@@ -82,14 +82,15 @@ fn find(orders: &[u32], n: usize, order: u32) -> usize
     requires { ⌜ n ≤ length (now orders) ⌝ }
     ensures { λ r. ⌜ r ≡ indexOf order (take n (now (orders .entry))) ⌝ }
 {
+    let mut at = n;
     let mut i: usize = 0;
-    while i < n {
+    while i < at {
         if orders[i] == order {
-            return i;
+            at = i;
         }
         i += 1;
     }
-    n
+    at
 }
 
 // document 01: take. The places in their order: 16, 17, those of the serial, 20.
