@@ -1,11 +1,9 @@
 -- `band::find::rank_in` meets its contract.
 use mathlib.Core.Path.{_≡_, sym, ap, _∙_}
-use Prim.Native.Nat.{ℕ, _+_, _<_}
+use Prim.Native.Nat.{ℕ, _<_}
 use native.Mathlib.Omega.{arith}
 use lib.Arith.{le-zero}
 use denote.Ref.{now}
-use mir.Val.{Fits}
-use mir.Syntax.{w64}
 use borrow.Author.Needs.{needs}
 use Rattle.walsh.specs.Order.{Composition}
 use Rattle.bounds.specs.declared.Refusal.{Refusal}
@@ -29,10 +27,11 @@ composition-at c =
 add-serial : tie.Need-add-t11
 add-serial c =
     let s = c .before .before .before .before .before .before .before in
-    fits (c .place .ensures) (rank-small _ _ (s .args .last) _ (s .pre .filled) _ (composition-at (c .before) .parts))
+    let l = below (c .place .ensures) (rank-small _ _ (s .args .last) _ (s .pre .filled) _ (composition-at (c .before) .parts)) in
+    omega arith
   where
-    fits : {x y : ℕ} → x ≡ y → y < 9223372036854775808 → Fits w64 (x + 1)
-    fits e l = omega arith
+    below : {x y : ℕ} → x ≡ y → y < 9223372036854775808 → x < 9223372036854775808
+    below e l = omega arith
 
 returns-2 : tie.Need-returns-2
 returns-2 c = let s = c .before .before .before .before .before .before .before in found-place _ _ (s .pre .accepted) _ (s .args .count) (c .place .result) (s .pre .count) (composition-at (c .before)) (c .place .ensures)
