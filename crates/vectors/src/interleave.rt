@@ -164,7 +164,7 @@ fn replayed(upper: &[u8], total: u32, size: u64, calls: &[u8], serials: &[u64], 
     entries(lent);
 }
 
-pub fn list(s: &[u8], from: usize) -> usize
+pub(crate) fn list(s: &[u8], from: usize) -> usize
     ensures { λ r. ⌜ from ≤ r ⌝ }
 {
     let mut upper = [0u8; 64];

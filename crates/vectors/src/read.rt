@@ -55,7 +55,7 @@ fn digit_from(s: &[u8], from: usize) -> usize
 }
 
 // The next number; 0 past the end.
-pub fn number(s: &[u8], from: usize) -> Numeral
+pub(crate) fn number(s: &[u8], from: usize) -> Numeral
     ensures { λ r. ⌜ from ≤ r .at ⌝ }
 {
     let mut at = digit_from(s, from);
@@ -72,7 +72,7 @@ pub fn number(s: &[u8], from: usize) -> Numeral
 }
 
 // The next list, its length in front, as bytes; as many as there is room for.
-pub fn list(s: &[u8], from: usize, out: &mut [u8]) -> Listed
+pub(crate) fn list(s: &[u8], from: usize, out: &mut [u8]) -> Listed
     ensures { λ r. ⌜ (from ≤ r .at) × (r .len ≤ length (now (out .exit))) ⌝ }
 {
     let n = number(s, from);
@@ -91,7 +91,7 @@ pub fn list(s: &[u8], from: usize, out: &mut [u8]) -> Listed
 }
 
 // The first n bytes, or all.
-pub fn part(s: &[u8], n: usize) -> &[u8] {
+pub(crate) fn part(s: &[u8], n: usize) -> &[u8] {
     if s.len() < n {
         return s;
     }
@@ -99,7 +99,7 @@ pub fn part(s: &[u8], n: usize) -> &[u8] {
 }
 
 // The next list and number: the upper bounds of an edition, and its total.
-pub fn bounded_by(s: &[u8], from: usize, upper: &mut [u8]) -> Bounded
+pub(crate) fn bounded_by(s: &[u8], from: usize, upper: &mut [u8]) -> Bounded
     ensures { λ r. ⌜ from ≤ r .at ⌝ }
 {
     let m = list(s, from, upper);
@@ -112,7 +112,7 @@ pub fn bounded_by(s: &[u8], from: usize, upper: &mut [u8]) -> Bounded
 }
 
 // The first n bytes, to be written, or all.
-pub fn lent(s: &mut [u8], n: u64) -> &mut [u8] {
+pub(crate) fn lent(s: &mut [u8], n: u64) -> &mut [u8] {
     if (s.len() as u64) < n {
         return s;
     }

@@ -1,21 +1,21 @@
 // Answers, a line of numbers each.
 use libc::STDOUT_FILENO;
 
-pub fn first(n: u64) {
+pub(crate) fn first(n: u64) {
     io::print_decimal(STDOUT_FILENO, n);
 }
 
-pub fn next(n: u64) {
+pub(crate) fn next(n: u64) {
     io::write_all(STDOUT_FILENO, b" ");
     io::print_decimal(STDOUT_FILENO, n);
 }
 
-pub fn end() {
+pub(crate) fn end() {
     io::write_all(STDOUT_FILENO, b"\n");
 }
 
 // A line of three.
-pub fn three(number: u32, detail: u64, value: u64) {
+pub(crate) fn three(number: u32, detail: u64, value: u64) {
     first(number as u64);
     next(detail);
     next(value);
@@ -23,7 +23,7 @@ pub fn three(number: u32, detail: u64, value: u64) {
 }
 
 // Each byte of a list.
-pub fn bytes(list: &[u8]) {
+pub(crate) fn bytes(list: &[u8]) {
     let mut i = 0;
     while i < list.len() {
         next(walsh::wide(list[i]) as u64);
@@ -32,7 +32,7 @@ pub fn bytes(list: &[u8]) {
 }
 
 // A line of a refusal and the bytes of a lent part.
-pub fn lent(refusal: bounds::Refusal, out: &[u8]) {
+pub(crate) fn lent(refusal: bounds::Refusal, out: &[u8]) {
     first(refusal.number as u64);
     next(refusal.detail);
     bytes(out);
@@ -40,7 +40,7 @@ pub fn lent(refusal: bounds::Refusal, out: &[u8]) {
 }
 
 // A line of a step's answer.
-pub fn stepped(answer: step::Stepped) {
+pub(crate) fn stepped(answer: step::Stepped) {
     let composition = answer.composition;
     first(answer.number as u64);
     next(answer.detail);
