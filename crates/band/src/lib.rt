@@ -12,6 +12,9 @@ pub mod find;
 mod walk;
 pub mod window;
 
+// One more than the largest N that is accepted: what a count that stops there answers.
+pub const CAP: u64 = 9_223_372_036_854_775_808;
+
 // Row k: the cells before it, the sum of the first k bounds and of all, and the lowest and the highest sum in the band.
 struct Row {
     start: usize,

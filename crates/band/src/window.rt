@@ -9,10 +9,9 @@ ghost use Rattle.band.specs.Window.{Filling, Slid, Filled, Moves, Stretc
 use crate::Row;
 use crate::bound;
 use crate::cell;
+use bounds::MOST;
 
 pub mod table;
-
-const MOST: u64 = 9_223_372_036_854_775_807;
 
 // The window before the first sum of the row after, or a number over 2^63 - 1.
 fn head(upper: &[u8], total: usize, k: usize, row: Row, next: Row, cells: &[u64]) -> u64

@@ -4,6 +4,9 @@ ghost use Prim.Native.Nat.{ℕ, _≤_};
 ghost use lib.ListN.{length, take};
 ghost use Rattle.bounds.specs.Edition.{whole, outside, firstOutside, shapedOf, cellsOf};
 
+// The largest N that is accepted (document 01: number 5).
+pub const MOST: u64 = 9_223_372_036_854_775_807;
+
 // A refusal's number and detail; 0 and 0 where nothing is refused.
 #[repr(C)]
 pub struct Refusal {

@@ -9,11 +9,10 @@ ghost use Rattle.bounds.specs.Edition.{boundsOf, editionChecks, recordChecks};
 ghost use Rattle.count.specs.Checked.{checkOf, recordOf};
 ghost use Rattle.count.specs.Row.{Within};
 use bounds::Bounds;
+use bounds::MOST;
 use bounds::Refusal;
 
 pub mod row;
-
-const MOST: u64 = 9_223_372_036_854_775_807;
 
 // 2^55: a smaller number times 256 is within the limit.
 const SMALL: u64 = 36_028_797_018_963_968;

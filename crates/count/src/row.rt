@@ -9,12 +9,10 @@ ghost use Rattle.bounds.specs.Refusal.{firstRefusal};
 ghost use Rattle.band.specs.Band.{InBand, cap, numberOf};
 ghost use Rattle.band.specs.Window.{Slid};
 ghost use Rattle.count.specs.Row.{Passing, Row-counts, Within, Passed, Enters, Leaves, Stretch};
+use band::CAP;
 use band::window::table;
 use band::window::table::Counted;
-
-const MOST: u64 = 9_223_372_036_854_775_807;
-
-const CAP: u64 = 9_223_372_036_854_775_808;
+use bounds::MOST;
 
 // The lowest and the highest sum of a row from which the total can still be reached.
 struct Ends {

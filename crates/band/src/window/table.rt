@@ -6,10 +6,8 @@ ghost use Rattle.walsh.specs.Order.{count};
 ghost use Rattle.bounds.specs.Edition.{whole, shapeChecks};
 ghost use Rattle.bounds.specs.Refusal.{firstRefusal};
 ghost use Rattle.band.specs.Band.{bandSize, cap, Band, limited, numberOf};
-
-const MOST: u64 = 9_223_372_036_854_775_807;
-
-const CAP: u64 = 9_223_372_036_854_775_808;
+use crate::CAP;
+use bounds::MOST;
 
 // N, or the refusal.
 pub struct Counted {
