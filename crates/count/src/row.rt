@@ -211,7 +211,7 @@ fn count_row(upper: &[u8], total: u32, all: usize) -> Counted
     table::within_limit(n)
 }
 
-// N, or the refusal. "N of a puzzle edition of 2 to 16 sheets is read from" the constant table: what stands there needs no check.
+// N, or the refusal. "N of a puzzle edition of 2 to 16 sheets is read from" the constant table; where N stands there, the checks 1 to 4 refuse nothing.
 pub fn number(upper: &[u8], total: u32) -> Counted
     ensures { λ r. ⌜ r ≡ numberOf (now (upper .entry)) total ⌝ }
 {
