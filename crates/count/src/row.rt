@@ -209,17 +209,17 @@ fn count_row(upper: &[u8], total: u32, all: usize) -> Counted
     table::within_limit(n)
 }
 
-// N, or the refusal. "N of a puzzle edition of 2 to 16 sheets is read from" the constant table.
+// N, or the refusal. "N of a puzzle edition of 2 to 16 sheets is read from" the constant table; where N stands there, the checks 1 to 4 refuse nothing.
 pub fn number(upper: &[u8], total: u32) -> Counted
     ensures { λ r. ⌜ r ≡ numberOf (now (upper .entry)) total ⌝ }
 {
-    let s = bounds::shape(upper, total);
-    if 0 < s.number {
-        return table::uncounted(s.number, s.detail);
-    }
     let e = mahonian::staircase_count(upper, total);
     if let mahonian::Entry::Count(n) = e {
         return table::within_limit(n);
+    }
+    let s = bounds::shape(upper, total);
+    if 0 < s.number {
+        return table::uncounted(s.number, s.detail);
     }
     count_row(upper, total, s.all)
 }

@@ -9,40 +9,43 @@ use Rattle.band.specs.Band.{limited}
 use Rattle.bounds.proofs.Answers.{shaped-refused, shaped-accepted, edition-refused}
 use Rattle.band.proofs.Answers.{number-refused, number-limited}
 use Rattle.count.proofs.Answers.{staircase-number}
+use Rattle.count.proofs.Stairs.{staircase-shape}
 use Rattle.count.proofs.row.number.Statement.{statement}
 use Rattle.count.proofs.row.number.Tie as tie
 
 shape-at : (c : tie.Else1)
-    → let a = c .before .before .before .before .args in
+    → let a = c .before .before .before .before .before .before .before .args in
     (firstRefusal (shapeChecks (now (a .upper)) (a .total)) .number ≡ 0) × (c .before .before .shape .result .all ≡ whole (now (a .upper)))
 shape-at c = let s = c .before .before .shape in shaped-accepted _ _ (s .result) (s .ensures) (le-zero (c .if1 .left))
 
 returns : tie.Need-returns
 returns c =
-    let a = c .before .before .before .before .before .args in
+    let a = c .before .before .before .before .before .before .args in
+    let m = c .before .before .before .before .staircase-count in
+    let q = c .before .before .e .given .1 in
+    let n = staircase-number (now (a .upper)) (a .total) (m .result) _ (m .ensures) q in
+    let s = staircase-shape (now (a .upper)) (a .total) (m .result) _ (m .ensures) q in
+    c .within-limit .ensures ∙ ap limited n ∙ number-limited (now (a .upper)) (a .total) s
+
+returns-2 : tie.Need-returns-2
+returns-2 c =
+    let a = c .before .before .before .before .before .before .before .before .args in
     let s = c .before .before .before .shape in
     let l = c .before .if1 .taken in
     let e = edition-refused (now (a .upper)) (a .total) _ _ (shaped-refused _ _ (s .result) (s .ensures) l) l in
     c .uncounted .ensures ∙ number-refused (now (a .upper)) (a .total) _ _ e l
-
-returns-2 : tie.Need-returns-2
-returns-2 c =
-    let a = c .before .before .before .before .before .before .before .before .before .args in
-    let m = c .before .before .before .before .staircase-count in
-    let n = staircase-number (now (a .upper)) (a .total) (m .result) _ (m .ensures) (c .before .before .e .given .1) in
-    c .within-limit .ensures ∙ ap limited n ∙ number-limited (now (a .upper)) (a .total) (shape-at (c .before .before .before .before .before) .0)
 
 pub number-spec : {M : Type 1} → statement M
 number-spec =
     tie.close
     (tie.spec
     (λ c κs. search needs)
+    (λ c. search needs)
     (λ c κs. search needs)
     returns
-    (λ c κs. search needs)
     (λ c. search needs)
+    (λ c κs. search needs)
     (λ c κs. search needs)
     returns-2
-    (λ c. search needs)
-    (λ c κs. shape-at (c .before .before .before))
+    (λ c κs. shape-at c)
     (λ c. search needs))
