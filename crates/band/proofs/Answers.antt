@@ -1,20 +1,20 @@
 -- The answers of specs/Band.antt, case by case.
 use mathlib.Core.Path.{_≡_, refl, sym, ap, _∙_}
-use mathlib.Core.List.{List, [], _∷_}
-use Prim.Native.Nat.{ℕ, _≤_, _<_, min}
+use mathlib.Core.List.{List}
+use Prim.Native.Nat.{ℕ, _<_, min}
 use native.Mathlib.Omega.{arith}
-use lib.Dec.{eqb, ltb}
-use borrow.Author.Tests.{eqb-true, eqb-false, lt-ltb, le-ltb}
+use lib.Dec.{eqb}
+use borrow.Author.Tests.{eqb-true, lt-ltb}
 use Rattle.walsh.specs.Order.{countOf}
 use Rattle.walsh.proofs.Cases.{on-test, on-less}
-use Rattle.bounds.specs.Refusal.{Check, check, refused, firstRefusal}
+use Rattle.bounds.specs.Refusal.{refused, firstRefusal}
 use Rattle.bounds.specs.Edition.{whole, shapeChecks, editionChecks}
 use Rattle.band.specs.Band.{bandSize, cap, surveyOf, limited, numberOf}
 use Rattle.bounds.specs.declared.Refusal.{Refusal}
 use Rattle.band.specs.declared.Surveyed.{Surveyed}
 use Rattle.band.specs.declared.window.table.Counted.{Counted}
 use Rattle.bounds.proofs.Answers.{edition-over, edition-none}
-use Rattle.bounds.proofs.Refusals.{refusal-here, refusal-next, refusal-first, refusal-later, refusal-none, by-refusal, by-acceptance, is-refused, is-accepted}
+use Rattle.bounds.proofs.Refusals.{refusal-none, by-refusal, by-acceptance, is-refused, is-accepted}
 
 module _ (ms : List ℕ) (r : ℕ) where
   abbrev shape : Refusal

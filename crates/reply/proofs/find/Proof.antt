@@ -3,7 +3,6 @@ use mathlib.Core.Path.{refl}
 use mathlib.Core.Logic.{⊎-elim}
 use Prim.Native.Nat.{_-_}
 use native.Mathlib.Omega.{arith}
-use denote.Ref.{now}
 use borrow.Author.Needs.{needs}
 use Rattle.reply.proofs.Search.{Seeking, seeking-hit, seeking-miss, seeking-done}
 use Rattle.reply.proofs.find.Statement.{statement}
