@@ -1,7 +1,7 @@
 // A row of the counting table, filled from the row before by a sliding window. It stops at the first number over 2^63 - 1, which shows that N is over it too.
 ghost use mathlib.Core.Path.{_≡_};
 ghost use mathlib.Core.Bool.{true, false};
-ghost use Prim.Native.Nat.{ℕ, _+_, _-_, _≤_, _<_};
+ghost use Prim.Native.Nat.{_+_, _-_, _≤_, _<_};
 ghost use lib.ListN.{length, getD};
 ghost use Rattle.walsh.specs.Order.{count};
 ghost use Rattle.band.specs.Band.{cap, Row-holds, Rows-hold};

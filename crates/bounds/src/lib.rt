@@ -1,6 +1,6 @@
 // Editions (document 01, "Editions and their number"): the record, refusals as tables, and the checks 1 to 4. Check 5 asks for N: crate `count`.
 ghost use mathlib.Core.Path.{_≡_};
-ghost use Prim.Native.Nat.{ℕ, _≤_};
+ghost use Prim.Native.Nat.{_≤_};
 ghost use lib.ListN.{length, take};
 ghost use Rattle.bounds.specs.Edition.{whole, outside, firstOutside, shapedOf, cellsOf};
 

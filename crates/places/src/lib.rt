@@ -1,7 +1,6 @@
 // The checks of the places 'mix given' and 'lent part' (document 01, "Refusals by place of checking"), which several calls have.
 use bounds::Refusal;
 ghost use mathlib.Core.Path.{_≡_};
-ghost use Prim.Native.Nat.{ℕ};
 ghost use lib.ListN.{length};
 ghost use Rattle.bounds.specs.Refusal.{firstRefusal, refused};
 ghost use Rattle.bounds.specs.Places.{isOther, compositionChecks, lentChecks};

@@ -1,7 +1,7 @@
 // What the listing program reads (document 01, "Listing program"; the document's slip is a request here).
 ghost use mathlib.Core.Path.{_≡_};
 ghost use mathlib.Core.List.{[]};
-ghost use Prim.Native.Nat.{ℕ, _≤_, _<_};
+ghost use Prim.Native.Nat.{_≤_, _<_};
 ghost use lib.ListN.{length, drop};
 ghost use Rattle.request.specs.declared.Number.the-variants.{Empty};
 ghost use Rattle.request.specs.Request.{held, Parsed};

@@ -1,7 +1,7 @@
 // Walsh's order of bounded compositions (document 01, "Walsh's order"). The order and its laws are in specs/ and proofs/; what runs here is
 // the arithmetic of one part's values: from `over(rest, left)` to `lesser(bound, rest)`, rising, or falling where the sum to the right is odd.
 ghost use mathlib.Core.Path.{_≡_};
-ghost use Prim.Native.Nat.{ℕ, _-_, _≤_, min};
+ghost use Prim.Native.Nat.{_-_, _≤_, min};
 ghost use Rattle.walsh.specs.Order.{isOdd};
 ghost use Rattle.walsh.specs.Step.{firstValue, nextValue};
 
