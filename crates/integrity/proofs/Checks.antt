@@ -63,8 +63,8 @@ module _ (r : Ledger) (col : List ℕ) (x : ℕ) where
         record {
           fits = never ∙ sym f;
           count = λ t. absurd (false≢true (sym never ∙ t));
-          none = λ t. absurd (false≢true (sym never ∙ t));
-          some = λ t. absurd (false≢true (sym never ∙ t));
+          hits = λ t. absurd (false≢true (sym never ∙ t));
+          other = λ t. (ap (λ (y : Seen). y .count) no, ap (λ (y : Seen). y .hits) no);
         }
 
     -- so many entries are either more than N, or N is over 1,000,000
@@ -128,6 +128,6 @@ module _ (r : Ledger) (col : List ℕ) (x : ℕ) where
             (ap (same (r .next)) (sym (a .next)) ∙ next)
             spare);
         count = λ t. a .count;
-        none = λ t. found .none;
-        some = λ t. found .some;
+        hits = λ t. found .hits-are;
+        other = λ t. absurd (false≢true (sym t));
       }

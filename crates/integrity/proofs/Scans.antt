@@ -1,10 +1,10 @@
 -- Laws for the loops over the entries and over the cells.
-use mathlib.Core.Path.{_≡_, refl, sym, ap, _∙_}
+use mathlib.Core.Path.{_≡_, refl, sym, _∙_}
 use mathlib.Core.Logic.{_≢_}
 use mathlib.Core.Bool.{false, cond}
 use mathlib.Core.List.{List, [], _∷_, _++_}
-use Prim.Native.Nat.{ℕ, zero, suc, _+_, _≤_, _<_}
-use native.Mathlib.Nat.{zero-add, add-zero, suc-add, le-of-suc-le-suc, not-suc-le-zero}
+use Prim.Native.Nat.{ℕ, zero, suc, _+_, _≤_, _<_, suc-le-suc}
+use native.Mathlib.Nat.{add-zero}
 use native.Mathlib.Numerals.{add-one}
 use native.Mathlib.Omega.{arith}
 use lib.Dec.{eqb}
@@ -12,23 +12,30 @@ use lib.ListN.{length, getD, take, drop, length-take}
 use lib.Seq.{take-suc, drop-cons}
 use borrow.Author.Tests.{eq-eqb, ne-eqb}
 use Rattle.walsh.specs.Serial.{same}
-use Rattle.walsh.proofs.Cases.{on-test, on-less}
+use Rattle.walsh.proofs.Cases.{on-test}
 use Rattle.model.specs.Basics.{zeros, indexOf}
-use Rattle.model.proofs.Lists.{length-snoc, zeros-or-not, zeros-snoc, nonzeros-snoc}
-use Rattle.integrity.specs.Examine.{Scanned}
+use Rattle.model.proofs.Lists.{zeros-or-not, zeros-snoc, nonzeros-snoc}
+use Rattle.integrity.specs.Examine.{Scanned, howOften}
 
--- ---- the place of a number
+-- ---- how often a number stands in a list
 
-index-kept : (x : ℕ) (l m : List ℕ) → indexOf x l < length l → indexOf x (l ++ m) ≡ indexOf x l
-index-kept x [] m h = absurd (not-suc-le-zero h)
-index-kept x (y ∷ l) m h = on-test (eqb y x) (λ t. rw t) (λ t. rw t (ap suc (index-kept x l m (le-of-suc-le-suc (rw t at h)))))
-
-index-past : (x : ℕ) (l m : List ℕ) → length l ≤ indexOf x l → indexOf x (l ++ m) ≡ length l + indexOf x m
-index-past x [] m h = sym (zero-add (indexOf x m))
-index-past x (y ∷ l) m h =
+pub often-none : (x : ℕ) (l : List ℕ) → howOften x l ≡ 0 → length l ≤ indexOf x l
+often-none x [] e = omega arith
+often-none x (y ∷ l) e =
     on-test (eqb y x)
-    (λ t. absurd (not-suc-le-zero (rw t at h)))
-    (λ t. rw t (ap suc (index-past x l m (le-of-suc-le-suc (rw t at h))) ∙ sym (suc-add (length l) (indexOf x m))))
+    (λ t. let one : 1 + howOften x l ≡ 0 = rw t at e in absurd (omega arith))
+    (λ t. let rest : 0 + howOften x l ≡ 0 = rw t at e in rw t (suc-le-suc (often-none x l (omega arith))))
+
+pub often-some : (x : ℕ) (l : List ℕ) → 0 < howOften x l → indexOf x l < length l
+often-some x [] h = absurd (omega arith)
+often-some x (y ∷ l) h =
+    on-test (eqb y x)
+    (λ t. rw t (omega arith))
+    (λ t. let rest : 0 < 0 + howOften x l = rw t at h in rw t (suc-le-suc (often-some x l (omega arith))))
+
+often-more : (x : ℕ) (l : List ℕ) (y : ℕ) → howOften x (l ++ (y ∷ [])) ≡ howOften x l + cond (eqb y x) 1 0
+often-more x [] y = omega arith
+often-more x (z ∷ l) y = omega (arith, often-more x l y)
 
 -- ---- one entry more
 
@@ -37,27 +44,10 @@ zeros-more l zero = zeros-snoc l .1
 zeros-more l (suc y) = rw (ne-eqb (suc y) 0 (λ e. omega arith)) (nonzeros-snoc l (suc y) (λ e. omega arith) .1 ∙ sym (add-zero (zeros l)))
 
 pub scanned-none : (x : ℕ) → Scanned [] x 0 0
-scanned-none x = record { zeros-are = refl; none = λ e. omega arith; some = λ h. absurd (not-suc-le-zero h) }
+scanned-none x = record { zeros-are = refl; hits-are = refl }
 
 more : (l : List ℕ) (x y z h a b : ℕ) → Scanned l x z h → a ≡ cond (eqb y 0) 1 0 → b ≡ cond (eqb y x) 1 0 → Scanned (l ++ (y ∷ [])) x (z + a) (h + b)
-more l x y z h a b s ea eb =
-    let n = length-snoc l y in
-    record {
-      zeros-are = rw (ea, s .zeros-are) (sym (zeros-more l y));
-      none = λ e.
-          let past = index-past x l (y ∷ []) (s .none (omega arith)) in
-          on-test (eqb y x)
-          (λ t. let one : b ≡ 1 = rw t at eb in absurd (omega arith))
-          (λ t. let last : indexOf x (y ∷ []) ≡ 1 = rw t in omega arith);
-      some = λ p.
-          on-less 0 h
-          (λ q u. let kept = index-kept x l (y ∷ []) (s .some q) in omega (arith, s .some q))
-          (λ q u.
-          let past = index-past x l (y ∷ []) (s .none (omega arith)) in
-          on-test (eqb y x)
-          (λ t. let first : indexOf x (y ∷ []) ≡ 0 = rw t in omega arith)
-          (λ t. let zero : b ≡ 0 = rw t at eb in absurd (omega arith)));
-    }
+more l x y z h a b s ea eb = record { zeros-are = rw (ea, s .zeros-are) (sym (zeros-more l y)); hits-are = rw (eb, s .hits-are) (sym (often-more x l y)) }
 
 pub scanned-more : (col : List ℕ) (i x z h a b : ℕ) → i < length col → Scanned (take i col) x z h
     → a ≡ cond (eqb (getD col i 0) 0) 1 0

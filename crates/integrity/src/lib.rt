@@ -20,7 +20,7 @@ struct Counts {
     hits: u64,
 }
 
-// Where a record and a column belong together: N, and how many entries are the order that is looked for.
+// Where a record and a column belong together: N, and how many entries are the order that is looked for; elsewhere 0 and 0.
 pub struct Seen {
     pub fits: bool,
     pub count: u64,

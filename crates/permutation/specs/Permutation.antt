@@ -1,8 +1,8 @@
 -- Document 01, "Sheet orders": permutations of 1..k and their inversion vectors. The document's sheet order p1..pk is a list p. Places are
 -- counted from 0 here: `getD p i 0` is its p(i+1). A reader who believes this file, `Exchange`, `Reading` and `Conversions` knows what is
 -- promised.
-use mathlib.Core.Path.{_≡_}
-use mathlib.Core.Bool.{Bool, cond}
+use mathlib.Core.Path.{_≡_, refl}
+use mathlib.Core.Bool.{Bool, cond, true}
 use mathlib.Core.List.{List, [], _∷_, _++_, map}
 use Prim.Native.Nat.{ℕ, zero, suc, _+_, _-_, _≤_}
 use lib.Dec.{eqb, ltb}
@@ -63,3 +63,20 @@ lift c x = cond (ltb c x) (suc x) x
 unfoldable pub permutationOf : List ℕ → List ℕ
 permutationOf [] = 1 ∷ []
 permutationOf (c ∷ g) = suc c ∷ map (lift c) (permutationOf g)
+
+-- ---- the document's copy G, its third row, computed
+
+abbrev pub thirdOfG : List ℕ
+thirdOfG = 2 ∷ 4 ∷ 1 ∷ 3 ∷ []
+
+the-test : isPermutation 4 thirdOfG ≡ true
+unfolding isPermutation
+the-test = refl
+
+the-vector : inversionVector thirdOfG ≡ 1 ∷ 2 ∷ 0 ∷ []
+unfolding inversionVector
+the-vector = refl
+
+the-permutation : permutationOf (1 ∷ 2 ∷ 0 ∷ []) ≡ thirdOfG
+unfolding permutationOf lift
+the-permutation = refl

@@ -3,6 +3,7 @@ use mathlib.Core.Path.{_≡_, sym, ap, _∙_}
 use mathlib.Core.Bool.{true}
 use Prim.Native.Nat.{ℕ, _+_, _<_}
 use native.Mathlib.Omega.{arith}
+use lib.Arith.{le-zero}
 use lib.ListN.{length}
 use denote.Ref.{now}
 use borrow.Author.Needs.{needs}
@@ -12,6 +13,7 @@ use Rattle.model.specs.Basics.{indexOf}
 use Rattle.model.specs.Record.{consistent, written}
 use Rattle.model.proofs.Records.{parts, refusedWith, answered-16, answered-by}
 use Rattle.model.proofs.Replies.{claim-none, claim-refused, claim-again, claim-good}
+use Rattle.integrity.proofs.Scans.{often-none, often-some}
 use Rattle.reply.proofs.claim.Statement.{statement}
 use Rattle.reply.proofs.claim.Tie as tie
 
@@ -40,7 +42,8 @@ stands : (c : tie.Then4)
     indexOf (a .order) (written (a .ledger) (now (a .orders))) < length (written (a .ledger) (now (a .orders)))
 stands c =
     let e = c .before .before .before .before .before .before in
-    e .before .before .examine .ensures .some (not-false _ (e .if1 .left)) (c .if4 .taken)
+    let a = e .before .before .before .before .args in
+    often-some (a .order) (written (a .ledger) (now (a .orders))) (rw (e .before .before .examine .ensures .hits (not-false _ (e .if1 .left))) at (c .if4 .taken))
 
 find-requires : tie.Need-find-requires
 find-requires c κs =
@@ -66,11 +69,12 @@ returns-5 : tie.Need-returns-5
 returns-5 c =
     let e = c .before .before .before .before .before in
     let x = e .before .before .before .examine .ensures in
+    let a = e .before .before .before .before .before .args in
     let p = c .before .before .before .before .place .ensures in
     p
     ∙ sym (answered-by _ _ _ (fits (e .before))
     ∙ claim-good _ _ _ _ (e .if2 .left) (ap (λ (x : Answer). x .number) (sym p) ∙ c .before .before .if3 .left)
-    (x .none (not-false _ (e .before .if1 .left)) (omega (arith, c .if4 .left))))
+    (often-none (a .order) (written (a .ledger) (now (a .orders))) (sym (x .hits (not-false _ (e .before .if1 .left))) ∙ le-zero (c .if4 .left))))
 
 pub claim-spec : {M : Type 1} → statement M
 claim-spec =
