@@ -11,11 +11,20 @@ use std::hint::black_box;
 use std::process::{Command, Stdio};
 use std::time::{Duration, Instant};
 
-const RUNS: usize = 40;
+const RUNS: usize = 101;
 const INPUTS: u64 = 64;
 
-/// Nanoseconds a call by a clock: the least of many runs of a millisecond or more, the two taking turns.
-fn beside_by(clock: fn() -> Duration, mut ours: impl FnMut(usize), mut theirs: impl FnMut(usize)) -> (f64, f64) {
+/// Nanoseconds a call, each the least of many runs, and the median of the runs' ratios.
+#[derive(Clone, Copy)]
+struct Times {
+    ours: f64,
+    theirs: f64,
+    ratio: f64,
+}
+
+/// The two take turns by a clock, in runs of a millisecond or more. A ratio is of two runs that follow each other, so that a machine that is slower for a
+/// while is slower for both.
+fn beside_by(clock: fn() -> Duration, mut ours: impl FnMut(usize), mut theirs: impl FnMut(usize)) -> Times {
     let calls = |f: &mut dyn FnMut(usize)| {
         let start = Instant::now();
         let mut calls = 0usize;
@@ -34,14 +43,19 @@ fn beside_by(clock: fn() -> Duration, mut ours: impl FnMut(usize), mut theirs: i
     };
     let (a, b) = (calls(&mut ours), calls(&mut theirs));
     let (mut best, mut other) = (f64::MAX, f64::MAX);
-    for _ in 0..RUNS {
-        best = best.min(time(&mut ours, a));
-        other = other.min(time(&mut theirs, b));
-    }
-    (best, other)
+    let mut ratios: Vec<f64> = (0..RUNS)
+        .map(|_| {
+            let (x, y) = (time(&mut ours, a), time(&mut theirs, b));
+            best = best.min(x);
+            other = other.min(y);
+            x / y
+        })
+        .collect();
+    ratios.sort_by(f64::total_cmp);
+    Times { ours: best, theirs: other, ratio: ratios[RUNS / 2] }
 }
 
-fn beside(ours: impl FnMut(usize), theirs: impl FnMut(usize)) -> (f64, f64) {
+fn beside(ours: impl FnMut(usize), theirs: impl FnMut(usize)) -> Times {
     beside_by(clock::own, ours, theirs)
 }
 
@@ -53,8 +67,8 @@ fn shown(ns: f64) -> String {
     }
 }
 
-fn row(work: &str, (ours, theirs): (f64, f64)) {
-    println!("| {work} | {} | {} | {:.2} |", shown(ours), shown(theirs), ours / theirs);
+fn row(work: &str, times: Times) {
+    println!("| {work} | {} | {} | {:.2} |", shown(times.ours), shown(times.theirs), times.ratio);
 }
 
 struct Edition {
@@ -194,7 +208,7 @@ fn claims(e: &Edition, entries: u64) -> f64 {
         |_| _ = black_box(peer::claim(black_box(ledger), &mut copy, serial, order)),
     );
     row(&format!("claim at {entries} entries: {}", e.name), times);
-    times.0
+    times.ours
 }
 
 fn listing(ours: &str, theirs: &str, folder: &str, e: &Edition) {
