@@ -1,7 +1,7 @@
 -- Laws of the window that slides along a row of the band.
 use mathlib.Core.Path.{_≡_}
 use mathlib.Core.List.{List}
-use Prim.Native.Nat.{ℕ, suc, _+_, _-_, _≤_, _<_, max}
+use Prim.Native.Nat.{ℕ, suc, _+_, _-_, _%_, _≤_, _<_, max}
 use native.Mathlib.Omega.{arith}
 use native.Mathlib.Nat.{le-trans}
 use native.Mathlib.Numerals.{add-one}
@@ -13,10 +13,14 @@ use Rattle.walsh.proofs.Listing.{count-none}
 use Rattle.walsh.proofs.Peel.{sum-stop}
 use Rattle.walsh.proofs.Window.{sum-at, sum-step, sum-to-mono, count-window}
 use Rattle.bounds.specs.Edition.{whole}
-use Rattle.band.specs.Band.{InBand, lowest, highest, IsRow}
+use Rattle.band.specs.Band.{InBand, lowest, highest, cap, IsRow}
 use Rattle.band.specs.Window.{Slid}
 use Rattle.band.specs.declared.Row.{Row}
 use Rattle.band.proofs.Bands.{band-most, band-ends}
+
+-- a window moved modulo 2^64, of numbers within the limit
+pub moved-within : {r w x y : ℕ} → (r + x) % 18446744073709551616 ≡ (w + y) % 18446744073709551616 → r < 18446744073709551616 → x ≤ w → w < cap → y < cap → r ≡ w - x + y
+moved-within e f l h k = omega arith
 
 module _ (ms : List ℕ) (r : ℕ) where
   -- the sum that leaves the window is in the band

@@ -1,7 +1,7 @@
 // A row of the counting table, filled from the row before by a sliding window. It stops at the first number over 2^63 - 1, which shows that N is over it too.
 ghost use mathlib.Core.Path.{_≡_};
 ghost use mathlib.Core.Bool.{true, false};
-ghost use Prim.Native.Nat.{_+_, _-_, _≤_, _<_};
+ghost use Prim.Native.Nat.{_+_, _-_, _%_, _≤_, _<_};
 ghost use lib.ListN.{length, getD};
 ghost use Rattle.walsh.specs.Order.{count};
 ghost use Rattle.band.specs.Band.{cap, Row-holds, Rows-hold};
@@ -31,10 +31,10 @@ fn head(upper: &[u8], total: usize, k: usize, row: Row, next: Row, cells: &[u64]
     w
 }
 
-// w - x + y, of numbers within the limit of which x is the smaller of w and x. The difference of x and y comes first, so that the next turn of a loop
-// waits for one operation only.
+// w - x + y modulo 2^64, which is w - x + y itself where the numbers are within the limit and x is at most w. The difference of x and y comes first, so that
+// the next turn of a loop waits for one operation only.
 pub fn moved(w: u64, x: u64, y: u64) -> u64
-    ensures { λ r. ⌜ (x ≤ w → w < cap → y < cap → r ≡ w - x + y) ⌝ }
+    ensures { λ r. ⌜ (r + x) % 18446744073709551616 ≡ (w + y) % 18446744073709551616 ⌝ }
 {
     std::num::wrapping_add_u64(w, std::num::wrapping_sub_u64(y, x))
 }

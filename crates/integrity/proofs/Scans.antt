@@ -15,25 +15,26 @@ use Rattle.walsh.specs.Serial.{same}
 use Rattle.walsh.proofs.Cases.{on-test}
 use Rattle.model.specs.Basics.{zeros, indexOf}
 use Rattle.model.proofs.Lists.{zeros-or-not, zeros-snoc, nonzeros-snoc}
-use Rattle.integrity.specs.Examine.{Scanned, howOften}
+use Rattle.walsh.specs.Tests.{times}
+use Rattle.integrity.specs.Examine.{Scanned}
 
 -- ---- how often a number stands in a list
 
-pub often-none : (x : ℕ) (l : List ℕ) → howOften x l ≡ 0 → length l ≤ indexOf x l
+pub often-none : (x : ℕ) (l : List ℕ) → times x l ≡ 0 → length l ≤ indexOf x l
 often-none x [] e = omega arith
 often-none x (y ∷ l) e =
     on-test (eqb y x)
-    (λ t. let one : 1 + howOften x l ≡ 0 = rw t at e in absurd (omega arith))
-    (λ t. let rest : 0 + howOften x l ≡ 0 = rw t at e in rw t (suc-le-suc (often-none x l (omega arith))))
+    (λ t. let one : 1 + times x l ≡ 0 = rw t at e in absurd (omega arith))
+    (λ t. let rest : 0 + times x l ≡ 0 = rw t at e in rw t (suc-le-suc (often-none x l (omega arith))))
 
-pub often-some : (x : ℕ) (l : List ℕ) → 0 < howOften x l → indexOf x l < length l
+pub often-some : (x : ℕ) (l : List ℕ) → 0 < times x l → indexOf x l < length l
 often-some x [] h = absurd (omega arith)
 often-some x (y ∷ l) h =
     on-test (eqb y x)
     (λ t. rw t (omega arith))
-    (λ t. let rest : 0 < 0 + howOften x l = rw t at h in rw t (suc-le-suc (often-some x l (omega arith))))
+    (λ t. let rest : 0 < 0 + times x l = rw t at h in rw t (suc-le-suc (often-some x l (omega arith))))
 
-often-more : (x : ℕ) (l : List ℕ) (y : ℕ) → howOften x (l ++ (y ∷ [])) ≡ howOften x l + cond (eqb y x) 1 0
+often-more : (x : ℕ) (l : List ℕ) (y : ℕ) → times x (l ++ (y ∷ [])) ≡ times x l + cond (eqb y x) 1 0
 often-more x [] y = omega arith
 often-more x (z ∷ l) y = omega (arith, often-more x l y)
 

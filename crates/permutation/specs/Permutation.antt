@@ -8,18 +8,10 @@ use Prim.Native.Nat.{ℕ, zero, suc, _+_, _-_, _≤_}
 use lib.Dec.{eqb, ltb}
 use lib.ListN.{length, getD}
 use Rattle.walsh.specs.Tests.{both, every}
+pub use Rattle.walsh.specs.Tests.{howMany, times}
 use Rattle.walsh.specs.Sums.{sum}
 
 -- ---- "A sheet order is a permutation p1..pk of 1..k"
-
--- how many entries of a list pass a test
-abbrev pub howMany : (ℕ → Bool) → List ℕ → ℕ
-howMany test [] = 0
-howMany test (x ∷ l) = cond (test x) 1 0 + howMany test l
-
--- how many are v
-abbrev pub times : ℕ → List ℕ → ℕ
-times v l = howMany (λ x. eqb x v) l
 
 -- p has k entries, and each of 1..k is exactly one of them
 pub record IsPermutation (k : ℕ) (p : List ℕ) : Type 0 where

@@ -1,6 +1,8 @@
 -- Tests put together. A test is a Bool that is computed; a fact about it is an equation `test ≡ true`.
 use mathlib.Core.Bool.{Bool, true, false, cond}
-use Prim.Native.Nat.{ℕ, zero, suc}
+use mathlib.Core.List.{List, [], _∷_}
+use Prim.Native.Nat.{ℕ, zero, suc, _+_}
+use lib.Dec.{eqb}
 
 abbrev pub both : Bool → Bool → Bool
 both a b = cond a b false
@@ -12,3 +14,12 @@ either a b = cond a true b
 abbrev pub every : (ℕ → Bool) → ℕ → Bool
 every f zero = true
 every f (suc n) = both (f n) (every f n)
+
+-- how many entries of a list pass a test
+abbrev pub howMany : (ℕ → Bool) → List ℕ → ℕ
+howMany test [] = 0
+howMany test (x ∷ l) = cond (test x) 1 0 + howMany test l
+
+-- how many are v
+abbrev pub times : ℕ → List ℕ → ℕ
+times v l = howMany (λ x. eqb x v) l

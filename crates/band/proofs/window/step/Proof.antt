@@ -9,7 +9,7 @@ use mir.Val.{Fits}
 use mir.Syntax.{w64}
 use Rattle.band.proofs.Bands.{band-ends, low-high}
 use Rattle.band.proofs.Rows.{above-none}
-use Rattle.band.proofs.Slides.{behind-in, slid-leaves, slid-over, slid-under}
+use Rattle.band.proofs.Slides.{moved-within, behind-in, slid-leaves, slid-over, slid-under}
 use Rattle.band.specs.Band.{InBand, lowest, highest}
 use Rattle.band.specs.Window.{Slid}
 use Rattle.walsh.specs.Order.{count}
@@ -80,7 +80,7 @@ returns c =
     let s = c .before .before .before .before .before .before .before in
     let x = c .before .before .cell in
     let less = rest-at s (x .result) (c .before .before .before .if2 .taken) (x .ensures .0) in
-    rw (c .moved .ensures less (s .pre .4 .small) (c .before .cell2 .ensures .1)) (over-at s _ _ (c .before .before .before .if2 .taken) (x .ensures .0) (c .before .cell2 .ensures .0))
+    rw (moved-within (c .moved .ensures) (c .moved .ok) less (s .pre .4 .small) (c .before .cell2 .ensures .1)) (over-at s _ _ (c .before .before .before .if2 .taken) (x .ensures .0) (c .before .cell2 .ensures .0))
 
 returns-3 : tie.Need-returns-3
 returns-3 c =

@@ -6,6 +6,7 @@ use native.Mathlib.Omega.{arith}
 use lib.ListN.{length-set}
 use denote.Ref.{now}
 use borrow.Author.Needs.{needs}
+use Rattle.band.proofs.Slides.{moved-within}
 use Rattle.walsh.proofs.Cases.{on-test}
 use Rattle.count.specs.Row.{Passed, Enters, Moved}
 use Rattle.count.proofs.Rows.{at-total, leaving-most, moves, stored}
@@ -90,7 +91,7 @@ moved-at c =
     let x = c .before .before .before .leaving in
     let y = c .before .entering in
     moves (now (a .upper)) (a .total) (a .part) (start d .pre .0) _ (low-at d) (high-at d) (l .w) (l .cells) (passed-at d) (a .enters) (x .result) (y .result) _ (enters-at d) (x .ensures) (y .ensures .1) (y .ensures .2)
-    (c .moved .ensures (leaving-most (now (a .upper)) (a .total) (a .part) (start d .pre .0) _ (low-at d) (high-at d) (l .w) (l .cells) (passed-at d) (x .result) (x .ensures)) (l .inv .2 .small) (y .ensures .0))
+    (moved-within (c .moved .ensures) (c .moved .ok) (leaving-most (now (a .upper)) (a .total) (a .part) (start d .pre .0) _ (low-at d) (high-at d) (l .w) (l .cells) (passed-at d) (x .result) (x .ensures)) (l .inv .2 .small) (y .ensures .0))
 
 less : {t n : ℕ} → t ≤ 255 → n ≡ 256 → t < n
 less l e = omega arith
