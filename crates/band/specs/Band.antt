@@ -4,11 +4,11 @@ use mathlib.Core.Path.{_≡_}
 use mathlib.Core.Bool.{cond}
 use mathlib.Core.List.{List}
 use Prim.Native.Nat.{ℕ, suc, _+_, _-_, _≤_, _<_, min}
-use lib.Dec.{ltb, eqb}
+use lib.Dec.{ltb}
 use lib.ListN.{length, getD}
 use Rattle.walsh.specs.Sums.{sum, sumTo}
 use Rattle.walsh.specs.Order.{count, countOf}
-use Rattle.bounds.specs.Refusal.{firstRefusal}
+use Rattle.bounds.specs.Refusal.{firstRefusal, decided}
 use Rattle.bounds.specs.Edition.{whole, shapeChecks, editionChecks}
 use Rattle.bounds.specs.declared.Refusal.{Refusal}
 use Rattle.band.specs.declared.Surveyed.{Surveyed}
@@ -75,7 +75,7 @@ pub record IsRow (ms : List ℕ) (r k : ℕ) (row : Row) : Type 0 where
 -- the checks 1 to 4; where they refuse nothing, the sum of the ceilings and the size of the table
 abbrev pub surveyedBy : Refusal → List ℕ → ℕ → Surveyed
 surveyedBy v ms r =
-    cond (eqb (v .number) 0)
+    decided v
     (record { number = 0; detail = 0; all = whole ms; size = bandSize ms r })
     (record { number = v .number; detail = v .detail; all = 0; size = 0 })
 
@@ -84,7 +84,7 @@ surveyOf ms r = surveyedBy (firstRefusal (shapeChecks ms r)) ms r
 
 abbrev pub countedBy : Refusal → List ℕ → ℕ → Counted
 countedBy v ms r =
-    cond (eqb (v .number) 0)
+    decided v
     (record { number = 0; detail = 0; count = countOf ms r })
     (record { number = v .number; detail = v .detail; count = 0 })
 

@@ -1,13 +1,11 @@
 -- What is found in the order: a composition by its serial, or a serial by its composition.
 use mathlib.Core.Path.{_≡_}
-use mathlib.Core.Bool.{cond}
 use mathlib.Core.List.{List, _++_}
 use Prim.Native.Nat.{ℕ, min, max}
-use lib.Dec.{eqb}
 use lib.ListN.{replicate}
 use Rattle.walsh.specs.Order.{countOf}
 use Rattle.walsh.specs.Serial.{serialOf, compositionOf}
-use Rattle.bounds.specs.Refusal.{Check, firstRefusal}
+use Rattle.bounds.specs.Refusal.{Check, firstRefusal, decided}
 use Rattle.bounds.specs.Edition.{whole, shapeChecks, editionChecks, cellsOf}
 use Rattle.bounds.specs.Places.{compositionChecks}
 use Rattle.bounds.specs.declared.Refusal.{Refusal}
@@ -44,7 +42,7 @@ pub record Sized (ms : List ℕ) (r all size : ℕ) : Type 0 where
 
 abbrev pub foundBy : Refusal → ℕ → ℕ → List ℕ → Found
 foundBy v n s g =
-    cond (eqb (v .number) 0)
+    decided v
     (record { number = 0; detail = 0; count = n; serial = s; composition = g })
     (record { number = v .number; detail = v .detail; count = 0; serial = 0; composition = replicate 24 0 })
 

@@ -9,7 +9,7 @@ ghost use Rattle.band.specs.Window.{Filling, Slid, Filled, Moves, Stretc
 use crate::Row;
 use crate::bound;
 use crate::cell;
-use bounds::MOST;
+use bounds::LIMIT;
 
 pub mod table;
 
@@ -23,7 +23,7 @@ fn head(upper: &[u8], total: usize, k: usize, row: Row, next: Row, cells: &[u64]
     let mut t = row.low;
     while t < end {
         w += cell(upper, total, k, row, cells, t);
-        if MOST < w {
+        if LIMIT < w {
             return w;
         }
         t += 1;
@@ -99,7 +99,7 @@ fn fill_span(
     let mut t = span.from;
     while t < end {
         w = step(upper, total, k, m, row, next, cells, t, w, enters, leaves);
-        if MOST < w {
+        if LIMIT < w {
             return w;
         }
         cells[next.start + (t - next.low)] = w;
@@ -128,7 +128,7 @@ fn fill_row(upper: &[u8], total: usize, k: usize, row: Row, next: Row, cells: &m
     ensures { λ r. ⌜ (r ≡ true → Rows-hold (now (upper .entry)) total (now (cells .exit)) (k + 1)) × (r ≡ false → cap ≤ count (now (upper .entry)) (length (now (upper .entry))) total) ⌝ }
 {
     let w0 = head(upper, total, k, row, next, cells);
-    if MOST < w0 {
+    if LIMIT < w0 {
         return false;
     }
     let m = bound(upper, k);
@@ -145,7 +145,7 @@ fn fill_row(upper: &[u8], total: usize, k: usize, row: Row, next: Row, cells: &m
         leaves: false,
     };
     let w1 = fill_span(upper, total, k, m, row, next, cells, grows, w0);
-    if MOST < w1 {
+    if LIMIT < w1 {
         return false;
     }
     let slides = Span {
@@ -155,7 +155,7 @@ fn fill_row(upper: &[u8], total: usize, k: usize, row: Row, next: Row, cells: &m
         leaves: both,
     };
     let w2 = fill_span(upper, total, k, m, row, next, cells, slides, w1);
-    if MOST < w2 {
+    if LIMIT < w2 {
         return false;
     }
     let shrinks = Span {
@@ -165,5 +165,5 @@ fn fill_row(upper: &[u8], total: usize, k: usize, row: Row, next: Row, cells: &m
         leaves: true,
     };
     let w3 = fill_span(upper, total, k, m, row, next, cells, shrinks, w2);
-    w3 <= MOST
+    w3 <= LIMIT
 }

@@ -1,14 +1,13 @@
 -- The answers of specs/Edition.antt, case by case.
 use mathlib.Core.Path.{_≡_, refl, sym, ap, _∙_}
-use mathlib.Core.List.{List, [], _∷_}
+use mathlib.Core.List.{List}
 use Prim.Native.Nat.{ℕ, _≤_, _<_}
 use native.Mathlib.Omega.{arith}
-use lib.Dec.{ltb}
 use lib.ListN.{take}
 use borrow.Author.Tests.{lt-ltb, le-ltb}
 use Rattle.walsh.specs.Order.{countOf}
-use Rattle.bounds.specs.Refusal.{Check, check, refused, firstRefusal}
-use Rattle.bounds.specs.Edition.{whole, shapeChecks, editionChecks, shapedOf, recordChecks}
+use Rattle.bounds.specs.Refusal.{refused, firstRefusal}
+use Rattle.bounds.specs.Edition.{whole, shapeChecks, limitChecks, editionChecks, shapedOf, recordChecks}
 use Rattle.bounds.specs.declared.Refusal.{Refusal}
 use Rattle.bounds.specs.declared.Shaped.{Shaped}
 use Rattle.bounds.specs.declared.Bounds.{Bounds}
@@ -35,18 +34,15 @@ module _ (ms : List ℕ) (r : ℕ) where
 
   -- ---- the edition: refused by its shape, or by N, or not
 
-  abbrev limit : List Check
-  limit = check 5 (ltb 9223372036854775807 (countOf ms r)) 0 ∷ []
-
   pub edition-refused : (n d : ℕ) → shape ≡ refused n d → 0 < n → edition ≡ refused n d
-  edition-refused n d e l = refusal-first (shapeChecks ms r) limit (λ z. let q : n ≡ 0 = rw e at z in omega arith) ∙ e
+  edition-refused n d e l = refusal-first (shapeChecks ms r) (limitChecks ms r) (λ z. let q : n ≡ 0 = rw e at z in omega arith) ∙ e
 
   pub edition-over : shape .number ≡ 0 → 9223372036854775807 < countOf ms r → edition ≡ refused 5 0
-  edition-over e l = refusal-later (shapeChecks ms r) limit refl e ∙ refusal-here _ _ (lt-ltb _ _ l)
+  edition-over e l = refusal-later (shapeChecks ms r) (limitChecks ms r) refl e ∙ refusal-here _ _ (lt-ltb _ _ l)
 
   pub edition-none : shape .number ≡ 0 → countOf ms r ≤ 9223372036854775807 → edition ≡ refused 0 0
   unfolding firstRefusal
-  edition-none e l = refusal-later (shapeChecks ms r) limit refl e ∙ rw (le-ltb 9223372036854775807 (countOf ms r) l)
+  edition-none e l = refusal-later (shapeChecks ms r) (limitChecks ms r) refl e ∙ rw (le-ltb 9223372036854775807 (countOf ms r) l)
 
 -- ---- a record that nobody has checked
 

@@ -1,20 +1,19 @@
 -- Laws of the definitions in specs/Edition.antt.
-use mathlib.Core.Path.{_≡_, refl, sym, ap}
+use mathlib.Core.Path.{_≡_, refl, sym}
 use mathlib.Core.Bool.{Bool, true, false, false≢true}
-use mathlib.Core.List.{List, [], _∷_, _++_}
-use Prim.Native.Nat.{ℕ, zero, suc, _+_, _-_, _≤_, _<_}
-use native.Mathlib.Nat.{le-of-suc-le-suc, not-suc-le-zero}
+use mathlib.Core.List.{List}
+use Prim.Native.Nat.{ℕ, _+_, _≤_, _<_}
 use native.Mathlib.Omega.{arith}
 use native.Mathlib.Numerals.{add-one}
 use lib.Dec.{eqb, ltb}
-use lib.ListN.{length, getD, drop, drop-of-length-le, set, take, replicate}
-use lib.Seq.{drop-cons, take-length}
-use borrow.Author.Tests.{eqb-true, eqb-false, ltb-false}
+use lib.ListN.{length, getD, drop, drop-of-length-le}
+use lib.Seq.{drop-cons}
+use borrow.Author.Tests.{eqb-false, ltb-false}
 use Rattle.walsh.specs.Tests.{either}
-use Rattle.walsh.proofs.Cases.{on-test}
 use Rattle.bounds.specs.Refusal.{firstRefusal}
-use Rattle.bounds.specs.Edition.{whole, outside, firstOutside, cellsOf, shapeChecks, editionChecks}
-use Rattle.bounds.proofs.Refusals.{passed, refusal-first}
+use Rattle.bounds.specs.Edition.{whole, outside, firstOutside, shapeChecks, limitChecks, editionChecks}
+use Rattle.bounds.proofs.Refusals.{passed}
+use Rattle.bounds.proofs.Chains.{accepts-split}
 
 -- ---- the search for a bound outside 1..60
 
@@ -60,24 +59,6 @@ shapely ms r e =
       reached = ltb-false _ _ (p4 .0);
     }
 
-pub edition-shape : (ms : List ℕ) (r : ℕ) → firstRefusal (editionChecks ms r) .number ≡ 0 → firstRefusal (shapeChecks ms r) .number ≡ 0
-edition-shape ms r e =
-    on-test (eqb (firstRefusal (shapeChecks ms r) .number) 0)
-    (λ t. eqb-true (firstRefusal (shapeChecks ms r) .number) 0 t)
-    (λ t. let z = eqb-false (firstRefusal (shapeChecks ms r) .number) 0 t in absurd (z (rw (refusal-first (shapeChecks ms r) _ z) at e)))
-
--- ---- the 24 cells
-
-cells-suc : (ms : List ℕ) (i n : ℕ) → i < length ms → set (take i ms ++ replicate (suc n) 0) i (getD ms i 0) ≡ take (suc i) ms ++ replicate n 0
-cells-suc [] i n h = absurd (not-suc-le-zero h)
-cells-suc (m ∷ ms) zero n h = refl
-cells-suc (m ∷ ms) (suc i) n h = ap (λ (l : List ℕ). m ∷ l) (cells-suc ms i n (le-of-suc-le-suc h))
-
-pub cells-step : (ms : List ℕ) (i : ℕ) → i < length ms → i < 24 → set (take i ms ++ replicate (24 - i) 0) i (getD ms i 0) ≡ take (i + 1) ms ++ replicate (24 - (i + 1)) 0
-cells-step ms i h b =
-    let e : 24 - i ≡ suc (24 - suc i) = omega arith in
-    rw (add-one, e) (cells-suc ms i (24 - suc i) h)
-
-pub cells-done : (ms : List ℕ) (i : ℕ) → i ≡ length ms → take i ms ++ replicate (24 - i) 0 ≡ cellsOf ms
-unfolding cellsOf
-cells-done ms i e = rw (e, take-length)
+-- an edition that is accepted
+pub edition-shapely : (ms : List ℕ) (r : ℕ) → firstRefusal (editionChecks ms r) .number ≡ 0 → Shapely ms r
+edition-shapely ms r e = shapely ms r (accepts-split (shapeChecks ms r) (limitChecks ms r) refl e .0)

@@ -9,7 +9,7 @@ use borrow.Author.Tests.{ltb-true, eqb-true, eqb-false, eq-eqb, ne-eqb}
 use Rattle.walsh.specs.Tests.{both}
 use Rattle.walsh.proofs.Tests.{both-left, both-right}
 use Rattle.walsh.proofs.Cases.{on-test}
-use Rattle.bounds.specs.Refusal.{Check, refused, firstRefusal}
+use Rattle.bounds.specs.Refusal.{Check, refused, firstRefusal, decided}
 use Rattle.bounds.specs.declared.Refusal.{Refusal}
 
 -- no check has number 0: `refl` for a table that is written out
@@ -57,17 +57,17 @@ unfolding firstRefusal
 refusal-none [] n e = refl
 refusal-none (c ∷ cs) n e = let p = passed c cs n e in rw (p .0) (refusal-none cs (p .1) (p .2))
 
--- ---- answers: a where the number is 0, and b, which has the number and the detail, where it is not
+-- ---- answers that are decided by a refusal: a, or b, which has its number and its detail
 
 module _ {A : Type 0} (v : Refusal) (a b : A) where
-  pub by-refusal : (n d : ℕ) → v ≡ refused n d → 0 < n → cond (eqb (v .number) 0) a b ≡ b
+  pub by-refusal : (n d : ℕ) → v ≡ refused n d → 0 < n → decided v a b ≡ b
   by-refusal n d e l = rw (e, ne-eqb n 0 (λ z. omega arith))
 
-  pub by-acceptance : v .number ≡ 0 → cond (eqb (v .number) 0) a b ≡ a
+  pub by-acceptance : v .number ≡ 0 → decided v a b ≡ a
   by-acceptance e = rw (eq-eqb (v .number) 0 e)
 
   -- what such an answer x says of v; the three equations before it are `refl`
-  module _ (number detail : A → ℕ) (za : number a ≡ 0) (nb : number b ≡ v .number) (db : detail b ≡ v .detail) (x : A) (e : x ≡ cond (eqb (v .number) 0) a b) where
+  module _ (number detail : A → ℕ) (za : number a ≡ 0) (nb : number b ≡ v .number) (db : detail b ≡ v .detail) (x : A) (e : x ≡ decided v a b) where
     pub is-refused : 0 < number x → v ≡ refused (number x) (detail x)
     is-refused l =
         on-test (eqb (v .number) 0)

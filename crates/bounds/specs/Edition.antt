@@ -8,7 +8,7 @@ use lib.ListN.{length, replicate, take}
 use Rattle.walsh.specs.Tests.{either}
 use Rattle.walsh.specs.Sums.{sumTo}
 use Rattle.walsh.specs.Order.{countOf}
-use Rattle.bounds.specs.Refusal.{Check, check, firstRefusal}
+use Rattle.bounds.specs.Refusal.{Check, check, firstRefusal, decided}
 use Rattle.bounds.specs.declared.Refusal.{Refusal}
 use Rattle.bounds.specs.declared.Bounds.{Bounds}
 use Rattle.bounds.specs.declared.Shaped.{Shaped}
@@ -35,14 +35,18 @@ shapeChecks ms r =
     ∷ check 4 (ltb (whole ms) r) 0
     ∷ []
 
+-- its last check
+abbrev pub limitChecks : List ℕ → ℕ → List Check
+limitChecks ms r = check 5 (ltb 9223372036854775807 (countOf ms r)) 0 ∷ []
+
 -- the place 'edition'
 abbrev pub editionChecks : List ℕ → ℕ → List Check
-editionChecks ms r = shapeChecks ms r ++ (check 5 (ltb 9223372036854775807 (countOf ms r)) 0 ∷ [])
+editionChecks ms r = shapeChecks ms r ++ limitChecks ms r
 
 -- the answer of the checks 1 to 4, with the sum of the ceilings where they refuse nothing
 abbrev pub shapedBy : Refusal → List ℕ → Shaped
 shapedBy v ms =
-    cond (eqb (v .number) 0)
+    decided v
     (record { number = 0; detail = 0; all = whole ms })
     (record { number = v .number; detail = v .detail; all = 0 })
 
@@ -53,8 +57,15 @@ shapedOf ms r = shapedBy (firstRefusal (shapeChecks ms r)) ms
 unfoldable pub cellsOf : List ℕ → List ℕ
 cellsOf ms = ms ++ replicate (24 - length ms) 0
 
+-- no numbers: 24 cells of 0
+abbrev pub blank : List ℕ
+blank = replicate 24 0
+
 abbrev pub boundsOf : List ℕ → ℕ → Bounds
 boundsOf ms r = record { parts = length ms; upper = cellsOf ms; total = r }
+
+abbrev pub blankBounds : Bounds
+blankBounds = record { parts = 0; upper = blank; total = 0 }
 
 -- ---- an edition's record that nobody has checked: more than 24 parts have no cells
 

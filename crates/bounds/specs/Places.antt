@@ -1,12 +1,12 @@
 -- Document 01, "Refusals by place of checking": the places that several calls have.
-use mathlib.Core.Bool.{Bool, cond, not}
-use mathlib.Core.List.{List, [], _∷_}
-use Prim.Native.Nat.{ℕ}
+use mathlib.Core.Bool.{Bool, not}
+use mathlib.Core.List.{List, [], _∷_, _++_}
+use Prim.Native.Nat.{ℕ, min}
 use lib.Dec.{eqb, leb, ltb}
-use lib.ListN.{length, getD}
+use lib.ListN.{length, getD, take, drop}
 use Rattle.walsh.specs.Tests.{either, every}
 use Rattle.walsh.specs.Order.{countOf}
-use Rattle.bounds.specs.Refusal.{Check, check, firstRefusal}
+use Rattle.bounds.specs.Refusal.{Check, check, firstRefusal, decided}
 use Rattle.bounds.specs.Edition.{whole}
 use Rattle.bounds.specs.declared.Refusal.{Refusal}
 
@@ -29,10 +29,18 @@ compositionChecks ms r g =
 abbrev pub serialChecks : List ℕ → ℕ → ℕ → List Check
 serialChecks ms r s = check 6 (either (eqb s 0) (ltb (countOf ms r) s)) 0 ∷ []
 
+-- "N over 1,000,000", in the place 'opening' and for a listing
+abbrev pub manyChecks : List ℕ → ℕ → List Check
+manyChecks ms r = check 14 (ltb 1000000 (countOf ms r)) 0 ∷ []
+
 -- the place 'lent part': "length differs from what is to be written"
 abbrev pub lentChecks : ℕ → ℕ → List Check
 lentChecks want have = check 13 (not (eqb have want)) 0 ∷ []
 
 -- what a call that fills a lent part leaves: its answer, and the bytes of the part. "A refusal .. changes no lent byte"
 unfoldable pub filling : List Check → List ℕ → List ℕ → Refusal × List ℕ
-filling checks bytes out = (firstRefusal checks, cond (eqb (firstRefusal checks .number) 0) bytes out)
+filling checks bytes out = (firstRefusal checks, decided (firstRefusal checks) bytes out)
+
+-- the bytes of `out` after the beginning of `from` was copied over them, as many as both have
+unfoldable pub copied : List ℕ → List ℕ → List ℕ
+copied from out = take (min (length from) (length out)) from ++ drop (min (length from) (length out)) out

@@ -3,6 +3,7 @@
 use mathlib.Core.Bool.{Bool, cond}
 use mathlib.Core.List.{List, [], _∷_}
 use Prim.Native.Nat.{ℕ}
+use lib.Dec.{eqb}
 use Rattle.bounds.specs.declared.Refusal.{Refusal}
 
 -- a row of the document's table: its number, whether it is to be given, and its detail
@@ -21,3 +22,7 @@ refused number detail = record { number = number; detail = detail }
 unfoldable pub firstRefusal : List Check → Refusal
 firstRefusal [] = refused 0 0
 firstRefusal (c ∷ cs) = cond (c .holds) (refused (c .number) (c .detail)) (firstRefusal cs)
+
+-- of two answers the accepted one where v refuses nothing, or else the refused one
+abbrev pub decided : {A : Type 0} → Refusal → A → A → A
+decided v accepted refused = cond (eqb (v .number) 0) accepted refused

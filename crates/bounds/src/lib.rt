@@ -2,10 +2,15 @@
 ghost use mathlib.Core.Path.{_≡_};
 ghost use Prim.Native.Nat.{_≤_};
 ghost use lib.ListN.{length, take};
-ghost use Rattle.bounds.specs.Edition.{whole, outside, firstOutside, shapedOf, cellsOf};
+ghost use Rattle.bounds.specs.Refusal.{refused};
+ghost use Rattle.bounds.specs.Edition.{whole, outside, firstOutside, shapedOf, cellsOf, blankBounds};
+ghost use Rattle.bounds.specs.Places.{copied};
 
 // The largest N that is accepted (document 01: number 5).
-pub const MOST: u64 = 9_223_372_036_854_775_807;
+pub const LIMIT: u64 = 9_223_372_036_854_775_807;
+
+// The largest N of a ledger or a listing (document 01: number 14).
+pub const MOST_ENTRIES: u64 = 1_000_000;
 
 // A refusal's number and detail; 0 and 0 where nothing is refused.
 #[repr(C)]
@@ -20,6 +25,12 @@ pub struct Bounds {
     pub parts: usize,
     pub upper: [u8; 24],
     pub total: u32,
+}
+
+pub fn refused(number: u32, detail: u64) -> Refusal
+    ensures { λ r. ⌜ r ≡ refused number detail ⌝ }
+{
+    Refusal { number, detail }
 }
 
 // What the checks 1 to 4 answer, and the sum of the bounds where they refuse nothing.
@@ -99,16 +110,45 @@ fn unshaped(number: u32, detail: u64) -> Shaped
     }
 }
 
+// Copies the beginning of `from` over the beginning of `out`, as many bytes as both have.
+pub fn copy(from: &[u8], out: &mut [u8])
+    ensures { λ _. ⌜ now (out .exit) ≡ copied (now (from .entry)) (now (out .entry)) ⌝ }
+{
+    let n = walsh::lesser(from.len(), out.len());
+    let mut i = 0;
+    while i < n {
+        out[i] = from[i];
+        i += 1;
+    }
+}
+
 // A list in 24 cells, with zeros behind it; of a longer one, the first 24.
 pub fn pack(upper: &[u8]) -> [u8; 24]
     ensures { λ r. ⌜ r ≡ cellsOf (take 24 (now (upper .entry))) ⌝ }
 {
-    let n = walsh::lesser(upper.len(), 24);
     let mut cells = [0u8; 24];
-    let mut i = 0;
-    while i < n {
-        cells[i] = upper[i];
-        i += 1;
-    }
+    copy(upper, &mut cells);
     cells
+}
+
+// The record of bounds and a total; of more than 24 bounds, with the first 24.
+pub fn record(upper: &[u8], total: u32) -> Bounds
+    ensures { λ r. ⌜ r ≡ record { parts = length (now (upper .entry)); upper = cellsOf (take 24 (now (upper .entry))); total = total } ⌝ }
+{
+    Bounds {
+        parts: upper.len(),
+        upper: pack(upper),
+        total,
+    }
+}
+
+// A record of zeros.
+pub fn blank() -> Bounds
+    ensures { λ r. ⌜ r ≡ blankBounds ⌝ }
+{
+    Bounds {
+        parts: 0,
+        upper: [0; 24],
+        total: 0,
+    }
 }

@@ -1,6 +1,6 @@
 -- The answers of specs/Checked.antt, case by case, and N of a staircase.
 use mathlib.Core.Path.{_≡_}
-use mathlib.Core.List.{List, []}
+use mathlib.Core.List.{List}
 use Prim.Native.Nat.{ℕ, suc, _≤_, _<_}
 use lib.ListN.{length, take}
 use Rattle.walsh.specs.Tests.{both}
@@ -12,7 +12,7 @@ use Rattle.mahonian.specs.Read.{staircaseCountOf}
 use Rattle.mahonian.specs.declared.Entry.{Entry}
 use Rattle.mahonian.specs.declared.Entry.the-variants.{Count, Outside}
 use Rattle.bounds.specs.Refusal.{refused, firstRefusal}
-use Rattle.bounds.specs.Edition.{editionChecks, boundsOf}
+use Rattle.bounds.specs.Edition.{editionChecks, boundsOf, blankBounds}
 use Rattle.count.specs.Checked.{checkOf, recordOf}
 use Rattle.bounds.specs.declared.Refusal.{Refusal}
 use Rattle.bounds.specs.declared.Bounds.{Bounds}
@@ -23,7 +23,7 @@ module _ (ms : List ℕ) (r : ℕ) where
   abbrev edition : Refusal
   edition = firstRefusal (editionChecks ms r)
 
-  pub check-refused : (n d : ℕ) → edition ≡ refused n d → 0 < n → record { number = n; detail = d; bounds = boundsOf [] 0; count = 0 } ≡ checkOf ms r
+  pub check-refused : (n d : ℕ) → edition ≡ refused n d → 0 < n → record { number = n; detail = d; bounds = blankBounds; count = 0 } ≡ checkOf ms r
   unfolding checkOf
   check-refused n d e l = rw (by-refusal edition _ _ n d e l, e)
 
@@ -47,7 +47,7 @@ module _ (b : Bounds) where
   abbrev bounds : List ℕ
   bounds = take (b .parts) (b .upper)
 
-  pub record-refused : 24 < b .parts → record { number = 1; detail = 0; bounds = boundsOf [] 0; count = 0 } ≡ recordOf b
+  pub record-refused : 24 < b .parts → record { number = 1; detail = 0; bounds = blankBounds; count = 0 } ≡ recordOf b
   unfolding recordOf
   record-refused l = rw (← (record-many b l))
 

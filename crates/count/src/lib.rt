@@ -1,16 +1,16 @@
 // An edition with its number N (document 01, "Editions and their number"): the checks 1 to 5, of lent bounds and of a record that nobody has checked.
 ghost use mathlib.Core.Path.{_≡_};
 ghost use mathlib.Core.Bool.{true};
-ghost use mathlib.Core.List.{[]};
 ghost use Prim.Native.Nat.{ℕ, _*_, _≤_, _<_};
 ghost use lib.ListN.{length};
 ghost use Rattle.bounds.specs.Refusal.{firstRefusal};
-ghost use Rattle.bounds.specs.Edition.{boundsOf, editionChecks, recordChecks};
+ghost use Rattle.bounds.specs.Edition.{blankBounds, editionChecks};
 ghost use Rattle.count.specs.Checked.{checkOf, recordOf};
 ghost use Rattle.count.specs.Row.{Within};
 use bounds::Bounds;
-use bounds::MOST;
+use bounds::LIMIT;
 use bounds::Refusal;
+use bounds::refused;
 
 pub mod row;
 
@@ -27,16 +27,12 @@ pub struct Checked {
 }
 
 fn refuse(number: u32, detail: u64) -> Checked
-    ensures { λ r. ⌜ r ≡ record { number = number; detail = detail; bounds = boundsOf [] 0; count = 0 } ⌝ }
+    ensures { λ r. ⌜ r ≡ record { number = number; detail = detail; bounds = blankBounds; count = 0 } ⌝ }
 {
     Checked {
         number,
         detail,
-        bounds: Bounds {
-            parts: 0,
-            upper: [0; 24],
-            total: 0,
-        },
+        bounds: bounds::blank(),
         count: 0,
     }
 }
@@ -52,11 +48,7 @@ pub fn check(upper: &[u8], total: u32) -> Checked
     Checked {
         number: 0,
         detail: 0,
-        bounds: Bounds {
-            parts: upper.len(),
-            upper: bounds::pack(upper),
-            total,
-        },
+        bounds: bounds::record(upper, total),
         count: n.count,
     }
 }
@@ -78,7 +70,7 @@ fn is_within(a: u64, b: u64) -> bool
     requires { ⌜ (0 < b) × (b ≤ 256) ⌝ }
     ensures { λ r. ⌜ (r ≡ true → a * b ≤ 9223372036854775807) ⌝ }
 {
-    if a < SMALL { true } else { a <= MOST / b }
+    if a < SMALL { true } else { a <= LIMIT / b }
 }
 
 // Of how many first parts the product of the numbers of values of all but the widest is within the limit: then every number of compositions into them is.
@@ -102,40 +94,16 @@ fn few_parts(upper: &[u8], total: usize) -> usize
 }
 
 // The first of the refusals 1 to 5 that holds, for calls that need no N: where a bound on N that costs nothing is within the limit, nothing is counted.
-pub fn refusal(upper: &[u8], total: u32) -> Refusal
+pub fn edition_refusal(upper: &[u8], total: u32) -> Refusal
     ensures { λ r. ⌜ r ≡ firstRefusal (editionChecks (now (upper .entry)) total) ⌝ }
 {
     let s = bounds::shape(upper, total);
     if 0 < s.number {
-        return Refusal {
-            number: s.number,
-            detail: s.detail,
-        };
+        return refused(s.number, s.detail);
     }
     if few_parts(upper, total as usize) == upper.len() {
-        return Refusal {
-            number: 0,
-            detail: 0,
-        };
+        return refused(0, 0);
     }
     let n = row::number(upper, total);
-    Refusal {
-        number: n.number,
-        detail: n.detail,
-    }
-}
-
-// The same of a record that nobody has checked.
-pub fn record_refusal(bounds: Bounds) -> Refusal
-    ensures { λ r. ⌜ r ≡ firstRefusal (recordChecks bounds) ⌝ }
-{
-    let n = bounds.parts;
-    if 24 < n {
-        return Refusal {
-            number: 1,
-            detail: 0,
-        };
-    }
-    let upper = bounds.upper;
-    refusal(&upper[..n], bounds.total)
+    refused(n.number, n.detail)
 }

@@ -12,7 +12,7 @@ ghost use Rattle.count.specs.Row.{Passing, Row-counts, Within, Passed, E
 use band::CAP;
 use band::window::table;
 use band::window::table::Counted;
-use bounds::MOST;
+use bounds::LIMIT;
 
 // The lowest and the highest sum of a row from which the total can still be reached.
 struct Ends {
@@ -48,7 +48,7 @@ fn ends_of(total: usize, left: usize, all: usize) -> Ends
 fn is_over(w: u64, careful: bool) -> bool
     ensures { λ r. ⌜ (r ≡ true → cap ≤ w) × (r ≡ false → careful ≡ true → w < cap) ⌝ }
 {
-    if careful { MOST < w } else { false }
+    if careful { LIMIT < w } else { false }
 }
 
 // The number for the sum `t` of the first `k` parts.
@@ -139,7 +139,7 @@ fn pass(upper: &[u8], total: usize, part: Part, cells: &mut [u64], careful: bool
     ensures { λ r. ⌜ (r ≡ true → Row-counts (now (upper .entry)) total (now (cells .exit)) (part .k + 1) 0 256) × (r ≡ false → cap ≤ count (now (upper .entry)) (length (now (upper .entry))) total) ⌝ }
 {
     let w = top(upper, total, part, cells, careful);
-    if MOST < w {
+    if LIMIT < w {
         return false;
     }
     let row = part.row;
@@ -152,13 +152,13 @@ fn pass(upper: &[u8], total: usize, part: Part, cells: &mut [u64], careful: bool
     };
     let most = row.high + full - least + 1;
     let second = fall(upper, total, part, cells, first, most, true, false, careful);
-    if MOST < second.window {
+    if LIMIT < second.window {
         return false;
     }
     let both = full < row.high;
     let low = next.low + walsh::over(least + 1, next.low);
     let third = fall(upper, total, part, cells, second, low, both, both, careful);
-    if MOST < third.window {
+    if LIMIT < third.window {
         return false;
     }
     let last = fall(
@@ -172,7 +172,7 @@ fn pass(upper: &[u8], total: usize, part: Part, cells: &mut [u64], careful: bool
         true,
         careful,
     );
-    last.window <= MOST
+    last.window <= LIMIT
 }
 
 // The number of compositions, or 2^63 where that is less. Numbers are looked at only from the first row on that `few_parts` does not bound.

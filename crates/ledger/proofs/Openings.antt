@@ -11,7 +11,7 @@ use Rattle.walsh.specs.Order.{countOf}
 use Rattle.bounds.specs.Refusal.{Check, check, refused, firstRefusal}
 use Rattle.bounds.specs.Edition.{editionChecks, cellsOf}
 use Rattle.bounds.specs.declared.Refusal.{Refusal}
-use Rattle.bounds.proofs.Editions.{shapely, edition-shape}
+use Rattle.bounds.proofs.Editions.{edition-shapely}
 use Rattle.bounds.proofs.Refusals.{refusal-here, refusal-next, refusal-first, refusal-later, by-refusal, is-refused, is-accepted}
 use Rattle.rank.specs.Locate.{locateOf}
 use Rattle.rank.specs.declared.Located.{Located}
@@ -73,6 +73,6 @@ module _ (ms : List ℕ) (r : ℕ) (col : List ℕ) {x : Located} (is : x ≡ lo
       opening-good cells room e =
           let none : firstRefusal (openingChecks ms r (length col)) ≡ refused 0 0 =
           roomy ∙ rw (le-ltb (length col) (countOf ms r) (omega (arith, count-is))) in
-          let small : length ms ≤ 24 = shapely ms r (edition-shape ms r (located .0)) .few in
+          let small : length ms ≤ 24 = edition-shapely ms r (located .0) .few in
           let next = ap (λ (y : Located). y .composition) (located .1) ∙ nearest-next ms r 0 in
           rw (none, e, take-all 24 ms small, next)

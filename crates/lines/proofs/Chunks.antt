@@ -16,7 +16,7 @@ use Rattle.bounds.specs.Edition.{editionChecks}
 use Rattle.bounds.proofs.Refusals.{passed, is-accepted}
 use Rattle.bounds.proofs.Chains.{accepts-split}
 use Rattle.bounds.proofs.Editions.{neither}
-use Rattle.rank.proofs.Calls.{edition-shapely}
+use Rattle.bounds.proofs.Editions.{edition-shapely}
 use Rattle.lines.specs.Lines.{lineAt, linesOf, fitting}
 use Rattle.lines.specs.Chunk.{listChecks, taken, chunkOf, fillOf}
 use Rattle.lines.specs.declared.Chunk.{Chunk}

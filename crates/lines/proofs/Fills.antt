@@ -19,7 +19,8 @@ use Rattle.bounds.proofs.Refusals.{refusal-here, refusal-next, refusal-first, r
 use Rattle.bounds.specs.declared.Refusal.{Refusal}
 use Rattle.rank.specs.Locate.{nearest, locateOf}
 use Rattle.rank.specs.declared.Located.{Located}
-use Rattle.rank.proofs.Calls.{edition-shapely, clamp-in}
+use Rattle.bounds.proofs.Editions.{edition-shapely}
+use Rattle.rank.proofs.Calls.{clamp-in}
 use Rattle.rank.proofs.Locations.{located-refused, located-accepted}
 use Rattle.lines.specs.Chunk.{listChecks, text, refusedChunk, fillOf, Ready, Filled}
 use Rattle.lines.specs.declared.Chunk.{Chunk}

@@ -11,7 +11,7 @@ use Rattle.walsh.proofs.Cases.{on-test, on-less}
 use Rattle.bounds.specs.Refusal.{firstRefusal}
 use Rattle.bounds.specs.Edition.{outside, firstOutside, editionChecks}
 use Rattle.bounds.proofs.Chains.{accepts-split}
-use Rattle.rank.proofs.Calls.{edition-shapely}
+use Rattle.bounds.proofs.Editions.{edition-shapely}
 use Rattle.request.specs.Request.{held}
 use Rattle.lines.specs.Chunk.{listChecks, fillOf}
 

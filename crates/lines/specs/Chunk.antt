@@ -1,13 +1,12 @@
 -- What a call answers that fills a buffer with lines (document 01, "Listing program" and "Refusals by place of checking").
 use mathlib.Core.Path.{_≡_}
-use mathlib.Core.Bool.{cond}
 use mathlib.Core.List.{List, [], _∷_, _++_}
 use Prim.Native.Nat.{ℕ, zero, suc, _+_, _-_, _≤_, _<_}
-use lib.Dec.{eqb, ltb}
+use lib.Dec.{ltb}
 use lib.ListN.{length, drop}
 use Rattle.walsh.specs.Order.{countOf}
 use Rattle.walsh.specs.Serial.{compositionOf}
-use Rattle.bounds.specs.Refusal.{Check, check, firstRefusal}
+use Rattle.bounds.specs.Refusal.{Check, check, firstRefusal, decided}
 use Rattle.bounds.specs.Edition.{editionChecks}
 use Rattle.bounds.specs.Places.{serialChecks}
 use Rattle.bounds.specs.declared.Refusal.{Refusal}
@@ -38,7 +37,7 @@ refusedChunk v = record { number = v .number; detail = v .detail; count = 0; nex
 -- "A refusal .. changes no lent byte"
 abbrev pub filledBy : Refusal → List ℕ → ℕ → ℕ → List ℕ → Chunk × List ℕ
 filledBy v ms r s out =
-    cond (eqb (v .number) 0)
+    decided v
     (chunkOf ms r s (length out), text ms r s (length out) ++ drop (length (text ms r s (length out))) out)
     (refusedChunk v, out)
 

@@ -8,7 +8,7 @@ use borrow.Author.Tests.{ltb-false}
 use Rattle.walsh.specs.Order.{countOf}
 use Rattle.bounds.specs.Refusal.{firstRefusal}
 use Rattle.bounds.specs.Edition.{editionChecks}
-use Rattle.bounds.proofs.Editions.{shapely, edition-shape}
+use Rattle.bounds.proofs.Editions.{edition-shapely}
 use Rattle.bounds.proofs.Refusals.{passed, is-accepted}
 use Rattle.bounds.proofs.Chains.{accepts-split}
 use Rattle.model.specs.declared.Opened.{Opened}
@@ -33,7 +33,7 @@ opens ms r col z =
     let n = compositions-size ms r in (
       record {
         sound = p .0;
-        few = shapely ms r (edition-shape ms r (p .0)) .few;
+        few = edition-shapely ms r (p .0) .few;
         small = omega (arith, ltb-false 1000000 (countOf ms r) (p14 .0));
         room = omega (arith, ltb-false (length col) (countOf ms r) (p15 .0));
       },

@@ -8,7 +8,7 @@ use Prim.Native.Nat.{ℕ, _+_, _-_}
 use lib.Dec.{ltb, eqb}
 use lib.ListN.{length, getD, replicate}
 use Rattle.walsh.specs.Tests.{either}
-use Rattle.bounds.specs.Refusal.{Check, check, firstRefusal}
+use Rattle.bounds.specs.Refusal.{Check, check, firstRefusal, decided}
 use Rattle.bounds.specs.declared.Refusal.{Refusal}
 use Rattle.model.specs.declared.Answer.{Answer}
 use Rattle.model.specs.Basics.{indexOf}
@@ -58,7 +58,7 @@ compositionAt gs s = getD gs (s - 1) blank
 -- a refused call answers "such a mix all zeros, and serial 0"; an accepted one a serial "and its mix"
 abbrev pub answerBy : Refusal → List (List ℕ) → ℕ → Answer
 answerBy v gs s =
-    cond (eqb (v .number) 0)
+    decided v
     (record { number = 0; detail = 0; serial = s; composition = compositionAt gs s })
     (record { number = v .number; detail = v .detail; serial = 0; composition = blank })
 

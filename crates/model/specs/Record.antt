@@ -7,7 +7,7 @@ use lib.Dec.{ltb, leb, eqb}
 use lib.ListN.{length, take, set}
 use Rattle.walsh.specs.Order.{order, countOf}
 use Rattle.walsh.specs.Serial.{same}
-use Rattle.bounds.specs.Refusal.{Check, check, firstRefusal}
+use Rattle.bounds.specs.Refusal.{Check, check, firstRefusal, decided}
 use Rattle.bounds.specs.Edition.{editionChecks, recordChecks, cellsOf, boundsOf}
 use Rattle.bounds.specs.declared.Bounds.{Bounds}
 use Rattle.bounds.specs.declared.Refusal.{Refusal}
@@ -55,7 +55,7 @@ blankLedger = record { bounds = record { parts = 0; upper = blank; total = 0 }; 
 -- "a refused opening, a record all zeros"
 abbrev pub openedBy : Refusal → List ℕ → ℕ → Opened
 openedBy v ms r =
-    cond (eqb (v .number) 0)
+    decided v
     (record { number = 0; detail = 0; ledger = opened ms r })
     (record { number = v .number; detail = v .detail; ledger = blankLedger })
 

@@ -1,9 +1,9 @@
 // Permutations of 1..k and their inversion vectors (document 01, "Sheet orders"): a composition of staircase bounds to its permutation, and back.
 use bounds::Refusal;
+use bounds::refused;
 use mahonian::is_staircase;
 use places::composition_refusal;
 use places::lent_refusal;
-use places::refusal;
 use walsh::wide;
 ghost use mathlib.Core.Path.{_≡_};
 ghost use mathlib.Core.Bool.{cond};
@@ -137,14 +137,14 @@ fn fill_permutation(g: &[u8], out: &mut [u8])
 fn staircase_refusal(upper: &[u8], total: u32) -> Refusal
     ensures { λ r. ⌜ r ≡ firstRefusal (editionChecks (now (upper .entry)) total ++ staircaseChecks (now (upper .entry))) ⌝ }
 {
-    let shape = count::refusal(upper, total);
-    if shape.number != 0 {
-        return shape;
+    let edition = count::edition_refusal(upper, total);
+    if edition.number != 0 {
+        return edition;
     }
     if is_staircase(upper) {
-        return refusal(0);
+        return refused(0, 0);
     }
-    refusal(10)
+    refused(10, 0)
 }
 
 // The place 'sheet orders' from 11 on.
@@ -153,12 +153,12 @@ fn permutation_refusal(upper: &[u8], total: u32, p: &[u8]) -> Refusal
     ensures { λ r. ⌜ r ≡ firstRefusal (permutationChecks byInversions (now (upper .entry)) total (now (p .entry))) ⌝ }
 {
     if !is_permutation(p, upper.len() + 1) {
-        return refusal(11);
+        return refused(11, 0);
     }
     if count_inversions(p) != total as usize {
-        return refusal(12);
+        return refused(12, 0);
     }
-    refusal(0)
+    refused(0, 0)
 }
 
 // All that can refuse a composition and a lent part of `room` bytes.

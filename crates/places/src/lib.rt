@@ -1,16 +1,10 @@
 // The checks of the places 'mix given' and 'lent part' (document 01, "Refusals by place of checking"), which several calls have.
 use bounds::Refusal;
+use bounds::refused;
 ghost use mathlib.Core.Path.{_≡_};
 ghost use lib.ListN.{length};
-ghost use Rattle.bounds.specs.Refusal.{firstRefusal, refused};
+ghost use Rattle.bounds.specs.Refusal.{firstRefusal};
 ghost use Rattle.bounds.specs.Places.{isOther, compositionChecks, lentChecks};
-
-// A refusal without a detail; 0 is none.
-pub fn refusal(number: u32) -> Refusal
-    ensures { λ r. ⌜ r ≡ refused number 0 ⌝ }
-{
-    Refusal { number, detail: 0 }
-}
 
 // A part of g is over its bound, or the sum of the parts isn't the total. What is left of the total never falls below 0, so no sum is too large.
 fn is_other(upper: &[u8], total: u32, g: &[u8]) -> bool
@@ -38,12 +32,12 @@ pub fn composition_refusal(upper: &[u8], total: u32, g: &[u8]) -> Refusal
     ensures { λ r. ⌜ r ≡ firstRefusal (compositionChecks (now (upper .entry)) total (now (g .entry))) ⌝ }
 {
     if g.len() != upper.len() {
-        return refusal(7);
+        return refused(7, 0);
     }
     if is_other(upper, total, g) {
-        return refusal(8);
+        return refused(8, 0);
     }
-    refusal(0)
+    refused(0, 0)
 }
 
 // The place 'lent part': `want` bytes are to be written, and the part has `have`.
@@ -51,7 +45,7 @@ pub fn lent_refusal(want: usize, have: usize) -> Refusal
     ensures { λ r. ⌜ r ≡ firstRefusal (lentChecks want have) ⌝ }
 {
     if have != want {
-        return refusal(13);
+        return refused(13, 0);
     }
-    refusal(0)
+    refused(0, 0)
 }

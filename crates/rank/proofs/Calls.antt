@@ -11,13 +11,11 @@ use Rattle.walsh.specs.Serial.{compositionOf}
 use Rattle.walsh.proofs.Serials.{composition-is}
 use Rattle.walsh.proofs.Cases.{on-test}
 use Rattle.bounds.specs.Refusal.{refused, firstRefusal}
-use Rattle.bounds.specs.Edition.{shapeChecks, editionChecks, cellsOf}
-use Rattle.bounds.specs.Places.{serialChecks, lentChecks}
+use Rattle.bounds.specs.Edition.{editionChecks, cellsOf}
+use Rattle.bounds.specs.Places.{serialChecks, lentChecks, copied}
 use Rattle.bounds.specs.declared.Refusal.{Refusal}
 use Rattle.bounds.proofs.Refusals.{refusal-first, refusal-later, is-refused, is-accepted}
-use Rattle.bounds.proofs.Cells.{cells-back}
-use Rattle.bounds.proofs.Editions.{Shapely, shapely}
-use Rattle.bounds.proofs.Chains.{accepts-split}
+use Rattle.bounds.proofs.Cells.{cells-back, cells-length, copied-over}
 use Rattle.bounds.proofs.Filling.{filling-refused, filling-done}
 use Rattle.rank.specs.Rank.{rankChecks, rankAnswer}
 use Rattle.rank.specs.Unrank.{unrankChecks, unrankCall}
@@ -31,10 +29,6 @@ number-of x = x .number
 
 abbrev detail-of : Found → ℕ
 detail-of x = x .detail
-
--- the shape of an edition that is accepted
-pub edition-shapely : (ms : List ℕ) (r : ℕ) → firstRefusal (editionChecks ms r) .number ≡ 0 → Shapely ms r
-edition-shapely ms r e = shapely ms r (accepts-split (shapeChecks ms r) _ refl e .0)
 
 -- ---- rank
 
@@ -121,13 +115,20 @@ module _ (ms : List ℕ) (r s : ℕ) (out : List ℕ) where
         unfolding firstRefusal
         part-other n e = refused-by 13 0 (omega arith) e (later ∙ rw (ne-eqb s 0 some, le-ltb (countOf ms r) s inside, ne-eqb (length out) (length ms) n))
 
-        pub part-filled : {v : Refusal} → length out ≡ length ms → v ≡ refused 0 0
-            → (l cells : List ℕ) → l ≡ take (length out) cells → cells ≡ nearest ms r s → Leaves v l
+        pub part-filled : {v : Refusal} → length out ≡ length ms → v ≡ refused 0 0 → length ms ≤ 24
+            → (l cells : List ℕ) → l ≡ copied cells out → cells ≡ nearest ms r s → Leaves v l
         unfolding firstRefusal unrankCall
-        part-filled n e l cells el ec =
+        part-filled n e few l cells el ec =
             let none : checked ≡ refused 0 0 = later ∙ rw (ne-eqb s 0 some, le-ltb (countOf ms r) s inside, eq-eqb (length out) (length ms) n) in
+            let size : length cells ≡ 24 = rw ec (cells-length _ (omega (arith, composition-is ms r (clamp (countOf ms r) s) low high .size))) in
             filling-done (unrankChecks ms r s (length out)) (compositionOf ms r s) out (e ∙ sym none) (ap (λ (w : Refusal). w .number) e)
-            (el ∙ nearest-bytes ms r s (pos some) inside (length out) cells n ec)
+            (el ∙ copied-over cells out (omega arith) ∙ nearest-bytes ms r s pos inside (length out) cells n ec)
           where
-            pos : (s ≡ 0 → ⊥) → 0 < s
-            pos n = omega (arith, n)
+            pos : 0 < s
+            pos = omega (arith, some)
+
+            low : 0 < clamp (countOf ms r) s
+            low = omega arith
+
+            high : clamp (countOf ms r) s ≤ countOf ms r
+            high = omega (arith, some)

@@ -1,12 +1,10 @@
 -- The composition of a serial as 24 cells, as the ledger, a step and a batch hold it (document 01, "Refusals by place of checking": "answer a mix
 -- as 24 cells, those past n being 0. A refused one answers such a mix all zeros"), together with N.
-use mathlib.Core.Bool.{cond}
 use mathlib.Core.List.{List}
 use Prim.Native.Nat.{ℕ}
-use lib.Dec.{eqb}
 use lib.ListN.{take, replicate}
 use Rattle.walsh.specs.Order.{countOf}
-use Rattle.bounds.specs.Refusal.{firstRefusal}
+use Rattle.bounds.specs.Refusal.{firstRefusal, decided}
 use Rattle.bounds.specs.Edition.{editionChecks, recordChecks}
 use Rattle.bounds.specs.declared.Refusal.{Refusal}
 use Rattle.bounds.specs.declared.Bounds.{Bounds}
@@ -15,7 +13,7 @@ use Rattle.rank.specs.declared.Located.{Located}
 
 abbrev pub locatedBy : Refusal → List ℕ → ℕ → ℕ → Located
 locatedBy v ms r s =
-    cond (eqb (v .number) 0)
+    decided v
     (record { number = 0; detail = 0; count = countOf ms r; composition = nearest ms r s })
     (record { number = v .number; detail = v .detail; count = 0; composition = replicate 24 0 })
 

@@ -1,10 +1,8 @@
 -- Document 01, "Serial and mix": "Mix to serial answers the serial, or the refusal with its detail."
-use mathlib.Core.Bool.{cond}
 use mathlib.Core.List.{List}
 use Prim.Native.Nat.{ℕ}
-use lib.Dec.{eqb}
 use Rattle.walsh.specs.Serial.{serialOf}
-use Rattle.bounds.specs.Refusal.{firstRefusal}
+use Rattle.bounds.specs.Refusal.{firstRefusal, decided}
 use Rattle.bounds.specs.declared.Refusal.{Refusal}
 pub use Rattle.band.specs.Find.{rankChecks}
 use Rattle.rank.specs.declared.Ranked.{Ranked}
@@ -22,7 +20,7 @@ answerOf (Refused n d) = record { number = n; detail = d; serial = 0 }
 
 abbrev pub rankedBy : Refusal → ℕ → Answer
 rankedBy v s =
-    cond (eqb (v .number) 0)
+    decided v
     (record { number = 0; detail = 0; serial = s })
     (record { number = v .number; detail = v .detail; serial = 0 })
 

@@ -8,6 +8,7 @@ ghost use Rattle.rank.specs.Locate.{locateOf, locateRecordOf};
 use band::find;
 use bounds::Bounds;
 use bounds::Refusal;
+use bounds::refused;
 
 // A serial, or a refusal's number and detail.
 pub enum Ranked {
@@ -35,44 +36,26 @@ pub fn rank(upper: &[u8], total: u32, composition: &[u8]) -> Ranked
     Ranked::Serial(f.serial)
 }
 
-fn refusal(number: u32, detail: u64) -> Refusal
-    ensures { λ r. ⌜ r ≡ record { number = number; detail = detail } ⌝ }
-{
-    Refusal { number, detail }
-}
-
-// The first cells, as many as `out` has.
-fn put(cells: &[u8; 24], out: &mut [u8])
-    requires { ⌜ (length (now cells) ≡ 24) × (length (now out) ≤ 24) ⌝ }
-    ensures { λ _. ⌜ now (out .exit) ≡ take (length (now (out .entry))) (now (cells .entry)) ⌝ }
-{
-    let mut i = 0;
-    while i < out.len() {
-        out[i] = cells[i];
-        i += 1;
-    }
-}
-
 // Writes the composition of a serial into `out`, which has a byte for each part.
 pub fn unrank(upper: &[u8], total: u32, serial: u64, out: &mut [u8]) -> Refusal
     ensures { λ r. ⌜ (r, now (out .exit)) ≡ unrankCall (now (upper .entry)) total serial (now (out .entry)) ⌝ }
 {
     let f = find::composition_of(upper, total, serial);
     if 0 < f.number {
-        return refusal(f.number, f.detail);
+        return refused(f.number, f.detail);
     }
     if serial == 0 {
-        return refusal(6, 0);
+        return refused(6, 0);
     }
     if f.count < serial {
-        return refusal(6, 0);
+        return refused(6, 0);
     }
     if out.len() != upper.len() {
-        return refusal(13, 0);
+        return refused(13, 0);
     }
     let cells = f.composition;
-    put(&cells, out);
-    refusal(0, 0)
+    bounds::copy(&cells, out);
+    refused(0, 0)
 }
 
 // N and the composition of a serial; 0 counts as 1, and a serial over N as N.

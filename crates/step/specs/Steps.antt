@@ -1,13 +1,12 @@
 -- Document 01, "Serial and mix": "Forward and backward step give the mix one serial on or back.", and "Refusals by place of checking", places
 -- 'edition', 'mix given' and 'step': "Look, take, spoil and step answer a mix as 24 cells, those past n being 0. A refused one answers such a mix
 -- all zeros".
-use mathlib.Core.Bool.{cond}
 use mathlib.Core.List.{List, [], _∷_, _++_}
 use Prim.Native.Nat.{ℕ, _+_, _-_}
 use lib.Dec.{eqb}
 use Rattle.walsh.specs.Order.{countOf}
 use Rattle.walsh.specs.Serial.{serialOf, compositionOf}
-use Rattle.bounds.specs.Refusal.{Check, check, firstRefusal}
+use Rattle.bounds.specs.Refusal.{Check, check, firstRefusal, decided}
 use Rattle.bounds.specs.Edition.{editionChecks, cellsOf}
 use Rattle.bounds.specs.Places.{compositionChecks}
 use Rattle.bounds.specs.declared.Refusal.{Refusal}
@@ -24,7 +23,7 @@ firstChecks ms r g = check 9 (eqb (serialOf ms r g) 1) 0 ∷ []
 -- the composition h, and all zeros with the number and detail of a refusal
 abbrev pub steppedBy : Refusal → List ℕ → Stepped
 steppedBy v h =
-    cond (eqb (v .number) 0)
+    decided v
     (record { number = 0; detail = 0; composition = cellsOf h })
     (record { number = v .number; detail = v .detail; composition = cellsOf [] })
 

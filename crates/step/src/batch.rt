@@ -9,10 +9,10 @@ ghost use Rattle.bounds.specs.Places.{lentChecks};
 ghost use Rattle.bounds.specs.declared.Refusal.{Refusal};
 ghost use Rattle.step.specs.Batch.{beyond, rangeChecks, batchOf};
 ghost use Rattle.step.specs.Run.{valuesLeft, Running, CanMove, movedOf, shown, Onward, Asked, copiesFrom};
-use crate::copy;
 use crate::turn;
 use bounds::Refusal;
-use places::refusal;
+use bounds::copy;
+use bounds::refused;
 use rank::locate;
 use walsh::is_odd;
 use walsh::lesser;
@@ -49,12 +49,12 @@ fn room_refusal(count: u64, n: usize, serial: u64, copies: u64, have: usize) -> 
     ensures { λ r. ⌜ r ≡ firstRefusal (rangeChecks count serial copies ++ lentChecks (copies * n) have) ⌝ }
 {
     if is_beyond(count, serial, copies) {
-        return refusal(6);
+        return refused(6, 0);
     }
     if is_room(n, copies, have) {
-        return refusal(0);
+        return refused(0, 0);
     }
-    refusal(13)
+    refused(13, 0)
 }
 
 // The first two parts of a composition, which way the second goes, and how often it can still move. Most steps move these two alone, so they are
@@ -162,8 +162,7 @@ fn write(upper: &[u8], total: usize, first: [u8; 24], copies: u64, out: &mut [u8
     ensures { λ _. ⌜ now (out .exit) ≡ copiesFrom (now (upper .entry)) total first copies ⌝ }
 {
     if upper.len() == 1 {
-        let have = out.len();
-        copy(&first[..have], out);
+        copy(&first, out);
         return;
     }
     write_runs(upper, total, first, copies, out);

@@ -3,7 +3,7 @@
 // one more, so every part runs the other way.
 pub mod batch;
 
-use count::refusal;
+use count::edition_refusal;
 use places::composition_refusal;
 use walsh::first_value;
 use walsh::is_odd;
@@ -138,17 +138,6 @@ pub fn advance(upper: &[u8], total: u32, parts: &mut [u8]) -> bool
     turn(upper, total as usize, parts)
 }
 
-fn copy(from: &[u8], out: &mut [u8])
-    requires { ⌜ length (now out) ≡ length (now from) ⌝ }
-    ensures { λ _. ⌜ now (out .exit) ≡ now (from .entry) ⌝ }
-{
-    let mut i = 0;
-    while i < from.len() {
-        out[i] = from[i];
-        i += 1;
-    }
-}
-
 fn stopped(number: u32, detail: u64) -> Stepped
     ensures { λ r. ⌜ r ≡ record { number = number; detail = detail; composition = cellsOf [] } ⌝ }
 {
@@ -176,8 +165,7 @@ fn shift(upper: &[u8], total: usize, parts: &[u8]) -> Stepped
     ensures { λ r. ⌜ Shifted (now (upper .entry)) total (now (parts .entry)) r ⌝ }
 {
     let n = upper.len();
-    let mut cells = [0u8; 24];
-    copy(parts, &mut cells[..n]);
+    let mut cells = bounds::pack(parts);
     if turn(upper, total, &mut cells[..n]) {
         return Stepped {
             number: 0,
@@ -192,9 +180,9 @@ fn shift(upper: &[u8], total: usize, parts: &[u8]) -> Stepped
 fn step(upper: &[u8], total: u32, composition: &[u8], back: bool) -> Stepped
     ensures { λ r. ⌜ r ≡ stepOf back (now (upper .entry)) total (now (composition .entry)) ⌝ }
 {
-    let limits = refusal(upper, total);
-    if 0 < limits.number {
-        return stopped(limits.number, limits.detail);
+    let edition = edition_refusal(upper, total);
+    if 0 < edition.number {
+        return stopped(edition.number, edition.detail);
     }
     let given = composition_refusal(upper, total, composition);
     if 0 < given.number {

@@ -7,7 +7,7 @@ ghost use Rattle.bounds.specs.Edition.{whole, shapeChecks};
 ghost use Rattle.bounds.specs.Refusal.{firstRefusal};
 ghost use Rattle.band.specs.Band.{bandSize, cap, Band, limited, numberOf};
 use crate::CAP;
-use bounds::MOST;
+use bounds::LIMIT;
 
 // N, or the refusal.
 pub struct Counted {
@@ -50,7 +50,7 @@ pub fn uncounted(number: u32, detail: u64) -> Counted
 pub fn within_limit(n: u64) -> Counted
     ensures { λ r. ⌜ r ≡ limited n ⌝ }
 {
-    if MOST < n {
+    if LIMIT < n {
         return uncounted(5, 0);
     }
     Counted {

@@ -11,7 +11,7 @@ use Rattle.walsh.specs.Order.{countOf}
 use Rattle.bounds.specs.Refusal.{firstRefusal}
 use Rattle.bounds.specs.Edition.{editionChecks, cellsOf}
 use Rattle.bounds.specs.declared.Bounds.{Bounds}
-use Rattle.bounds.proofs.Editions.{shapely, edition-shape}
+use Rattle.bounds.proofs.Editions.{edition-shapely}
 use Rattle.band.proofs.Answers.{numbered-refused, numbered-accepted}
 use Rattle.count.proofs.Answers.{check-refused, check-accepted}
 use Rattle.count.proofs.check.Statement.{statement}
@@ -32,16 +32,14 @@ returns c =
 pack-fits : (c : tie.Else1) → let ms = now (c .before .before .before .before .args .upper) in take 24 ms ≡ ms
 pack-fits c =
     let a = c .before .before .before .before .args in
-    take-all 24 (now (a .upper)) (shapely (now (a .upper)) (a .total) (edition-shape (now (a .upper)) (a .total) (counted-at c .0)) .few)
-
-abbrev packed : ℕ → ℕ → List ℕ → Bounds
-packed n total upper = record { parts = n; upper = upper; total = total }
+    take-all 24 (now (a .upper)) (edition-shapely (now (a .upper)) (a .total) (counted-at c .0) .few)
 
 returns-2 : tie.Need-returns-2
 returns-2 c =
     let a = c .before .before .before .before .before .args in
     let k = counted-at (c .before) in
-    check-accepted (now (a .upper)) (a .total) _ _ (k .0) (ap (packed (length (now (a .upper))) (a .total)) (c .pack .ensures ∙ ap cellsOf (pack-fits (c .before)))) (k .1)
+    let packed : List ℕ → Bounds = λ l. record { parts = length (now (a .upper)); upper = cellsOf l; total = a .total } in
+    check-accepted (now (a .upper)) (a .total) _ _ (k .0) (c .record .ensures ∙ ap packed (pack-fits (c .before))) (k .1)
 
 pub check-spec : {M : Type 1} → statement M
 check-spec = tie.close (tie.spec (λ c κs. search needs) (λ c κs. search needs) returns (λ c κs. search needs) returns-2)

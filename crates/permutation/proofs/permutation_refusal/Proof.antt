@@ -10,7 +10,7 @@ use Rattle.permutation.proofs.permutation_refusal.Tie as tie
 
 returns : tie.Need-returns
 unfolding firstRefusal
-returns c = simp (sym (c .before .before .is-permutation .ensures) ∙ not-true _ (c .before .if1 .taken)) (c .refusal .ensures)
+returns c = simp (sym (c .before .before .is-permutation .ensures) ∙ not-true _ (c .before .if1 .taken)) (c .refused .ensures)
 
 count-inversions-requires : tie.Need-count-inversions-requires
 count-inversions-requires c κs = omega (arith, is-permutation _ _ .0 (sym (c .before .is-permutation .ensures) ∙ not-false _ (c .if1 .left)) .size)
@@ -22,7 +22,7 @@ returns-2 c = let count = c .before .before in
       sym (count .before .before .is-permutation .ensures) ∙ not-false _ (count .before .if1 .left),
       ne-eqb _ _ (λ e. c .before .if2 .taken (count .count-inversions .ensures ∙ e)),
     )
-    (c .refusal2 .ensures)
+    (c .refused2 .ensures)
 
 returns-3 : tie.Need-returns-3
 unfolding firstRefusal
@@ -31,7 +31,7 @@ returns-3 c = let count = c .before .before in
       sym (count .before .before .is-permutation .ensures) ∙ not-false _ (count .before .if1 .left),
       eq-eqb _ _ (sym (count .count-inversions .ensures) ∙ c .before .if2 .left),
     )
-    (c .refusal3 .ensures)
+    (c .refused3 .ensures)
 
 pub permutation-refusal-spec : {M : Type 1} → statement M
 permutation-refusal-spec =

@@ -6,8 +6,9 @@ use borrow.Author.Needs.{needs}
 use Rattle.walsh.specs.Order.{countOf}
 use Rattle.bounds.specs.Refusal.{firstRefusal}
 use Rattle.bounds.specs.Edition.{editionChecks}
+use Rattle.bounds.proofs.Editions.{edition-shapely}
 use Rattle.rank.specs.Locate.{nearest}
-use Rattle.rank.proofs.Calls.{entry-refused, entry-accepted, edition-refused, serial-none, serial-over, part-other, part-filled, edition-shapely}
+use Rattle.rank.proofs.Calls.{entry-refused, entry-accepted, edition-refused, serial-none, serial-over, part-other, part-filled}
 use Rattle.rank.proofs.unrank.Statement.{statement}
 use Rattle.rank.proofs.unrank.Tie as tie
 
@@ -16,7 +17,7 @@ returns c =
     let a = c .before .before .before .before .before .before .args in
     let f = c .before .before .before .composition-of in
     let l = c .before .if1 .taken in
-    edition-refused _ _ _ _ (f .result .number) (f .result .detail) l (c .refusal .ensures)
+    edition-refused _ _ _ _ (f .result .number) (f .result .detail) l (c .refused .ensures)
     (entry-refused (now (a .upper)) (a .total) (a .serial) _ (f .result) (f .ensures) l)
 
 entry-at : (c : tie.Else1)
@@ -30,23 +31,24 @@ entry-at c =
     entry-accepted (now (a .upper)) (a .total) (a .serial) _ (f .result) (f .ensures) (omega arith)
 
 returns-3 : tie.Need-returns-3
-returns-3 c = let k = entry-at (c .before .before .before .before) in serial-over _ _ _ _ (k .0) (c .before .before .before .if2 .left) (rw (k .1) at (c .before .if3 .taken)) (c .refusal3 .ensures)
+returns-3 c = let k = entry-at (c .before .before .before .before) in serial-over _ _ _ _ (k .0) (c .before .before .before .if2 .left) (rw (k .1) at (c .before .if3 .taken)) (c .refused3 .ensures)
 
 returns-4 : tie.Need-returns-4
 returns-4 c =
     let k = entry-at (c .before .before .before .before .before) in
-    part-other _ _ _ _ (k .0) (c .before .before .before .before .if2 .left) (rw (k .1) at (c .before .before .if3 .left)) (c .before .if4 .taken) (c .refusal4 .ensures)
-
-put-requires : tie.Need-put-requires
-put-requires c κs =
-    let a = c .before .before .before .before .before .before .before .before .before .before .before .before .args in
-    let few = edition-shapely (now (a .upper)) (a .total) (entry-at (c .before .before .before .before .before .before .before) .0) .few in
-    (search needs, omega (arith, c .before .before .before .if4 .left, few))
+    part-other _ _ _ _ (k .0) (c .before .before .before .before .if2 .left) (rw (k .1) at (c .before .before .if3 .left)) (c .before .if4 .taken) (c .refused4 .ensures)
 
 returns-5 : tie.Need-returns-5
 returns-5 c =
-    let k = entry-at (c .before .before .before .before .before .before .before .before .before .before .before) in
-    part-filled _ _ _ _ (k .0) (c .before .before .before .before .before .before .before .before .before .before .if2 .left) (rw (k .1) at (c .before .before .before .before .before .before .before .before .if3 .left)) (c .before .before .before .before .before .before .before .if4 .left) (c .refusal5 .ensures) _ _ (c .before .before .before .put .ensures) (k .2)
+    let copied = c .before .before .before in
+    let fits = copied .before .before .before .before in
+    let inside = fits .before in
+    let some = inside .before .before in
+    let k = entry-at (some .before) in
+    let a = some .before .before .before .before .before .before .args in
+    let few = edition-shapely (now (a .upper)) (a .total) (k .0) .few in
+    part-filled _ _ _ _ (k .0) (some .if2 .left) (rw (k .1) at (inside .if3 .left)) (fits .if4 .left) (c .refused5 .ensures) few _ _
+    (copied .copy .ensures) (k .2)
 
 pub unrank-spec : {M : Type 1} → statement M
 unrank-spec =
@@ -56,12 +58,13 @@ unrank-spec =
     (λ c κs. search needs)
     returns
     (λ c κs. search needs)
-    (λ c. serial-none _ _ _ _ (entry-at (c .before .before) .0) (c .before .if2 .taken) (c .refusal2 .ensures))
+    (λ c. serial-none _ _ _ _ (entry-at (c .before .before) .0) (c .before .if2 .taken) (c .refused2 .ensures))
     (λ c κs. search needs)
     returns-3
     (λ c κs. search needs)
     returns-4
-    put-requires
+    (λ c. search needs)
+    (λ c κs. search needs)
     (λ c κs. search needs)
     (λ c. search needs)
     returns-5)

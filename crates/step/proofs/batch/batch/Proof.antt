@@ -9,7 +9,8 @@ use Rattle.walsh.proofs.Serials.{composition-is, serial-composition}
 use Rattle.bounds.specs.Edition.{editionChecks}
 use Rattle.bounds.proofs.Editions.{Shapely}
 use Rattle.bounds.proofs.Chains.{Accepts}
-use Rattle.rank.proofs.Calls.{edition-shapely, nearest-bytes}
+use Rattle.bounds.proofs.Editions.{edition-shapely}
+use Rattle.rank.proofs.Calls.{nearest-bytes}
 use Rattle.rank.proofs.Locations.{Locates, located-refused, located-accepted}
 use Rattle.step.proofs.Batches.{Ranged, ranged, batch-edition, batch-range, batch-done}
 use Rattle.step.proofs.batch.batch.Statement.{statement}

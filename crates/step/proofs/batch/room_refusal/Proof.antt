@@ -7,21 +7,21 @@ use Rattle.step.proofs.batch.room_refusal.Tie as tie
 
 returns : tie.Need-returns
 unfolding firstRefusal
-returns c = simp (sym (c .before .before .is-beyond .ensures) ∙ c .before .if1 .taken) (c .refusal .ensures)
+returns c = simp (sym (c .before .before .is-beyond .ensures) ∙ c .before .if1 .taken) (c .refused .ensures)
 
 returns-2 : tie.Need-returns-2
 unfolding firstRefusal
 returns-2 c =
     let room = c .before .before in
     let far = room .before .before in
-    simp (sym (far .is-beyond .ensures) ∙ room .before .if1 .left, sym (room .is-room .ensures) ∙ c .before .if2 .taken) (c .refusal2 .ensures)
+    simp (sym (far .is-beyond .ensures) ∙ room .before .if1 .left, sym (room .is-room .ensures) ∙ c .before .if2 .taken) (c .refused2 .ensures)
 
 returns-3 : tie.Need-returns-3
 unfolding firstRefusal
 returns-3 c =
     let room = c .before .before in
     let far = room .before .before in
-    simp (sym (far .is-beyond .ensures) ∙ room .before .if1 .left, sym (room .is-room .ensures) ∙ c .before .if2 .left) (c .refusal3 .ensures)
+    simp (sym (far .is-beyond .ensures) ∙ room .before .if1 .left, sym (room .is-room .ensures) ∙ c .before .if2 .left) (c .refused3 .ensures)
 
 pub room-refusal-spec : {M : Type 1} → statement M
 room-refusal-spec =
