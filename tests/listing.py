@@ -84,7 +84,9 @@ def forms():
         yield text.upper()
         yield text * 2
         yield b"\n" + text
-        yield from (text[:length] for length in range(len(text)))
+        for at in range(len(text)):
+            yield text[:at]
+            yield text[:at] + b"x" + text[at + 1:]
 
 
 def lengths():
