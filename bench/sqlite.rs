@@ -50,7 +50,7 @@ fn load() -> Option<Sqlite> {
     }
 }
 
-/// Nanoseconds by a clock for a claim behind so many: the least mean of several runs of `claims`.
+/// Nanoseconds by a clock for a claim after so many: the least mean of several runs of `claims`.
 fn claims(sqlite: &Sqlite, path: &str, clock: impl Fn() -> Duration, entries: u64, claims: u64) -> f64 {
     unsafe {
         let (mut db, mut insert) = (std::ptr::null_mut(), std::ptr::null_mut());

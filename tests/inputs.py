@@ -121,7 +121,8 @@ def any_length(rng, wanted):
 
 def any_order(rng, lines):
     written = [o for o in lines if o] or [7]
-    return rng.choice((0, 1, 1007, (1 << 32) - 1, rng.getrandbits(32), rng.randint(1, 9), written[0], written[-1], rng.choice(written), rng.choice(written)))
+    return rng.choice((0, 1, 1007, (1 << 32) - 1, rng.getrandbits(32), rng.randint(1, 9), written[0], written[-1], rng.choice(written),
+                       rng.choice(written)))
 
 
 def any_sheet_order(rng, ms, r):
@@ -144,10 +145,11 @@ def any_sheet_order(rng, ms, r):
 
 
 def register(rng):
-    """a small edition, lines with zeros and repetitions, and a column with garbage behind them"""
+    """a small edition, lines with zeros and repetitions, and a column with garbage after them"""
     ms, r = sound(rng, small=True)
     n = ref.number(ms, r)
-    lines = [rng.choice((0, rng.randint(1, 9), rng.getrandbits(32))) for _ in range(rng.choice((0, n, n - 1, rng.randint(0, n), rng.randint(0, min(n, 9)))))]
+    size = rng.choice((0, n, n - 1, rng.randint(0, n), rng.randint(0, min(n, 9))))
+    lines = [rng.choice((0, rng.randint(1, 9), rng.getrandbits(32))) for _ in range(size)]
     rest = [rng.choice((0, 1, 1007, rng.getrandbits(32), *lines[:2])) for _ in range(n - len(lines) + rng.choice((0, 0, 1, 7)))]
     return ref.record_of(ms, r, lines), lines + rest
 

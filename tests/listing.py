@@ -3,8 +3,8 @@
 
     python3 tests/listing.py [SEED [PROGRAM [SECONDS]]]
 
-The program is target/bin/list, proved and built where it is missing. The last line is `listing: N slips, 0 differences`; any difference makes the
-exit status 1. A machine that is too slow for all slips drawn at random draws no more after SECONDS.
+The program is target/bin/list, proved and built where it is missing or old. The last line is `listing: N slips, 0 differences`; any difference makes
+the exit status 1. A machine that is too slow for all slips drawn at random draws no more after SECONDS.
 """
 import os
 import random
@@ -18,7 +18,7 @@ import reference as ref
 
 TOP = os.path.dirname(os.path.dirname(os.path.abspath(__file__)))
 PROGRAM = os.path.join(TOP, "target", "bin", "list")
-MANY = 20_000  # the most lines of a slip drawn at random, or of a sweep
+MANY = 20_000  # the most lines that are listed but for near_the_million
 REFUSALS = 1, 2, 3, 4, 5, 14, 22
 
 
@@ -34,7 +34,7 @@ TWENTY_FOUR = slip((1, 12, 3, 60, 2, 9) * 4, 1)
 # ---- slips, each alone or with the lengths after which it comes in a further piece
 
 def editions():
-    """those of document 01, and those at the ends of each range; a total or a ceiling that has four digits is 22"""
+    """those of document 01, and those at the ends of each range; where a number has four digits, the slip is 22"""
     yield DOCUMENT
     for ms, r in ((2, 2, 2), 5), ((3, 2, 1), 3), ((2, 1), 1), ((1, 1), 1), ((4, 3, 2, 1), 5):
         yield slip(ms, r)
@@ -97,8 +97,8 @@ def lengths():
         for n in range(25, 130):
             if 250 < len(slip((ceiling,) * n, 10)) < 262:
                 yield from (slip((ceiling,) * n, r) for r in (1, 10, 100, 999))
-    for behind in b"\n", b" ", b"1", b"\0", b" 1", b"\n\n", b"1\n", DOCUMENT, b"\0" * 256, b"1" * 100_000, b" 1" * 1_000_000:
-        yield LONGEST + behind  # the first 256 bytes are good
+    for more in b"\n", b" ", b"1", b"\0", b" 1", b"\n\n", b"1\n", DOCUMENT, b"\0" * 256, b"1" * 100_000, b" 1" * 1_000_000:
+        yield LONGEST + more  # the first 256 bytes are good
     for text in DOCUMENT, b"", b"mixes\n", b"mixes\n1", b"mixes\n2 2 2\n":
         for fill in b" ", b"\n", b"\0", b"0", b"1":
             yield from (text.ljust(length, fill) for length in (255, 256, 257, 258, 512, 513, 65_536, 65_537))
@@ -111,7 +111,7 @@ def near_the_million():
 
 
 def drawn(rng):
-    """an edition at random, and its slip damaged in some way"""
+    """the slip of an edition at random, at once and in pieces, and good slips damaged in some way"""
     text = few_of(lambda: slip(*rng.choice((inputs.any_edition, inputs.sound))(rng)))
     yield text
     yield (text, *sorted(rng.randint(0, min(len(text), 256)) for _ in range(rng.randint(1, 4))))
@@ -120,13 +120,13 @@ def drawn(rng):
 
 
 def few(text):
-    """not a listing of many lines"""
+    """not a listing of so many lines that it takes long"""
     given = ref.slip(text)
     return not given or ref.edition(*given)[0] or not MANY < ref.number(*given) <= ref.MOST_LINES
 
 
 def few_of(draw):
-    """the first that is drawn of which that is true"""
+    """the first of the slips drawn that takes no such listing"""
     while not few(text := draw()):
         pass
     return text
@@ -188,8 +188,8 @@ def all_of(rng, seconds, rounds=250):
 
 
 def main(seed=1, program=PROGRAM, seconds=30):
-    if not os.path.exists(program):
-        subprocess.run(["rt", "check", "list"], cwd=TOP, check=True, stdout=subprocess.DEVNULL)
+    if program == PROGRAM:  # the script builds it
+        subprocess.run([os.path.join(TOP, "list")], check=True, stdin=subprocess.DEVNULL, stdout=subprocess.DEVNULL)
     cases, differences = Counter(), []
     for text in all_of(random.Random(int(seed)), float(seconds)):
         text, *cuts = text if isinstance(text, tuple) else (text,)

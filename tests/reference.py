@@ -1,5 +1,6 @@
-"""Document 01 in plain Python: what every call of the engine has to answer. Written from the document, for comparison only: numbers are unbounded, nothing
-is fast, and each function follows the document's own words. An answer is a tuple that starts with number and detail."""
+"""Document 01 in plain Python: what every call of the engine has to answer, and what the listing program has to print. Written from the document, for
+comparison only: numbers are unbounded, nothing is fast, and each function follows the document's own words. The answer of a call is a tuple that
+starts with number and detail."""
 import re
 from functools import lru_cache
 
@@ -61,7 +62,7 @@ def check(ms, r):
 # ---- Walsh's order
 
 def values(ms, i, r, t):
-    """the values of kind i (from 0) in their order, where the kinds behind it sum to t"""
+    """the values of kind i (from 0) in their order, where the kinds after it sum to t"""
     run = range(max(0, r - t - sum(ms[:i])), min(ms[i], r - t) + 1)
     return run if t % 2 == 0 else reversed(run)
 

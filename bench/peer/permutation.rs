@@ -39,7 +39,7 @@ fn inversions_in(upper: &[u8], total: u32, p: &[u8], out: &mut [u8]) -> Result<(
     if p.len() != n + 1 {
         return Err((11, 0));
     }
-    // a bit for each sheet that is left; those below a sheet's bit are the smaller ones behind it
+    // a bit for each sheet that is left; those below a sheet's bit are the smaller ones after it
     let mut left: u32 = ((1u64 << (n + 2)) - 2) as u32;
     let mut vector = [0u8; 25];
     let mut sum = 0;
