@@ -1,17 +1,17 @@
 //! The engine's C interface (include/huztiral.h) as Rust functions on slices. The peer's structures have the same layouts.
-use crate::peer::{Checked, Claimed, Done, Ledger, Opened, Ranked, Stepped};
+use crate::peer::{Checked, Claimed, Ledger, Opened, Ranked, Refusal, Stepped};
 
 mod c {
     use super::*;
     unsafe extern "C" {
         pub fn huz_check(upper: *const u8, parts: usize, total: u32) -> Checked;
         pub fn huz_rank(upper: *const u8, parts: usize, total: u32, composition: *const u8, len: usize) -> Ranked;
-        pub fn huz_unrank(upper: *const u8, parts: usize, total: u32, serial: u64, out: *mut u8, len: usize) -> Done;
+        pub fn huz_unrank(upper: *const u8, parts: usize, total: u32, serial: u64, out: *mut u8, len: usize) -> Refusal;
         pub fn huz_successor(upper: *const u8, parts: usize, total: u32, composition: *const u8, len: usize) -> Stepped;
         pub fn huz_predecessor(upper: *const u8, parts: usize, total: u32, composition: *const u8, len: usize) -> Stepped;
-        pub fn huz_batch(upper: *const u8, parts: usize, total: u32, serial: u64, copies: u64, out: *mut u8, len: usize) -> Done;
-        pub fn huz_permutation(upper: *const u8, parts: usize, total: u32, composition: *const u8, len: usize, out: *mut u8, out_len: usize) -> Done;
-        pub fn huz_inversions(upper: *const u8, parts: usize, total: u32, permutation: *const u8, len: usize, out: *mut u8, out_len: usize) -> Done;
+        pub fn huz_batch(upper: *const u8, parts: usize, total: u32, serial: u64, copies: u64, out: *mut u8, len: usize) -> Refusal;
+        pub fn huz_permutation(upper: *const u8, parts: usize, total: u32, composition: *const u8, len: usize, out: *mut u8, out_len: usize) -> Refusal;
+        pub fn huz_inversions(upper: *const u8, parts: usize, total: u32, permutation: *const u8, len: usize, out: *mut u8, out_len: usize) -> Refusal;
         pub fn huz_open(upper: *const u8, parts: usize, total: u32, orders: *const u32, len: usize) -> Opened;
         pub fn huz_claim(ledger: Ledger, orders: *mut u32, len: usize, serial: u64, order: u32) -> Claimed;
     }
@@ -25,7 +25,7 @@ pub fn rank(upper: &[u8], total: u32, g: &[u8]) -> Ranked {
     unsafe { c::huz_rank(upper.as_ptr(), upper.len(), total, g.as_ptr(), g.len()) }
 }
 
-pub fn unrank(upper: &[u8], total: u32, serial: u64, out: &mut [u8]) -> Done {
+pub fn unrank(upper: &[u8], total: u32, serial: u64, out: &mut [u8]) -> Refusal {
     unsafe { c::huz_unrank(upper.as_ptr(), upper.len(), total, serial, out.as_mut_ptr(), out.len()) }
 }
 
@@ -37,15 +37,15 @@ pub fn predecessor(upper: &[u8], total: u32, g: &[u8]) -> Stepped {
     unsafe { c::huz_predecessor(upper.as_ptr(), upper.len(), total, g.as_ptr(), g.len()) }
 }
 
-pub fn batch(upper: &[u8], total: u32, serial: u64, copies: u64, out: &mut [u8]) -> Done {
+pub fn batch(upper: &[u8], total: u32, serial: u64, copies: u64, out: &mut [u8]) -> Refusal {
     unsafe { c::huz_batch(upper.as_ptr(), upper.len(), total, serial, copies, out.as_mut_ptr(), out.len()) }
 }
 
-pub fn permutation(upper: &[u8], total: u32, g: &[u8], out: &mut [u8]) -> Done {
+pub fn permutation(upper: &[u8], total: u32, g: &[u8], out: &mut [u8]) -> Refusal {
     unsafe { c::huz_permutation(upper.as_ptr(), upper.len(), total, g.as_ptr(), g.len(), out.as_mut_ptr(), out.len()) }
 }
 
-pub fn inversions(upper: &[u8], total: u32, p: &[u8], out: &mut [u8]) -> Done {
+pub fn inversions(upper: &[u8], total: u32, p: &[u8], out: &mut [u8]) -> Refusal {
     unsafe { c::huz_inversions(upper.as_ptr(), upper.len(), total, p.as_ptr(), p.len(), out.as_mut_ptr(), out.len()) }
 }
 

@@ -1,7 +1,7 @@
 //! The listing program in plain Rust, not proved: the same slip, the same lines, the same buffer of 64 KiB.
 use std::io::{Read, Write};
 
-#[allow(dead_code, unused_imports)]
+#[allow(dead_code, unused_imports)] // a part of it is enough here
 mod peer;
 
 const BUFFER: usize = 64 * 1024;
@@ -94,7 +94,7 @@ fn main() {
             at = 0;
         }
         at = line(&mut buffer, at, &serial, &parts);
-        peer::advance(&upper, total as usize, &mut parts, 0);
+        peer::order::advance(&upper, total as usize, &mut parts, 0);
     }
     out.write_all(&buffer[..at]).unwrap();
 }

@@ -1,8 +1,7 @@
 //! The engine beside plain Rust (bench/peer) and SQLite, on the same inputs in the same run. Prints Markdown tables.
-//! Arguments: the engine's listing program, or `-`; the peer's; a folder for SQLite's files.
+//! Arguments: the engine's listing program; the peer's; a folder for the slip and for SQLite's files.
 mod clock;
 mod engine;
-#[allow(dead_code, unused_imports)]
 mod peer;
 mod sqlite;
 
@@ -22,8 +21,8 @@ struct Times {
     ratio: f64,
 }
 
-/// The two take turns by a clock, in runs of a millisecond or more. A ratio is of two runs that follow each other, so that a machine that is slower for a
-/// while is slower for both.
+/// The two take turns by a clock, in runs of a millisecond or more. A ratio is of two runs that follow each other, so that a machine that is slower
+/// for a while is slower for both.
 fn beside_by(clock: fn() -> Duration, mut ours: impl FnMut(usize), mut theirs: impl FnMut(usize)) -> Times {
     let calls = |f: &mut dyn FnMut(usize)| {
         let start = Instant::now();
@@ -191,6 +190,10 @@ fn permutations(e: &Edition) {
     );
 }
 
+fn claim_with(entries: u64) -> String {
+    format!("claim with {entries} {} written", if entries == 1 { "entry" } else { "entries" })
+}
+
 /// A ledger with so many entries, which an accepted claim does not change: each claim starts from the same record and writes the same entry.
 fn claims(e: &Edition, entries: u64) -> f64 {
     let mut orders: Vec<u32> = (0..e.count as u32).map(|i| i * 3 + 7).collect();
@@ -207,7 +210,7 @@ fn claims(e: &Edition, entries: u64) -> f64 {
         |_| _ = black_box(engine::claim(black_box(ledger), &mut orders, serial, order)),
         |_| _ = black_box(peer::claim(black_box(ledger), &mut copy, serial, order)),
     );
-    row(&format!("claim at {entries} entries: {}", e.name), times);
+    row(&format!("{}: {}", claim_with(entries), e.name), times);
     times.ours
 }
 
@@ -254,10 +257,6 @@ fn main() {
     }
     let claimed: Vec<(u64, f64)> = [1, 1_000, 999_999].iter().map(|&n| (n, claims(&million, n))).collect();
     claims(&long, 1);
-    if ours == "-" {
-        println!("| listing | not built | | |");
-    } else {
-        listing(ours, theirs, folder, &long);
-    }
+    listing(ours, theirs, folder, &long);
     sqlite::compare(&claimed, folder);
 }

@@ -3,7 +3,7 @@
 use std::ffi::{c_char, c_int, c_void, CStr, CString};
 use std::time::{Duration, Instant};
 
-use crate::clock;
+use crate::{claim_with, clock, shown};
 
 unsafe extern "C" {
     fn dlopen(name: *const c_char, flags: c_int) -> *mut c_void;
@@ -50,7 +50,7 @@ fn load() -> Option<Sqlite> {
     }
 }
 
-/// Nanoseconds by a clock for a claim behind so many: the least mean of several runs of `claims`.
+/// Nanoseconds by a clock for a claim after so many: the least mean of several runs of `claims`.
 fn claims(sqlite: &Sqlite, path: &str, clock: impl Fn() -> Duration, entries: u64, claims: u64) -> f64 {
     unsafe {
         let (mut db, mut insert) = (std::ptr::null_mut(), std::ptr::null_mut());
@@ -101,7 +101,7 @@ pub fn compare(engine: &[(u64, f64)], folder: &str) {
         _ = std::fs::remove_file(&path);
         let disk = claims(&sqlite, &path, || start.elapsed(), entries, 50);
         std::fs::remove_file(&path).unwrap();
-        let shown = crate::shown;
-        println!("| claim at {entries} entries | {} | {} | {} | {:.3} | {:.5} |", shown(ours), shown(memory), shown(disk), ours / memory, ours / disk);
+        let work = claim_with(entries);
+        println!("| {work} | {} | {} | {} | {:.3} | {:.5} |", shown(ours), shown(memory), shown(disk), ours / memory, ours / disk);
     }
 }

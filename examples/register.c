@@ -1,3 +1,4 @@
+/* README, "From C", says how to build it */
 #include "huztiral.h"
 #include <stdio.h>
 

@@ -1,3 +1,4 @@
+# in the folder of the repository: python3 examples/register.py
 import sys
 sys.path.insert(0, "python")
 from huztiral import Edition, Refused

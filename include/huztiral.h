@@ -1,13 +1,14 @@
-/* The numbering engine, for C and for all that can call C.
+/* The numbering engine, for C and for every language that can call C.
  *
- * Every function is total: any values are answered, and a wrong one gets its refusal. What is left to the caller is C's own: a pointer has the number of
- * readable (or, without `const`, writable) elements that is passed behind it (a lent record is one), and a part that is written overlaps no other.
+ * Every function is total: it answers whatever values it is given, and wrong ones get their refusal. The caller has C's
+ * own duties: each pointer leads to as many readable elements as the length passed after it says (a lent record is one;
+ * with length 0 it may be NULL), and where it is not `const`, they are writable and overlap nothing else that is passed.
  *
- *   number   0: accepted; else the number of document 01's refusal
- *   detail   what document 01 names for that number, else 0
+ *   number   0 if the call was accepted, else the number of the refusal in document 01
+ *   detail   what document 01 names for that refusal, else 0
  *
- * A refused call changes no lent byte. Structures go by value where no pointer stands, 64-bit little endian, with C's own alignment; crate `engine` has
- * the same in Rattle.
+ * A refused call changes no lent byte. Structures are passed and returned by value, except where a pointer is shown, and
+ * are laid out by C's own rules on a 64-bit little-endian machine; crate `engine` has the same functions in Rattle.
  */
 #ifndef HUZTIRAL_H
 #define HUZTIRAL_H
@@ -18,27 +19,29 @@
 extern "C" {
 #endif
 
-#define HUZ_PARTS 24 /* the most parts; also the cells of every composition that an answer carries, those past n being 0 */
+#define HUZ_PARTS 24 /* the most kinds of an edition; the arrays in the structures have as many cells, and those past n are 0 */
 
-/* document 01: an edition, as the record keeps it: n, 24 cells, r. Cells past n are 0. */
+/* An edition, as a record keeps it: the number of kinds n, their ceilings, the total. */
 typedef struct {
     size_t parts;
     uint8_t upper[HUZ_PARTS];
     uint32_t total;
 } huz_bounds;
 
-/* document 01: the register's record. `next` is the composition of the next serial, of serial N when full. */
+/* The record of a register: its edition, how many lines are written, sold and spoilt, and the mix of the next serial (of
+ * serial N when full). */
 typedef struct {
     huz_bounds bounds;
     uint64_t entries, sold, voided;
     uint8_t next[HUZ_PARTS];
 } huz_ledger;
 
-/* Answers. Refused ones have 0 in all but number and detail; a refused claim or void has the record that went in. */
+/* Answers. In a refused one all fields but number and detail are 0, except that a refused huz_claim or huz_void answers
+ * the record that went in. */
 typedef struct {
     uint32_t number;
     uint64_t detail;
-} huz_done;
+} huz_refusal;
 
 typedef struct {
     uint32_t number;
@@ -70,7 +73,7 @@ typedef struct {
     uint64_t detail;
     uint64_t serial;
     uint8_t composition[HUZ_PARTS];
-} huz_peeked;
+} huz_answer;
 
 typedef struct {
     uint32_t number;
@@ -80,43 +83,47 @@ typedef struct {
     huz_ledger ledger;
 } huz_claimed;
 
-/* In all that follow, `upper` and `parts` are the ceilings and how many they are, and `total` is the edition's total. */
+/* Editions, serials and mixes. `upper`, `parts` and `total` are the edition: its ceilings, how many they are (n), and the
+ * total. Refusals are named in the order in which they are checked. */
 
-/* The edition's checks, 1 to 5, its record and N. */
+/* Checks an edition: its record and its number of mixes, N. Refusals: 1 to 5. */
 huz_checked huz_check(const uint8_t *upper, size_t parts, uint32_t total);
 
-/* Mix to serial: 1 to 5, 7, 8. */
+/* Mix to serial. Refusals: 1 to 5, 7, 8. */
 huz_ranked huz_rank(const uint8_t *upper, size_t parts, uint32_t total, const uint8_t *composition, size_t len);
-/* Serial to mix, into exactly n bytes: 1 to 5, 6, 13. */
-huz_done huz_unrank(const uint8_t *upper, size_t parts, uint32_t total, uint64_t serial, uint8_t *out, size_t len);
+/* Serial to mix, written to `out`, exactly n bytes. Refusals: 1 to 5, 6, 13. */
+huz_refusal huz_unrank(const uint8_t *upper, size_t parts, uint32_t total, uint64_t serial, uint8_t *out, size_t len);
 
-/* The mix one serial on, or back: 1 to 5, 7, 8, 9. */
+/* The mix one serial on, or one back. Refusals: 1 to 5, 7, 8, 9. */
 huz_stepped huz_successor(const uint8_t *upper, size_t parts, uint32_t total, const uint8_t *composition, size_t len);
 huz_stepped huz_predecessor(const uint8_t *upper, size_t parts, uint32_t total, const uint8_t *composition, size_t len);
 
-/* Trays: the mixes of `copies` serials from `serial` on, n bytes each: 1 to 5, 6, 13. */
-huz_done huz_batch(const uint8_t *upper, size_t parts, uint32_t total, uint64_t serial, uint64_t copies, uint8_t *out, size_t len);
+/* A tray: the mixes of `copies` serials from `serial` on, n bytes each, written to `out`, exactly copies * n bytes.
+ * Refusals: 1 to 5, 6, 13. */
+huz_refusal huz_batch(const uint8_t *upper, size_t parts, uint32_t total, uint64_t serial, uint64_t copies, uint8_t *out, size_t len);
 
-/* Sheet orders, of k = n + 1 sheets. Mix to order, into k bytes: 1 to 5, 10, 7, 8, 13. Order to mix, into n bytes: 1 to 5, 10, 11, 12, 13. */
-huz_done huz_permutation(const uint8_t *upper, size_t parts, uint32_t total, const uint8_t *composition, size_t len, uint8_t *out, size_t out_len);
-huz_done huz_inversions(const uint8_t *upper, size_t parts, uint32_t total, const uint8_t *permutation, size_t len, uint8_t *out, size_t out_len);
+/* Mix to sheet order, written to `out`, exactly n + 1 bytes. Refusals: 1 to 5, 10, 7, 8, 13. */
+huz_refusal huz_permutation(const uint8_t *upper, size_t parts, uint32_t total, const uint8_t *composition, size_t len, uint8_t *out, size_t out_len);
+/* Sheet order to mix, written to `out`, exactly n bytes. Refusals: 1 to 5, 10, 11, 12, 13. */
+huz_refusal huz_inversions(const uint8_t *upper, size_t parts, uint32_t total, const uint8_t *permutation, size_t len, uint8_t *out, size_t out_len);
 
-/* The register. The caller keeps the record and the column of order numbers; `orders` and `len` are that column, entry s - 1 the line of serial s. Calls on
- * one register come one after another, each with the record that the call before answered or updated. */
+/* The register. The caller keeps its record and its column: `orders` and `len` are the column of order numbers, where
+ * orders[s - 1] is the line of serial s. Calls on one register come one after another, each with the record that the call
+ * before it answered or updated. */
 
-/* A new record: 1 to 5, 14, 15. The column is not written. */
+/* Opens a register: a new record. The column needs N entries; none is written. Refusals: 1 to 5, 14, 15. */
 huz_opened huz_open(const uint8_t *upper, size_t parts, uint32_t total, const uint32_t *orders, size_t len);
-/* Look: the next serial and its mix. 16, 21. */
-huz_peeked huz_peek(huz_ledger ledger, const uint32_t *orders, size_t len);
-/* Take a serial for an order. 16, 17, 6, 18, 19, 20. */
+/* Look: the next serial and its mix. Refusals: 16, 21. */
+huz_answer huz_peek(huz_ledger ledger, const uint32_t *orders, size_t len);
+/* Take: writes the order number into the line of the serial. Refusals: 16, 17, 6, 18, 19, 20. */
 huz_claimed huz_claim(huz_ledger ledger, uint32_t *orders, size_t len, uint64_t serial, uint32_t order);
-/* Spoil a serial: its line is written with 0. 16, 6, 18, 19. */
+/* Spoil: writes 0 into the line of the serial. Refusals: 16, 6, 18, 19. */
 huz_claimed huz_void(huz_ledger ledger, uint32_t *orders, size_t len, uint64_t serial);
-/* The same on a record that is lent: `ledger` points to one record, which the call updates there. The answers are those of huz_claim and huz_void; a
- * refused call changes neither the record nor the column. Calls in both forms may follow one another on one register. */
-huz_peeked huz_claim_in(huz_ledger *ledger, uint32_t *orders, size_t len, uint64_t serial, uint32_t order);
-huz_peeked huz_void_in(huz_ledger *ledger, uint32_t *orders, size_t len, uint64_t serial);
-/* How many lines are written, which are as many entries of the column from its first; 0 where 16 holds. */
+/* Take and spoil on a lent record: `ledger` points to it, and an accepted call updates it there. They answer what
+ * huz_claim and huz_void answer, and both forms may be used in turn on one register. */
+huz_answer huz_claim_in(huz_ledger *ledger, uint32_t *orders, size_t len, uint64_t serial, uint32_t order);
+huz_answer huz_void_in(huz_ledger *ledger, uint32_t *orders, size_t len, uint64_t serial);
+/* How many lines are written, from the first entry of the column on; 0 where refusal 16 would be given. */
 uint64_t huz_entries(huz_ledger ledger, const uint32_t *orders, size_t len);
 
 #ifdef __cplusplus

@@ -22,32 +22,32 @@ class Ledger(Structure):
     _fields_ = [("bounds", Bounds), ("entries", c_uint64), ("sold", c_uint64), ("voided", c_uint64), ("next", CELLS)]
 
 
-class Done(Structure):
+class Refusal(Structure):
     _fields_ = [("number", c_uint32), ("detail", c_uint64)]
 
 
 class Checked(Structure):
-    _fields_ = Done._fields_ + [("bounds", Bounds), ("count", c_uint64)]
+    _fields_ = Refusal._fields_ + [("bounds", Bounds), ("count", c_uint64)]
 
 
 class Ranked(Structure):
-    _fields_ = Done._fields_ + [("serial", c_uint64)]
+    _fields_ = Refusal._fields_ + [("serial", c_uint64)]
 
 
 class Stepped(Structure):
-    _fields_ = Done._fields_ + [("composition", CELLS)]
+    _fields_ = Refusal._fields_ + [("composition", CELLS)]
 
 
 class Opened(Structure):
-    _fields_ = Done._fields_ + [("ledger", Ledger)]
+    _fields_ = Refusal._fields_ + [("ledger", Ledger)]
 
 
-class Peeked(Structure):
+class Answer(Structure):
     _fields_ = Ranked._fields_ + [("composition", CELLS)]
 
 
 class Claimed(Structure):
-    _fields_ = Peeked._fields_ + [("ledger", Ledger)]
+    _fields_ = Answer._fields_ + [("ledger", Ledger)]
 
 
 BYTES = [POINTER(c_uint8), c_size_t]
@@ -56,18 +56,18 @@ EDITION = BYTES + [c_uint32]
 FUNCTIONS = {
     "huz_check": (Checked, EDITION),
     "huz_rank": (Ranked, EDITION + BYTES),
-    "huz_unrank": (Done, EDITION + [c_uint64] + BYTES),
+    "huz_unrank": (Refusal, EDITION + [c_uint64] + BYTES),
     "huz_successor": (Stepped, EDITION + BYTES),
     "huz_predecessor": (Stepped, EDITION + BYTES),
-    "huz_batch": (Done, EDITION + [c_uint64, c_uint64] + BYTES),
-    "huz_permutation": (Done, EDITION + BYTES + BYTES),
-    "huz_inversions": (Done, EDITION + BYTES + BYTES),
+    "huz_batch": (Refusal, EDITION + [c_uint64, c_uint64] + BYTES),
+    "huz_permutation": (Refusal, EDITION + BYTES + BYTES),
+    "huz_inversions": (Refusal, EDITION + BYTES + BYTES),
     "huz_open": (Opened, EDITION + ORDERS),
-    "huz_peek": (Peeked, [Ledger] + ORDERS),
+    "huz_peek": (Answer, [Ledger] + ORDERS),
     "huz_claim": (Claimed, [Ledger] + ORDERS + [c_uint64, c_uint32]),
     "huz_void": (Claimed, [Ledger] + ORDERS + [c_uint64]),
-    "huz_claim_in": (Peeked, [POINTER(Ledger)] + ORDERS + [c_uint64, c_uint32]),
-    "huz_void_in": (Peeked, [POINTER(Ledger)] + ORDERS + [c_uint64]),
+    "huz_claim_in": (Answer, [POINTER(Ledger)] + ORDERS + [c_uint64, c_uint32]),
+    "huz_void_in": (Answer, [POINTER(Ledger)] + ORDERS + [c_uint64]),
     "huz_entries": (c_uint64, [Ledger] + ORDERS),
 }
 
@@ -173,7 +173,8 @@ class Edition:
 
 
 class Register:
-    """The register of an edition: its record and its column of order numbers, in memory, lent to each take and spoil. One call finishes before another begins."""
+    """The register of an edition, kept in memory: its record and its column of order numbers, which each call is lent. One call finishes before another
+    begins."""
 
     def __init__(self, edition):
         self.edition = edition

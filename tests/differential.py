@@ -3,8 +3,8 @@
 
     python3 tests/differential.py [ROUNDS [SEED [SECONDS]]]
 
-Every lent part has guard bytes around it and is compared whole after each call. The last line is `differential: N cases, 0 differences`; any difference
-makes the exit status 1. A machine that is too slow for all rounds stops after SECONDS.
+Every lent part has guard bytes around it and is compared whole after each call. The last line is `differential: N cases, 0 differences`; any
+difference makes the exit status 1. A machine that is too slow for all rounds stops after SECONDS.
 """
 import random
 import sys
@@ -132,7 +132,8 @@ def on_record(rng, record, column, name, *arguments):
         lent, place = lend(rng, column, 4), LentRecord(ledger_of(record))
         before = place.raw()
         got = call(CALLS[name] + "_in", place, lent, *arguments)
-        compare(name + " lent", given, (*got, *flat(place.ledger)), (*answer, *record_after), (lent, column_after), (place, before if answer[0] else None))
+        compare(name + " lent", given, (*got, *flat(place.ledger)), (*answer, *record_after), (lent, column_after),
+                (place, before if answer[0] else None))
 
 
 def lines_so_far(rng, record, column):
@@ -145,7 +146,8 @@ def any_call(rng):
     if rng.random() < 0.4:
         record, column = inputs.damaged(rng, record, column)
     lines = column[:min(record[3], 2000)]
-    serial = rng.choice((len(lines) + 1, len(lines) + 1, len(lines) + 1, len(lines), 0, len(lines) + 2, inputs.any_serial(rng, len(column)), rng.randint(1, 9)))
+    following = len(lines) + 1
+    serial = rng.choice((following, following, following, following - 1, 0, following + 1, inputs.any_serial(rng, len(column)), rng.randint(1, 9)))
     order = rng.choice((inputs.any_order(rng, lines), inputs.any_order(rng, lines), rng.getrandbits(32), (column + [3] * 2000)[len(lines)]))
     on_record(rng, record, column, "look")
     on_record(rng, record, column, "take", serial, order)
@@ -183,7 +185,7 @@ def agree(running, paper, name, arguments, given):
 
 
 def interleaving(rng):
-    """several workers on one register, each with the serial that it saw last, in either form; then the accepted calls alone, with a look before each"""
+    """several workers on one register, each with the serial that it saw last, in either form; then the accepted calls alone, a look before each"""
     ms, r = inputs.sound(rng, small=True)
     n = ref.number(ms, r)
     values = [rng.getrandbits(32) if rng.random() < 0.7 else rng.randint(0, 30) for _ in range(n + rng.randint(0, 3))]
@@ -237,7 +239,7 @@ def large_register(rng):
 
 # ---- what document 01 prints
 
-def copies_of_the_document(rng):
+def copies_of_the_document():
     edition = huztiral.Edition
     seven = [[2, 1, 0], [1, 2, 0], [0, 2, 1], [1, 1, 1], [2, 0, 1], [1, 0, 2], [0, 1, 2]]
     puzzle = edition([3, 2, 1], 3)
@@ -249,7 +251,8 @@ def copies_of_the_document(rng):
     compare("document", "D", edition([2, 2, 2], 5).batch(1, 3), [[2, 2, 1], [2, 1, 2], [1, 2, 2]])
     compare("document", "E", (edition([5], 5).count, refused(edition, [5], 6)), (1, (4, 0)))
     compare("document", "F", (edition([2, 2], 0).unrank(1), edition([2, 2], 4).count, refused(edition, [2, 2], 5)), ([0, 0], 1, (4, 0)))
-    compare("document", "G", (puzzle.batch(1, 6), [puzzle.permutation(g) for g in mixes], [puzzle.inversions(p) for p in orders]), (mixes, orders, mixes))
+    compare("document", "G", (puzzle.batch(1, 6), [puzzle.permutation(g) for g in mixes], [puzzle.inversions(p) for p in orders]),
+            (mixes, orders, mixes))
     compare("document", "H", [edition([2, 1], 1).permutation(edition([2, 1], 1).unrank(s)) for s in (1, 2)], [[2, 1, 3], [1, 3, 2]])
     register = edition([1, 1], 1).open()
     compare("document", "I", (register.peek(), register.peek(), register.claim(1, 1007), refused(register.claim, 1, 1014), register.claim(2, 1014),
@@ -328,7 +331,7 @@ def round_of(rng):
 
 def main(rounds=300, seed=1, seconds=100):
     start, rng = time.monotonic(), random.Random(seed)
-    copies_of_the_document(rng)
+    copies_of_the_document()
     edges(rng)
     large_register(rng)
     for _ in range(rounds):

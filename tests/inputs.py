@@ -1,4 +1,4 @@
-"""Inputs for the differential test: editions, mixes, serials, lengths and records, good ones, damaged ones and those at the ends of a range."""
+"""Inputs for the tests: editions, mixes, serials, lengths and records, good ones, damaged ones and those at the ends of a range."""
 import reference as ref
 
 LARGEST = (1 << 64) - 1
@@ -19,13 +19,16 @@ def limits():
 
 
 LIMITS = limits()
-EDGES = [
-    ((10,) * 24, 239), (stairs(11), 33), ((5,), 5), ((5,), 6), ((2, 2), 0), ((2, 2), 4), ((2, 2), 5), ((), 0), ((), LARGEST >> 32), ((1,) * 25, 3),
-    ((0,), 0), ((3, 0, 61), 1), ((60,), 60), ((61,), 1), ((255,), 1), ((2, 2), 255), ((60,) * 5, 255), ((60,) * 5, 256), ((60,) * 4, 241),
-    ((60,) * 4, 240),
-    ((2, 2), 256), ((2, 2), 257), ((2, 2), LARGEST >> 32), ((1, 0, 61), 256), ((255,) * 25, LARGEST >> 32), ((60,) * 24, 255), ((6,) * 24, 72),
-    ((60,) * 5, 4), ((60,) * 24, 2), ((1,) * 24, 12), ((1,) * 24, 24), ((1,), 0), ((1,), 1), ((60,) * 24, 0), ((60,) * 24, 1), ((0,) * 24, 0), ((1,) * 100, 5), ((60,) * 23 + (61,), 3),
-    ((60,) * 23 + (0,), 3), (stairs(1), 1), (stairs(24), 57), (stairs(24), 58), (stairs(24), 242), (stairs(24), 243), (stairs(24), 255),
+# editions that document 01 names, and those at the ends of each range
+NAMED = [
+    ((10,) * 24, 239), (stairs(11), 33), ((5,), 5), ((5,), 6), ((2, 2), 0), ((2, 2), 4), ((2, 2), 5), ((), 0), ((1,) * 25, 3), ((0,), 0),
+    ((3, 0, 61), 1), ((60,), 60), ((61,), 1), ((255,), 1), ((2, 2), 255), ((60,) * 5, 255), ((60,) * 5, 256), ((2, 2), 256), ((2, 2), LARGEST >> 32),
+    ((1, 0, 61), 256), ((255,) * 25, LARGEST >> 32), ((60,) * 24, 255), ((6,) * 24, 72), ((12,) * 24, 255),
+]
+EDGES = NAMED + [
+    ((), LARGEST >> 32), ((60,) * 4, 240), ((60,) * 4, 241), ((2, 2), 257), ((60,) * 5, 4), ((60,) * 24, 2), ((1,) * 24, 12), ((1,) * 24, 24),
+    ((1,), 0), ((1,), 1), ((60,) * 24, 0), ((60,) * 24, 1), ((0,) * 24, 0), ((1,) * 100, 5), ((60,) * 23 + (61,), 3), ((60,) * 23 + (0,), 3),
+    (stairs(24), 57), (stairs(24), 58), (stairs(24), 242), (stairs(24), 243), (stairs(24), 255),
 ]
 
 
@@ -118,7 +121,8 @@ def any_length(rng, wanted):
 
 def any_order(rng, lines):
     written = [o for o in lines if o] or [7]
-    return rng.choice((0, 1, 1007, (1 << 32) - 1, rng.getrandbits(32), rng.randint(1, 9), written[0], written[-1], rng.choice(written), rng.choice(written)))
+    return rng.choice((0, 1, 1007, (1 << 32) - 1, rng.getrandbits(32), rng.randint(1, 9), written[0], written[-1], rng.choice(written),
+                       rng.choice(written)))
 
 
 def any_sheet_order(rng, ms, r):
@@ -141,10 +145,11 @@ def any_sheet_order(rng, ms, r):
 
 
 def register(rng):
-    """a small edition, lines with zeros and repetitions, and a column with garbage behind them"""
+    """a small edition, lines with zeros and repetitions, and a column with garbage after them"""
     ms, r = sound(rng, small=True)
     n = ref.number(ms, r)
-    lines = [rng.choice((0, rng.randint(1, 9), rng.getrandbits(32))) for _ in range(rng.choice((0, n, n - 1, rng.randint(0, n), rng.randint(0, min(n, 9)))))]
+    size = rng.choice((0, n, n - 1, rng.randint(0, n), rng.randint(0, min(n, 9))))
+    lines = [rng.choice((0, rng.randint(1, 9), rng.getrandbits(32))) for _ in range(size)]
     rest = [rng.choice((0, 1, 1007, rng.getrandbits(32), *lines[:2])) for _ in range(n - len(lines) + rng.choice((0, 0, 1, 7)))]
     return ref.record_of(ms, r, lines), lines + rest
 

@@ -1,5 +1,7 @@
-"""Document 01 in plain Python: what every call of the engine has to answer. Written from the document, for comparison only: numbers are unbounded, nothing
-is fast, and each function follows the document's own words. An answer is a tuple that starts with number and detail."""
+"""Document 01 in plain Python: what every call of the engine has to answer, and what the listing program has to print. Written from the document, for
+comparison only: numbers are unbounded, nothing is fast, and each function follows the document's own words. The answer of a call is a tuple that
+starts with number and detail."""
+import re
 from functools import lru_cache
 
 LIMIT = 9_223_372_036_854_775_807
@@ -60,7 +62,7 @@ def check(ms, r):
 # ---- Walsh's order
 
 def values(ms, i, r, t):
-    """the values of kind i (from 0) in their order, where the kinds behind it sum to t"""
+    """the values of kind i (from 0) in their order, where the kinds after it sum to t"""
     run = range(max(0, r - t - sum(ms[:i])), min(ms[i], r - t) + 1)
     return run if t % 2 == 0 else reversed(run)
 
@@ -278,3 +280,26 @@ def call(record, column, name, arguments):
 
 def entries(record, column):
     return record[3] if is_register(record, column) else 0
+
+
+# ---- Listing program
+
+NUMBER = rb"(?:0|[1-9][0-9]{0,2})"
+SLIP = re.compile(rb"mixes\n(%s(?: %s)*)\n(%s)\n" % (NUMBER, NUMBER, NUMBER))
+
+
+def slip(text):
+    """the ceilings and the total of a slip, or None where it has not the form"""
+    form = SLIP.fullmatch(text) if len(text) <= 256 else None
+    return form and (tuple(int(m) for m in form[1].split()), int(form[2]))
+
+
+def printed(text):
+    """the number of the slip's refusal, or 0, and all that the program prints"""
+    given = slip(text)
+    refused = edition(*given)[0] if given else 22
+    if not refused and number(*given) > MOST_LINES:
+        refused = 14
+    if refused:
+        return refused, b"refused %d\n" % refused
+    return 0, "".join(f"{serial} {' '.join(map(str, mix))}\n" for serial, mix in enumerate(listing(*given), 1)).encode()

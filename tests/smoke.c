@@ -5,30 +5,17 @@
 
 #define AT(type, field, place) _Static_assert(offsetof(type, field) == place, #type "." #field)
 #define SIZE(type, bytes) _Static_assert(sizeof(type) == bytes, #type)
-SIZE(huz_bounds, 40);
-AT(huz_bounds, upper, 8);
-AT(huz_bounds, total, 32);
-SIZE(huz_ledger, 88);
-AT(huz_ledger, entries, 40);
-AT(huz_ledger, sold, 48);
-AT(huz_ledger, voided, 56);
+#define ANSWER(type, bytes) SIZE(type, bytes); AT(type, number, 0); AT(type, detail, 8)
+SIZE(huz_bounds, 40); AT(huz_bounds, parts, 0); AT(huz_bounds, upper, 8); AT(huz_bounds, total, 32);
+SIZE(huz_ledger, 88); AT(huz_ledger, bounds, 0); AT(huz_ledger, entries, 40); AT(huz_ledger, sold, 48); AT(huz_ledger, voided, 56);
 AT(huz_ledger, next, 64);
-SIZE(huz_done, 16);
-AT(huz_done, detail, 8);
-SIZE(huz_checked, 64);
-AT(huz_checked, bounds, 16);
-AT(huz_checked, count, 56);
-SIZE(huz_ranked, 24);
-AT(huz_ranked, serial, 16);
-SIZE(huz_stepped, 40);
-AT(huz_stepped, composition, 16);
-SIZE(huz_opened, 104);
-AT(huz_opened, ledger, 16);
-SIZE(huz_peeked, 48);
-AT(huz_peeked, composition, 24);
-SIZE(huz_claimed, 136);
-AT(huz_claimed, composition, 24);
-AT(huz_claimed, ledger, 48);
+ANSWER(huz_refusal, 16);
+ANSWER(huz_checked, 64); AT(huz_checked, bounds, 16); AT(huz_checked, count, 56);
+ANSWER(huz_ranked, 24); AT(huz_ranked, serial, 16);
+ANSWER(huz_stepped, 40); AT(huz_stepped, composition, 16);
+ANSWER(huz_opened, 104); AT(huz_opened, ledger, 16);
+ANSWER(huz_answer, 48); AT(huz_answer, serial, 16); AT(huz_answer, composition, 24);
+ANSWER(huz_claimed, 136); AT(huz_claimed, serial, 16); AT(huz_claimed, composition, 24); AT(huz_claimed, ledger, 48);
 
 static int failed;
 
@@ -48,28 +35,29 @@ int main(void) {
     uint8_t out[6], order[4];
 
     huz_checked checked = huz_check(upper, 3, 3);
-    expect(checked.number == 0 && checked.count == 6 && checked.bounds.parts == 3 && is(checked.bounds.upper, 3, 2, 1) && checked.bounds.total == 3, "huz_check");
+    huz_bounds bounds = checked.bounds;
+    expect(checked.number == 0 && checked.count == 6 && bounds.parts == 3 && is(bounds.upper, 3, 2, 1) && bounds.total == 3, "huz_check");
     huz_ranked ranked = huz_rank(upper, 3, 3, composition, 3);
     expect(ranked.number == 0 && ranked.serial == 2, "huz_rank");
-    huz_done done = huz_unrank(upper, 3, 3, 4, out, 3);
-    expect(done.number == 0 && is(out, 0, 2, 1), "huz_unrank");
+    huz_refusal refusal = huz_unrank(upper, 3, 3, 4, out, 3);
+    expect(refusal.number == 0 && is(out, 0, 2, 1), "huz_unrank");
     huz_stepped stepped = huz_successor(upper, 3, 3, composition, 3);
     expect(stepped.number == 0 && is(stepped.composition, 1, 2, 0), "huz_successor");
     stepped = huz_predecessor(upper, 3, 3, composition, 3);
     expect(stepped.number == 0 && is(stepped.composition, 3, 0, 0), "huz_predecessor");
-    done = huz_batch(upper, 3, 3, 5, 2, out, 6);
-    expect(done.number == 0 && is(out, 1, 1, 1) && is(out + 3, 2, 0, 1), "huz_batch");
-    done = huz_permutation(upper, 3, 3, composition, 3, order, 4);
-    expect(done.number == 0 && memcmp(order, wanted, 4) == 0, "huz_permutation");
-    done = huz_inversions(upper, 3, 3, given, 4, out, 3);
-    expect(done.number == 0 && is(out, 1, 2, 0), "huz_inversions");
+    refusal = huz_batch(upper, 3, 3, 5, 2, out, 6);
+    expect(refusal.number == 0 && is(out, 1, 1, 1) && is(out + 3, 2, 0, 1), "huz_batch");
+    refusal = huz_permutation(upper, 3, 3, composition, 3, order, 4);
+    expect(refusal.number == 0 && memcmp(order, wanted, 4) == 0, "huz_permutation");
+    refusal = huz_inversions(upper, 3, 3, given, 4, out, 3);
+    expect(refusal.number == 0 && is(out, 1, 2, 0), "huz_inversions");
 
     const uint8_t two[2] = {1, 1};
     uint32_t orders[2] = {5, 5};
     huz_opened opened = huz_open(two, 2, 1, orders, 2);
     expect(opened.number == 0 && opened.ledger.entries == 0 && is(opened.ledger.next, 1, 0, 0), "huz_open");
-    huz_peeked peeked = huz_peek(opened.ledger, orders, 2);
-    expect(peeked.number == 0 && peeked.serial == 1 && is(peeked.composition, 1, 0, 0), "huz_peek");
+    huz_answer answer = huz_peek(opened.ledger, orders, 2);
+    expect(answer.number == 0 && answer.serial == 1 && is(answer.composition, 1, 0, 0), "huz_peek");
     huz_claimed claimed = huz_claim(opened.ledger, orders, 2, 1, 1007);
     expect(claimed.number == 0 && claimed.serial == 1 && orders[0] == 1007 && claimed.ledger.sold == 1, "huz_claim");
     huz_claimed second = huz_claim(claimed.ledger, orders, 2, 1, 1014);
@@ -80,13 +68,14 @@ int main(void) {
 
     huz_ledger lent = opened.ledger, before;
     orders[0] = orders[1] = 5;
-    peeked = huz_claim_in(&lent, orders, 2, 1, 1007);
-    expect(peeked.number == 0 && peeked.serial == 1 && is(peeked.composition, 1, 0, 0) && orders[0] == 1007 && lent.sold == 1, "huz_claim_in");
+    answer = huz_claim_in(&lent, orders, 2, 1, 1007);
+    expect(answer.number == 0 && answer.serial == 1 && is(answer.composition, 1, 0, 0) && orders[0] == 1007 && lent.sold == 1, "huz_claim_in");
     memcpy(&before, &lent, sizeof lent);
-    peeked = huz_claim_in(&lent, orders, 2, 1, 1014);
-    expect(peeked.number == 18 && peeked.detail == 1007 && memcmp(&before, &lent, sizeof lent) == 0 && orders[0] == 1007 && orders[1] == 5, "a second huz_claim_in");
-    peeked = huz_void_in(&lent, orders, 2, 2);
-    expect(peeked.number == 0 && peeked.serial == 2 && orders[1] == 0 && lent.voided == 1 && lent.entries == 2, "huz_void_in");
+    answer = huz_claim_in(&lent, orders, 2, 1, 1014);
+    expect(answer.number == 18 && answer.detail == 1007 && orders[0] == 1007 && orders[1] == 5, "a second huz_claim_in");
+    expect(memcmp(&before, &lent, sizeof lent) == 0, "the record after a refused huz_claim_in");
+    answer = huz_void_in(&lent, orders, 2, 2);
+    expect(answer.number == 0 && answer.serial == 2 && orders[1] == 0 && lent.voided == 1 && lent.entries == 2, "huz_void_in");
     if (!failed)
         puts("smoke: 15 functions");
     return failed;

@@ -11,25 +11,19 @@ import os
 import subprocess
 import sys
 
+import inputs
 import interleave
 
 HERE = os.path.dirname(os.path.abspath(__file__))
 CRATE = os.path.join(HERE, "..", "crates", "vectors")
 FILL = 170
 
-# editions that the documents name, and the ends of each range
-COUNTS = [
-    ([10] * 24, 239), (list(range(11, 0, -1)), 33), ([5], 5), ([5], 6), ([2, 2], 0), ([2, 2], 4), ([2, 2], 5), ([], 0), ([1] * 25, 3),
-    ([0], 0), ([3, 0, 61], 1), ([60], 60), ([61], 1), ([255], 1), ([2, 2], 255), ([60] * 5, 255), ([60] * 5, 256), ([2, 2], 256),
-    ([2, 2], 4294967295), ([1, 0, 61], 256), ([255] * 25, 4294967295), ([60] * 24, 255), ([6] * 24, 72), ([12] * 24, 255),
-]
-
 # Table 1 of source document 000: the compositions of 5 under 4 3 2 1, each with its permutation
 TABLE_1 = (
-  "4100 52134 3200 43125 2300 35124 1310 25314 2210 34215 3110 42315 "
-     "4010 51324 3020 41523 2120 32514 1220 24513 0320 15423 0221 14532 "
-     "1121 23541 2021 31542 3011 41352 2111 32451 1211 24351 0311 15342 "
-     "1301 25143 2201 34152 3101 42153 4001 51243"
+    "4100 52134 3200 43125 2300 35124 1310 25314 2210 34215 3110 42315 "
+    "4010 51324 3020 41523 2120 32514 1220 24513 0320 15423 0221 14532 "
+    "1121 23541 2021 31542 3011 41352 2111 32451 1211 24351 0311 15342 "
+    "1301 25143 2201 34152 3101 42153 4001 51243"
 ).split()
 
 
@@ -38,7 +32,7 @@ def numbers(text):
 
 
 def listed(values):
-    return " ".join(str(v) for v in [len(values)] + values)
+    return " ".join(str(v) for v in (len(values), *values))
 
 
 def lent(answer, length):
@@ -85,13 +79,11 @@ def vectors(oracle, kind, count, seed):
 
 
 def counts(oracle):
-    """the answers for COUNTS and for the editions next to a limit"""
+    """the answers for the editions of inputs.NAMED and for those next to a limit"""
     sys.path.insert(0, oracle)
     from oracle import bounds, editions
-    near = [(m, r) for _, m, r in bounds.BOUNDS]
-    for m, r in COUNTS + near:
-        a = editions.answer_count(m, r)
-        yield f"c {listed(m)} {r}", list(a)
+    for ms, r in inputs.NAMED + [(ms, r) for _, ms, r in bounds.BOUNDS]:
+        yield f"c {listed(ms)} {r}", list(editions.answer_count(ms, r))
 
 
 def table_1():

@@ -30,7 +30,7 @@ pub fn is_staircase(upper: &[u8]) -> bool {
 }
 
 /// The sum of the bounds, or 1 to 4.
-pub fn shape(upper: &[u8], total: u32) -> Result<usize, Refusal> {
+pub fn shape(upper: &[u8], total: u32) -> Result<usize, Refused> {
     if upper.is_empty() || upper.len() > 24 {
         return Err((1, 0));
     }
@@ -99,7 +99,7 @@ pub struct Table<'a> {
     pub left: [u16; 25],
 }
 
-pub fn fill<'a>(upper: &[u8], total: u32, all: usize, memory: &'a mut [MaybeUninit<u64>; CELLS]) -> Result<Table<'a>, Refusal> {
+pub fn fill<'a>(upper: &[u8], total: u32, all: usize, memory: &'a mut [MaybeUninit<u64>; CELLS]) -> Result<Table<'a>, Refused> {
     let (mut start, mut low, mut left) = ([0u16; 25], [0u16; 25], [0u16; 25]);
     let total = total as usize;
     memory[0].write(1);
@@ -135,7 +135,7 @@ impl Table<'_> {
 }
 
 /// N with two rows only.
-fn count_rows(upper: &[u8], total: u32, all: usize) -> Result<u64, Refusal> {
+fn count_rows(upper: &[u8], total: u32, all: usize) -> Result<u64, Refused> {
     let mut rows = [[MaybeUninit::<u64>::uninit(); 256]; 2];
     let total = total as usize;
     rows[0][0].write(1);
@@ -156,7 +156,7 @@ fn count_rows(upper: &[u8], total: u32, all: usize) -> Result<u64, Refusal> {
     Ok(unsafe { rows[upper.len() % 2][0].assume_init() })
 }
 
-fn number(upper: &[u8], total: u32) -> Result<u64, Refusal> {
+fn number(upper: &[u8], total: u32) -> Result<u64, Refused> {
     let all = shape(upper, total)?;
     if upper.len() <= 15 && is_staircase(upper) {
         return Ok(MAHONIAN[upper.len() + 1][total as usize]);
@@ -165,7 +165,7 @@ fn number(upper: &[u8], total: u32) -> Result<u64, Refusal> {
 }
 
 /// 1 to 5, without counting where the product of all ranges but the widest is within the limit.
-pub fn edition(upper: &[u8], total: u32) -> Result<(), Refusal> {
+pub fn edition(upper: &[u8], total: u32) -> Result<(), Refused> {
     let all = shape(upper, total)?;
     let mut product: u64 = 1;
     let mut widest = 1;

@@ -1,14 +1,14 @@
-//! The same functions as the engine's, in plain Rust and not proved: what a careful programmer would write for speed. Same methods: a counting table that
-//! keeps only reachable sums, filled by a sliding window; the Mahonian table for staircases of up to 16 sheets; a step in place; one pass over a register's
-//! lines. Working tables are not cleared before they are filled, unless a caller sets CLEAR.
+//! The functions of the engine that are measured, in plain Rust and not proved: what a careful programmer would write for speed. Same methods: a
+//! counting table that keeps only reachable sums, filled by a sliding window; the Mahonian table for staircases of up to 16 sheets; a step in place;
+//! one pass over a register's lines. Working tables are not cleared before they are filled, unless a caller sets CLEAR.
 mod count;
 mod ledger;
-mod order;
+pub mod order;
 mod permutation;
 mod types;
 
 pub use count::check;
-pub use ledger::{claim, entries, open, peek, void};
-pub use order::{advance, batch, predecessor, rank, successor, unrank};
+pub use ledger::claim;
+pub use order::{batch, predecessor, rank, successor, unrank};
 pub use permutation::{inversions, permutation};
 pub use types::*;

@@ -2,7 +2,7 @@
 use super::count::{edition, fill, memory, shape, Table};
 use super::types::*;
 
-pub fn given(upper: &[u8], total: u32, g: &[u8]) -> Result<(), Refusal> {
+pub fn given(upper: &[u8], total: u32, g: &[u8]) -> Result<(), Refused> {
     if g.len() != upper.len() {
         return Err((7, 0));
     }
@@ -34,7 +34,7 @@ fn place(table: &Table, upper: &[u8], total: u32, g: &[u8]) -> u64 {
     before
 }
 
-fn rank_in<const CLEAR: bool>(upper: &[u8], total: u32, g: &[u8]) -> Result<u64, Refusal> {
+fn rank_in<const CLEAR: bool>(upper: &[u8], total: u32, g: &[u8]) -> Result<u64, Refused> {
     let all = shape(upper, total)?;
     let mut memory = memory::<CLEAR>();
     let table = fill(upper, total, all, &mut memory)?;
@@ -70,7 +70,7 @@ pub fn write(table: &Table, upper: &[u8], total: u32, rank: u64, out: &mut [u8])
     }
 }
 
-fn unrank_in<const CLEAR: bool>(upper: &[u8], total: u32, serial: u64, out: &mut [u8]) -> Result<(), Refusal> {
+fn unrank_in<const CLEAR: bool>(upper: &[u8], total: u32, serial: u64, out: &mut [u8]) -> Result<(), Refused> {
     let all = shape(upper, total)?;
     let mut memory = memory::<CLEAR>();
     let table = fill(upper, total, all, &mut memory)?;
@@ -84,8 +84,8 @@ fn unrank_in<const CLEAR: bool>(upper: &[u8], total: u32, serial: u64, out: &mut
     Ok(())
 }
 
-pub fn unrank<const CLEAR: bool>(upper: &[u8], total: u32, serial: u64, out: &mut [u8]) -> Done {
-    done(unrank_in::<CLEAR>(upper, total, serial, out))
+pub fn unrank<const CLEAR: bool>(upper: &[u8], total: u32, serial: u64, out: &mut [u8]) -> Refusal {
+    refusal(unrank_in::<CLEAR>(upper, total, serial, out))
 }
 
 /// The next composition in place, or false at the last. `odd` is 1 to go backward.
@@ -119,14 +119,14 @@ pub fn advance(upper: &[u8], total: usize, g: &mut [u8], odd: usize) -> bool {
     false
 }
 
-fn step(upper: &[u8], total: u32, g: &[u8], odd: usize) -> Result<[u8; 24], Refusal> {
+fn step(upper: &[u8], total: u32, g: &[u8], odd: usize) -> Result<[u8; 24], Refused> {
     edition(upper, total)?;
     given(upper, total, g)?;
     let mut cells = pack(g);
     if advance(upper, total as usize, &mut cells[..upper.len()], odd) { Ok(cells) } else { Err((9, 0)) }
 }
 
-fn stepped(result: Result<[u8; 24], Refusal>) -> Stepped {
+fn stepped(result: Result<[u8; 24], Refused>) -> Stepped {
     match result {
         Ok(composition) => Stepped { number: 0, detail: 0, composition },
         Err((number, detail)) => Stepped { number, detail, composition: [0; 24] },
@@ -141,7 +141,7 @@ pub fn predecessor(upper: &[u8], total: u32, g: &[u8]) -> Stepped {
     stepped(step(upper, total, g, 1))
 }
 
-fn batch_in(upper: &[u8], total: u32, serial: u64, copies: u64, out: &mut [u8]) -> Result<(), Refusal> {
+fn batch_in(upper: &[u8], total: u32, serial: u64, copies: u64, out: &mut [u8]) -> Result<(), Refused> {
     let n = upper.len();
     let all = shape(upper, total)?;
     let mut memory = memory::<false>();
@@ -173,6 +173,6 @@ fn batch_in(upper: &[u8], total: u32, serial: u64, copies: u64, out: &mut [u8]) 
     Ok(())
 }
 
-pub fn batch(upper: &[u8], total: u32, serial: u64, copies: u64, out: &mut [u8]) -> Done {
-    done(batch_in(upper, total, serial, copies, out))
+pub fn batch(upper: &[u8], total: u32, serial: u64, copies: u64, out: &mut [u8]) -> Refusal {
+    refusal(batch_in(upper, total, serial, copies, out))
 }

@@ -3,13 +3,13 @@ use super::count::{edition, is_staircase};
 use super::order::given;
 use super::types::*;
 
-fn stairs(upper: &[u8], total: u32) -> Result<(), Refusal> {
+fn stairs(upper: &[u8], total: u32) -> Result<(), Refused> {
     edition(upper, total)?;
     if is_staircase(upper) { Ok(()) } else { Err((10, 0)) }
 }
 
-/// The set of sheets that are left, as bits: the sheet with v smaller ones left is the one at the v-th bit.
-fn permutation_in(upper: &[u8], total: u32, g: &[u8], out: &mut [u8]) -> Result<(), Refusal> {
+/// The sheets that are left stand in rising order, so that the one with v smaller ones left is at place v.
+fn permutation_in(upper: &[u8], total: u32, g: &[u8], out: &mut [u8]) -> Result<(), Refused> {
     stairs(upper, total)?;
     given(upper, total, g)?;
     let k = upper.len() + 1;
@@ -29,17 +29,17 @@ fn permutation_in(upper: &[u8], total: u32, g: &[u8], out: &mut [u8]) -> Result<
     Ok(())
 }
 
-pub fn permutation(upper: &[u8], total: u32, g: &[u8], out: &mut [u8]) -> Done {
-    done(permutation_in(upper, total, g, out))
+pub fn permutation(upper: &[u8], total: u32, g: &[u8], out: &mut [u8]) -> Refusal {
+    refusal(permutation_in(upper, total, g, out))
 }
 
-fn inversions_in(upper: &[u8], total: u32, p: &[u8], out: &mut [u8]) -> Result<(), Refusal> {
+fn inversions_in(upper: &[u8], total: u32, p: &[u8], out: &mut [u8]) -> Result<(), Refused> {
     stairs(upper, total)?;
     let n = upper.len();
     if p.len() != n + 1 {
         return Err((11, 0));
     }
-    // a bit for each sheet that is left; those below a sheet's bit are the smaller ones behind it
+    // a bit for each sheet that is left; those below a sheet's bit are the smaller ones after it
     let mut left: u32 = ((1u64 << (n + 2)) - 2) as u32;
     let mut vector = [0u8; 25];
     let mut sum = 0;
@@ -62,6 +62,6 @@ fn inversions_in(upper: &[u8], total: u32, p: &[u8], out: &mut [u8]) -> Result<(
     Ok(())
 }
 
-pub fn inversions(upper: &[u8], total: u32, p: &[u8], out: &mut [u8]) -> Done {
-    done(inversions_in(upper, total, p, out))
+pub fn inversions(upper: &[u8], total: u32, p: &[u8], out: &mut [u8]) -> Refusal {
+    refusal(inversions_in(upper, total, p, out))
 }

@@ -1,7 +1,7 @@
 //! The structures of include/huztiral.h.
 #[derive(Clone, Copy, PartialEq, Eq, Debug, Default)]
 #[repr(C)]
-pub struct Done {
+pub struct Refusal {
     pub number: u32,
     pub detail: u64,
 }
@@ -59,15 +59,6 @@ pub struct Opened {
 
 #[derive(Clone, Copy, PartialEq, Eq, Debug, Default)]
 #[repr(C)]
-pub struct Peeked {
-    pub number: u32,
-    pub detail: u64,
-    pub serial: u64,
-    pub composition: [u8; 24],
-}
-
-#[derive(Clone, Copy, PartialEq, Eq, Debug, Default)]
-#[repr(C)]
 pub struct Claimed {
     pub number: u32,
     pub detail: u64,
@@ -77,12 +68,12 @@ pub struct Claimed {
 }
 
 /// A number and a detail.
-pub type Refusal = (u32, u64);
+pub type Refused = (u32, u64);
 
-pub fn done(result: Result<(), Refusal>) -> Done {
+pub fn refusal(result: Result<(), Refused>) -> Refusal {
     match result {
-        Ok(()) => Done::default(),
-        Err((number, detail)) => Done { number, detail },
+        Ok(()) => Refusal::default(),
+        Err((number, detail)) => Refusal { number, detail },
     }
 }
 
