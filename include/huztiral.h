@@ -41,7 +41,7 @@ typedef struct {
 typedef struct {
     uint32_t number;
     uint64_t detail;
-} huz_refusal;
+} huz_done;
 
 typedef struct {
     uint32_t number;
@@ -68,12 +68,13 @@ typedef struct {
     huz_ledger ledger;
 } huz_opened;
 
+/* of a look, and of a take or a spoil on a record that is lent */
 typedef struct {
     uint32_t number;
     uint64_t detail;
     uint64_t serial;
     uint8_t composition[HUZ_PARTS];
-} huz_answer;
+} huz_peeked;
 
 typedef struct {
     uint32_t number;
@@ -92,7 +93,7 @@ huz_checked huz_check(const uint8_t *upper, size_t parts, uint32_t total);
 /* Mix to serial. Refusals: 1 to 5, 7, 8. */
 huz_ranked huz_rank(const uint8_t *upper, size_t parts, uint32_t total, const uint8_t *composition, size_t len);
 /* Serial to mix, written to `out`, exactly n bytes. Refusals: 1 to 5, 6, 13. */
-huz_refusal huz_unrank(const uint8_t *upper, size_t parts, uint32_t total, uint64_t serial, uint8_t *out, size_t len);
+huz_done huz_unrank(const uint8_t *upper, size_t parts, uint32_t total, uint64_t serial, uint8_t *out, size_t len);
 
 /* The mix one serial on, or one back. Refusals: 1 to 5, 7, 8, 9. */
 huz_stepped huz_successor(const uint8_t *upper, size_t parts, uint32_t total, const uint8_t *composition, size_t len);
@@ -100,12 +101,12 @@ huz_stepped huz_predecessor(const uint8_t *upper, size_t parts, uint32_t total, 
 
 /* A tray: the mixes of `copies` serials from `serial` on, n bytes each, written to `out`, exactly copies * n bytes.
  * Refusals: 1 to 5, 6, 13. */
-huz_refusal huz_batch(const uint8_t *upper, size_t parts, uint32_t total, uint64_t serial, uint64_t copies, uint8_t *out, size_t len);
+huz_done huz_batch(const uint8_t *upper, size_t parts, uint32_t total, uint64_t serial, uint64_t copies, uint8_t *out, size_t len);
 
 /* Mix to sheet order, written to `out`, exactly n + 1 bytes. Refusals: 1 to 5, 10, 7, 8, 13. */
-huz_refusal huz_permutation(const uint8_t *upper, size_t parts, uint32_t total, const uint8_t *composition, size_t len, uint8_t *out, size_t out_len);
+huz_done huz_permutation(const uint8_t *upper, size_t parts, uint32_t total, const uint8_t *composition, size_t len, uint8_t *out, size_t out_len);
 /* Sheet order to mix, written to `out`, exactly n bytes. Refusals: 1 to 5, 10, 11, 12, 13. */
-huz_refusal huz_inversions(const uint8_t *upper, size_t parts, uint32_t total, const uint8_t *permutation, size_t len, uint8_t *out, size_t out_len);
+huz_done huz_inversions(const uint8_t *upper, size_t parts, uint32_t total, const uint8_t *permutation, size_t len, uint8_t *out, size_t out_len);
 
 /* The register. The caller keeps its record and its column: `orders` and `len` are the column of order numbers, where
  * orders[s - 1] is the line of serial s. Calls on one register come one after another, each with the record that the call
@@ -114,15 +115,15 @@ huz_refusal huz_inversions(const uint8_t *upper, size_t parts, uint32_t total, c
 /* Opens a register: a new record. The column needs N entries; none is written. Refusals: 1 to 5, 14, 15. */
 huz_opened huz_open(const uint8_t *upper, size_t parts, uint32_t total, const uint32_t *orders, size_t len);
 /* Look: the next serial and its mix. Refusals: 16, 21. */
-huz_answer huz_peek(huz_ledger ledger, const uint32_t *orders, size_t len);
+huz_peeked huz_peek(huz_ledger ledger, const uint32_t *orders, size_t len);
 /* Take: writes the order number into the line of the serial. Refusals: 16, 17, 6, 18, 19, 20. */
 huz_claimed huz_claim(huz_ledger ledger, uint32_t *orders, size_t len, uint64_t serial, uint32_t order);
 /* Spoil: writes 0 into the line of the serial. Refusals: 16, 6, 18, 19. */
 huz_claimed huz_void(huz_ledger ledger, uint32_t *orders, size_t len, uint64_t serial);
 /* Take and spoil on a lent record: `ledger` points to it, and an accepted call updates it there. They answer what
  * huz_claim and huz_void answer, and both forms may be used in turn on one register. */
-huz_answer huz_claim_in(huz_ledger *ledger, uint32_t *orders, size_t len, uint64_t serial, uint32_t order);
-huz_answer huz_void_in(huz_ledger *ledger, uint32_t *orders, size_t len, uint64_t serial);
+huz_peeked huz_claim_in(huz_ledger *ledger, uint32_t *orders, size_t len, uint64_t serial, uint32_t order);
+huz_peeked huz_void_in(huz_ledger *ledger, uint32_t *orders, size_t len, uint64_t serial);
 /* How many lines are written, from the first entry of the column on; 0 where refusal 16 would be given. */
 uint64_t huz_entries(huz_ledger ledger, const uint32_t *orders, size_t len);
 

@@ -9,12 +9,12 @@
 SIZE(huz_bounds, 40); AT(huz_bounds, parts, 0); AT(huz_bounds, upper, 8); AT(huz_bounds, total, 32);
 SIZE(huz_ledger, 88); AT(huz_ledger, bounds, 0); AT(huz_ledger, entries, 40); AT(huz_ledger, sold, 48); AT(huz_ledger, voided, 56);
 AT(huz_ledger, next, 64);
-ANSWER(huz_refusal, 16);
+ANSWER(huz_done, 16);
 ANSWER(huz_checked, 64); AT(huz_checked, bounds, 16); AT(huz_checked, count, 56);
 ANSWER(huz_ranked, 24); AT(huz_ranked, serial, 16);
 ANSWER(huz_stepped, 40); AT(huz_stepped, composition, 16);
 ANSWER(huz_opened, 104); AT(huz_opened, ledger, 16);
-ANSWER(huz_answer, 48); AT(huz_answer, serial, 16); AT(huz_answer, composition, 24);
+ANSWER(huz_peeked, 48); AT(huz_peeked, serial, 16); AT(huz_peeked, composition, 24);
 ANSWER(huz_claimed, 136); AT(huz_claimed, serial, 16); AT(huz_claimed, composition, 24); AT(huz_claimed, ledger, 48);
 
 static int failed;
@@ -39,7 +39,7 @@ int main(void) {
     expect(checked.number == 0 && checked.count == 6 && bounds.parts == 3 && is(bounds.upper, 3, 2, 1) && bounds.total == 3, "huz_check");
     huz_ranked ranked = huz_rank(upper, 3, 3, composition, 3);
     expect(ranked.number == 0 && ranked.serial == 2, "huz_rank");
-    huz_refusal refusal = huz_unrank(upper, 3, 3, 4, out, 3);
+    huz_done refusal = huz_unrank(upper, 3, 3, 4, out, 3);
     expect(refusal.number == 0 && is(out, 0, 2, 1), "huz_unrank");
     huz_stepped stepped = huz_successor(upper, 3, 3, composition, 3);
     expect(stepped.number == 0 && is(stepped.composition, 1, 2, 0), "huz_successor");
@@ -56,7 +56,7 @@ int main(void) {
     uint32_t orders[2] = {5, 5};
     huz_opened opened = huz_open(two, 2, 1, orders, 2);
     expect(opened.number == 0 && opened.ledger.entries == 0 && is(opened.ledger.next, 1, 0, 0), "huz_open");
-    huz_answer answer = huz_peek(opened.ledger, orders, 2);
+    huz_peeked answer = huz_peek(opened.ledger, orders, 2);
     expect(answer.number == 0 && answer.serial == 1 && is(answer.composition, 1, 0, 0), "huz_peek");
     huz_claimed claimed = huz_claim(opened.ledger, orders, 2, 1, 1007);
     expect(claimed.number == 0 && claimed.serial == 1 && orders[0] == 1007 && claimed.ledger.sold == 1, "huz_claim");
