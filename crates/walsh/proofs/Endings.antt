@@ -2,7 +2,7 @@
 use mathlib.Core.Path.{_≡_, refl, sym, ap, _∙_, subst}
 use mathlib.Core.List.{List, [], _++_, append-nil}
 use Prim.Native.Nat.{ℕ, zero, suc, _+_, _-_, _≤_, _<_}
-use native.Mathlib.Nat.{add-zero, add-suc}
+use native.Mathlib.Nat.{add-zero, add-suc, zero-add, sub-self}
 use native.Mathlib.Omega.{arith}
 use lib.ListN.{length, getD, take, drop, take-append-drop}
 use lib.Seq.{getD-drop, drop-cons, drop-at, drop-length, append-snoc}
@@ -10,20 +10,16 @@ use Rattle.walsh.specs.Sums.{sumTo}
 use Rattle.walsh.specs.Order.{CompositionTo, Composition, listing, order, count}
 use Rattle.walsh.specs.Ending.{Together}
 use Rattle.walsh.specs.Rank.{rankOf}
-use Rattle.walsh.proofs.Lists.{sum-mono}
 use Rattle.walsh.proofs.Listing.{length-listing, spot-lt, spot-at, earlier, inner}
-use Rattle.walsh.proofs.Complete.{composition-low, composition-high, sound, rank-lt, rank-at, complete, once}
+use Rattle.walsh.proofs.Complete.{composition-low, composition-high, composition-to, composition-within}
+use Rattle.walsh.proofs.Complete.{sound, rank-lt, rank-at, entry-composition, once}
 
 -- the sum of the first k + j parts, by the ending from k on
 sumTo-drop : (g : List ℕ) (k j : ℕ) → sumTo g (k + j) ≡ sumTo g k + sumTo (drop k g) j
-sumTo-drop g k zero = rw add-zero (sym (add-zero (sumTo g k)))
+sumTo-drop g k zero = rw (add-zero k) (sym (add-zero (sumTo g k)))
 sumTo-drop g k (suc j) = rw add-suc (omega (arith, sumTo-drop g k j, getD-drop k g j 0))
 
 module _ (ms : List ℕ) (r : ℕ) where
-  -- the first k parts of a composition
-  prefix : (g : List ℕ) → Composition ms r g → (k : ℕ) → k ≤ length ms → CompositionTo ms k (sumTo g k) g
-  prefix g valid k h = record { fits = λ i l. valid .parts .fits i (omega arith); sums = refl }
-
   module _ (g : List ℕ) (valid : Composition ms r g) where
     record Inside (k : ℕ) : Type 0 where
       start : ℕ
@@ -38,16 +34,10 @@ module _ (ms : List ℕ) (r : ℕ) where
           start = 0;
           at = λ s l. (
             omega (arith, length-listing ms (length ms) r 0, ap (count ms (length ms)) (valid .parts .sums)),
-            rw (valid .parts .sums, none, ended, append-nil) (ap (λ (p : ℕ). getD (listing ms (length ms) r 0) p []) (sum-zero s)),
+            rw (valid .parts .sums, sub-self r, ended, append-nil, zero-add s),
           );
         }
       where
-        none : r - r ≡ 0
-        none = omega arith
-
-        sum-zero : (s : ℕ) → 0 + s ≡ s
-        sum-zero s = omega arith
-
         ended : drop (length ms) g ≡ []
         ended = rw (← (valid .size)) (drop-length g)
 
@@ -66,13 +56,13 @@ module _ (ms : List ℕ) (r : ℕ) where
         v = getD g k 0
 
         c : CompositionTo ms (suc k) rem g
-        c = prefix g valid (suc k) h
+        c = composition-to valid (suc k) h
 
         left : rem - v ≡ sumTo g k
         left = omega arith
 
         right : t + v ≡ r - sumTo g k
-        right = omega (arith, valid .parts .sums, sum-mono (λ i. getD g i 0) (suc k) (length ms) h)
+        right = omega (arith, composition-within valid (suc k) h)
 
         -- place s of the block, in the listing of one part more
         deeper : (s : ℕ) → s < count ms k (sumTo g k) → earlier ms k rem t v + s < count ms (suc k) rem
@@ -105,10 +95,11 @@ module _ (ms : List ℕ) (r : ℕ) where
 
     -- an entry h that ends as g does stands at the place of its first k parts in the interval
     module _ (k : ℕ) (l : k ≤ length ms) (here : Inside k) where
-      only : (p : ℕ) → p < length (order ms r) → drop k (getD (order ms r) p []) ≡ drop k g → (here .start ≤ p) × (p < here .start + count ms k (sumTo g k))
+      only : (p : ℕ) → p < length (order ms r) → drop k (getD (order ms r) p []) ≡ drop k g
+          → (here .start ≤ p) × (p < here .start + count ms k (sumTo g k))
       only p inside-p e =
           let h : List ℕ = getD (order ms r) p [] in
-          let ch : Composition ms r h = (complete ms r h) .1 (p, inside-p, refl) in
+          let ch : Composition ms r h = entry-composition ms r p inside-p in
           let rem : ℕ = sumTo g k in
           let t : ℕ = r - rem in
           let j : ℕ = length ms - k in
@@ -139,7 +130,7 @@ module _ (ms : List ℕ) (r : ℕ) where
       → drop k (getD (order ms r) s []) ≡ drop k (getD (order ms r) p [])
   between k p q s l ps sq inside-q e =
       let g : List ℕ = getD (order ms r) p [] in
-      let valid : Composition ms r g = (complete ms r g) .1 (p, omega arith, refl) in
+      let valid : Composition ms r g = entry-composition ms r p (omega arith) in
       let here : Together ms r g k = together g valid k l in
       let from = here .only p (omega arith) refl in
       let to = here .only q inside-q (sym e) in

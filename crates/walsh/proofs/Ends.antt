@@ -12,7 +12,8 @@ use Rattle.walsh.specs.Order.{isOdd, least, most, choices, partChoices, 
 use Rattle.walsh.specs.Rank.{indexOf, partIndex, blockSize}
 use Rattle.walsh.specs.Step.{firstValue, lastValue, nextValue, partFirst, partLast, firstOf}
 use Rattle.walsh.proofs.Lists.{isOdd-suc-suc, value-index}
-use Rattle.walsh.proofs.Listing.{length-listing, count-blocks, listing-reverse, listing-zero, listing-zero-length, spot-lt, spot-at, earlier, inner}
+use Rattle.walsh.proofs.Listing.{length-listing, count-blocks, listing-reverse, listing-zero, listing-zero-length}
+use Rattle.walsh.proofs.Listing.{spot-lt, spot-at, earlier, inner}
 
 -- ---- first, last and next value
 
@@ -41,7 +42,8 @@ module _ (lo hi : ℕ) where
   next-high true v high ne = omega arith
   next-high false v high ne = omega arith
 
-  next-index : (odd : Bool) (v : ℕ) → lo ≤ v → v ≤ hi → (v ≡ lastValue lo hi odd → ⊥) → indexOf lo hi odd (nextValue odd v) ≡ suc (indexOf lo hi odd v)
+  next-index : (odd : Bool) (v : ℕ) → lo ≤ v → v ≤ hi → (v ≡ lastValue lo hi odd → ⊥)
+      → indexOf lo hi odd (nextValue odd v) ≡ suc (indexOf lo hi odd v)
   next-index true v low high ne = omega arith
   next-index false v low high ne = omega arith
 
@@ -104,7 +106,8 @@ getD-reverse (x ∷ xs) i (suc j) e =
     rw (reverse-cons x xs)
     (List·getD-append (reverse xs) (x ∷ []) [] i (omega (arith, length-reverse xs)) ∙ getD-reverse xs i j (omega arith))
 
-pub last-at : (ms : List ℕ) (k rem t s : ℕ) → rem ≤ sumTo ms k → suc s ≡ length (listing ms k rem t) → getD (listing ms k rem t) s [] ≡ firstOf ms k rem (suc t)
+pub last-at : (ms : List ℕ) (k rem t s : ℕ) → rem ≤ sumTo ms k → suc s ≡ length (listing ms k rem t)
+    → getD (listing ms k rem t) s [] ≡ firstOf ms k rem (suc t)
 last-at ms k rem t s h e =
     sym (getD-reverse (listing ms k rem t) 0 s (omega arith))
     ∙ ap (λ (l : List (List ℕ)). getD l 0 []) (sym (listing-reverse ms k rem t))
