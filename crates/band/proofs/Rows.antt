@@ -35,7 +35,7 @@ module _ (ms : List ℕ) (r k : ℕ) (reach : r ≤ whole ms) (k-lt : k < length
     pub row-ends : (row .low ≤ row .high) × (row .high ≤ r)
     row-ends = (rw (i .low, i .high) row-low, rw (i .high) (omega arith))
 
-    pub row-width : row .high + 1 - row .low ≡ width ms r k
+    row-width : row .high + 1 - row .low ≡ width ms r k
     row-width = rw (i .high, i .low, add-one)
 
     pub row-fits : row .left + getD ms k 0 ≤ row .all

@@ -76,7 +76,7 @@ module _ (ms : List ℕ) (r : ℕ) where
     mono = sumTo-mono ms (suc k) (length ms) k-lt
 
     -- where the window is whole it is the number of compositions
-    pub slid-is : lowest ms r (suc k) ≤ t → w ≡ count ms (suc k) t
+    slid-is : lowest ms r (suc k) ≤ t → w ≡ count ms (suc k) t
     slid-is l =
         let e = sum-at (count ms k) (max (lowest ms r k) (t + 1 - (getD ms k 0 + 1))) (t - getD ms k 0) (latest (lowest ms r k) t (getD ms k 0) (low-before (sumTo ms k) (getD ms k 0) t mono l)) in
         let c = count-window ms k t in
@@ -115,7 +115,7 @@ module _ (ms : List ℕ) (r : ℕ) where
       join : {a a′ b c d : ℕ} → w + a ≡ c → d ≡ c → a ≡ b → a′ ≡ b → w + a′ ≡ d
       join p q e e′ = omega arith
 
-  pub slid-start : (k : ℕ) → Slid ms r k (lowest ms r k) 0
+  slid-start : (k : ℕ) → Slid ms r k (lowest ms r k) 0
   slid-start k = let e = sum-at (count ms k) (max (lowest ms r k) (lowest ms r k - (getD ms k 0 + 1))) (lowest ms r k) (omega arith) in omega arith
 
 pub slid-done : (ms : List ℕ) (r k t w : ℕ) → k < length ms → r ≤ whole ms → Slid ms r k (t + 1) w → lowest ms r (k + 1) ≤ t → w ≡ count ms (k + 1) t

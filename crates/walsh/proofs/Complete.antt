@@ -3,7 +3,7 @@ use mathlib.Core.Path.{_≡_, refl, sym, ap, _∙_, subst}
 use mathlib.Core.Logic.{_↔_}
 use mathlib.Core.List.{List, [], _∷_, _++_}
 use Prim.Native.Nat.{ℕ, zero, suc, _+_, _-_, _≤_, _<_}
-use native.Mathlib.Nat.{not-suc-le-zero, le-of-suc-le-suc, le-refl, zero-add, add-zero, add-suc, suc-add}
+use native.Mathlib.Nat.{not-suc-le-zero, le-of-suc-le-suc, le-refl, zero-add, add-zero, sub-zero, sub-self}
 use native.Mathlib.Omega.{arith}
 use lib.ListN.{length, getD, take, length-append, List·getD-append}
 use lib.Seq.{getD-at, take-suc, take-length}
@@ -12,7 +12,7 @@ use Rattle.walsh.specs.Sums.{sum, sumTo}
 use Rattle.walsh.specs.Order.{CompositionTo, Composition, isOdd, least, most, partValue, partChoices, listing, order, count}
 use Rattle.walsh.specs.Rank.{partIndex, blockSize, rankOf, blockOf, unrankOf}
 use Rattle.walsh.proofs.Cases.{up-to}
-use Rattle.walsh.proofs.Lists.{snoc-inj, sum-same, sum-le, sumTo-mono, sum-front, index-lt, value-index}
+use Rattle.walsh.proofs.Lists.{snoc-inj, sum-same, sum-le, sum-mono, sumTo-mono, index-lt, value-index}
 use Rattle.walsh.proofs.Listing.{length-listing, listing-zero, listing-zero-length, Spot, spot, spot-lt, spot-at, spot-item, inner}
 
 -- ---- compositions, by the last part and the parts before it
@@ -108,26 +108,22 @@ module _ (f : ℕ → ℕ) where
   unfolding blockOf
   block-later i n s l = rw (le-ltb s (f i) l, blockOf)
 
-  block-found : (i n j s : ℕ) → j < n → s < f (i + j) → blockOf f i n (sum (λ u. f (i + u)) j + s) ≡ (i + j, s)
+  block-found : (i n j s : ℕ) → j < n → s < f (i + j) → blockOf f i n (sum f (i + j) - sum f i + s) ≡ (i + j, s)
   block-found i zero j s h l = absurd (not-suc-le-zero h)
-  block-found i (suc n) zero s h l = rw (zero-add, add-zero) (block-here i n s (rw add-zero at l))
+  block-found i (suc n) zero s h l = rw (add-zero, sub-self, zero-add) (block-here i n s (rw add-zero at l))
   block-found i (suc n) (suc j) s h l =
-      let first : f (i + 0) ≡ f i = ap f (add-zero i) in
-      let shift : sum (λ u. f (i + suc u)) j ≡ sum (λ u. f (suc i + u)) j =
-      sum-same (λ u. f (i + suc u)) (λ u. f (suc i + u)) j (λ u b. ap f (add-suc i u ∙ sym (suc-add i u))) in
-      let p : ℕ = sum (λ u. f (i + u)) (suc j) + s in
-      let rest : p - f i ≡ sum (λ u. f (suc i + u)) j + s = omega (arith, sum-front (λ u. f (i + u)) j) in
+      let p : ℕ = sum f (i + suc j) - sum f i + s in
       let next : suc i + j ≡ i + suc j = omega arith in
-      block-later i n p (omega (arith, sum-front (λ u. f (i + u)) j))
+      let past : sum f (suc i) ≤ sum f (i + suc j) = sum-mono f (suc i) (i + suc j) (omega arith) in
+      let rest : p - f i ≡ sum f (suc i + j) - sum f (suc i) + s = rw next (omega arith) in
+      block-later i n p (omega arith)
       ∙ ap (blockOf f (suc i) n) rest
       ∙ block-found (suc i) n j s (le-of-suc-le-suc h) (rw next l)
       ∙ rw next
 
   -- place s of block j of n blocks
   block-at : (n j s : ℕ) → j < n → s < f j → blockOf f 0 n (sum f j + s) ≡ (j, s)
-  block-at n j s h l =
-      let same : sum f j ≡ sum (λ u. f (0 + u)) j = sum-same f (λ u. f (0 + u)) j (λ u b. ap f (sym (zero-add u))) in
-      ap (λ (m : ℕ). blockOf f 0 n (m + s)) same ∙ block-found 0 n j s h (rw zero-add l) ∙ rw zero-add
+  block-at n j s h l = rw (zero-add, sub-zero) at (block-found 0 n j s h (rw zero-add l))
 
 pub unrank-at : (ms : List ℕ) (k rem t p : ℕ) → p < length (listing ms k rem t) → getD (listing ms k rem t) p [] ≡ unrankOf ms k rem t p
 unfolding unrankOf

@@ -1,8 +1,8 @@
 -- Compositions with the same ending stand together.
 use mathlib.Core.Path.{_≡_, refl, sym, ap, _∙_, subst}
-use mathlib.Core.List.{List, [], _++_, append-nil}
+use mathlib.Core.List.{List, [], _∷_, _++_, append-nil}
 use Prim.Native.Nat.{ℕ, zero, suc, _+_, _-_, _≤_, _<_}
-use native.Mathlib.Nat.{add-zero, add-suc, zero-add, sub-self}
+use native.Mathlib.Nat.{add-zero, add-suc, add-assoc, zero-add, sub-self}
 use native.Mathlib.Omega.{arith}
 use lib.ListN.{length, getD, take, drop, take-append-drop}
 use lib.Seq.{getD-drop, drop-cons, drop-at, drop-length, append-snoc}
@@ -44,50 +44,25 @@ module _ (ms : List ℕ) (r : ℕ) where
     -- one part more in the ending: the block of its value
     inside-next : (k : ℕ) → k < length ms → Inside (suc k) → Inside k
     inside-next k h below =
-        record { start = below .start + earlier ms k rem t v; at = λ s l. (within s l, entry s l) }
-      where
-        rem : ℕ
-        rem = sumTo g (suc k)
-
-        t : ℕ
-        t = r - rem
-
-        v : ℕ
-        v = getD g k 0
-
-        c : CompositionTo ms (suc k) rem g
-        c = composition-to valid (suc k) h
-
-        left : rem - v ≡ sumTo g k
-        left = omega arith
-
-        right : t + v ≡ r - sumTo g k
-        right = omega (arith, composition-within valid (suc k) h)
-
-        -- place s of the block, in the listing of one part more
-        deeper : (s : ℕ) → s < count ms k (sumTo g k) → earlier ms k rem t v + s < count ms (suc k) rem
-        deeper s l =
-            let l′ : s < length (inner ms k rem t v) = rw (length-listing, left) l in
-            rw length-listing at (spot-lt ms k rem t v s (composition-low c) (composition-high c) l′)
-
-        on : (s : ℕ) → below .start + earlier ms k rem t v + s ≡ below .start + (earlier ms k rem t v + s)
-        on s = omega arith
-
-        within : (s : ℕ) → s < count ms k (sumTo g k) → below .start + earlier ms k rem t v + s < length (order ms r)
-        within s l = rw (on s) ((below .at (earlier ms k rem t v + s) (deeper s l)) .0)
-
-        entry : (s : ℕ) → s < count ms k (sumTo g k)
-            → getD (order ms r) (below .start + earlier ms k rem t v + s) [] ≡ getD (listing ms k (sumTo g k) (r - sumTo g k)) s [] ++ drop k g
-        entry s l =
-            let l′ : s < length (inner ms k rem t v) = rw (length-listing, left) l in
-            let x : List ℕ = getD (inner ms k rem t v) s [] in
-            ap (λ (p : ℕ). getD (order ms r) p []) (on s)
-            ∙ (below .at (earlier ms k rem t v + s) (deeper s l)) .1
-            ∙ ap (λ (y : List ℕ). y ++ drop (suc k) g) (spot-at ms k rem t v s (composition-low c) (composition-high c) l′)
-            ∙ append-snoc x v (drop (suc k) g)
-            ∙ ap (λ (y : List ℕ). x ++ y) (sym (drop-cons g k 0 (omega (arith, valid .size))))
-            ∙ ap (λ (m : ℕ). getD (listing ms k m (t + v)) s [] ++ drop k g) left
-            ∙ ap (λ (m : ℕ). getD (listing ms k (sumTo g k) m) s [] ++ drop k g) right
+        let rem : ℕ = sumTo g (suc k) in
+        let t : ℕ = r - rem in
+        let v : ℕ = getD g k 0 in
+        let c : CompositionTo ms (suc k) rem g = composition-to valid (suc k) h in
+        let left : rem - v ≡ sumTo g k = omega arith in
+        let right : t + v ≡ r - sumTo g k = omega (arith, composition-within valid (suc k) h) in
+        let ends : drop k g ≡ v ∷ drop (suc k) g = drop-cons g k 0 (omega (arith, valid .size)) in
+        record {
+          start = below .start + earlier ms k rem t v;
+          at = λ s l.
+              let l′ : s < length (inner ms k rem t v) = rw (length-listing, left) l in
+              let p : ℕ = earlier ms k rem t v + s in
+              let p-lt : p < count ms (suc k) rem = rw length-listing at (spot-lt ms k rem t v s (composition-low c) (composition-high c) l′) in
+              let x : List ℕ = getD (inner ms k rem t v) s [] in
+              let whole : getD (listing ms (suc k) rem t) p [] ++ drop (suc k) g ≡ x ++ drop k g =
+              rw (spot-at ms k rem t v s (composition-low c) (composition-high c) l′, ends) (append-snoc x v (drop (suc k) g)) in
+              let found = below .at p p-lt in
+              rw (add-assoc (below .start) (earlier ms k rem t v) s) (found .0, found .1 ∙ whole ∙ rw (left, right));
+        }
 
     inside : (j k : ℕ) → k + j ≡ length ms → Inside k
     inside zero k e = subst Inside (sym (sym (add-zero k) ∙ e)) inside-all

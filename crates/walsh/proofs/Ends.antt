@@ -58,29 +58,31 @@ module _ (ms : List ℕ) (k rem : ℕ) where
   pub rest-fits : (v : ℕ) → least ms k rem ≤ v → rem - v ≤ sumTo ms k
   rest-fits v h = omega arith
 
-pub first-lt : (ms : List ℕ) (k rem t : ℕ) → rem ≤ sumTo ms k → 0 < length (listing ms k rem t)
-first-lt ms zero rem t h = omega (arith, listing-zero-length ms rem t (omega arith))
-first-lt ms (suc k) rem t h =
-    let lo = least ms k rem in
-    let hi = most ms k rem in
-    let v = partFirst ms k rem t in
-    let some : lo ≤ hi = some-value ms k rem h in
-    let low : lo ≤ v = first-low lo hi (isOdd t) some in
-    rw (first-index lo hi (isOdd t)) at
-    (spot-lt ms k rem t v 0 low (first-high lo hi (isOdd t) some) (first-lt ms k (rem - v) (t + v) (rest-fits ms k rem v low)))
-
-pub first-at : (ms : List ℕ) (k rem t : ℕ) → rem ≤ sumTo ms k → getD (listing ms k rem t) 0 [] ≡ firstOf ms k rem t
+first-entry : (ms : List ℕ) (k rem t : ℕ) → rem ≤ sumTo ms k
+    → (0 < length (listing ms k rem t)) × (getD (listing ms k rem t) 0 [] ≡ firstOf ms k rem t)
 unfolding firstOf
-first-at ms zero rem t h = (listing-zero ms rem t 0 (omega (arith, listing-zero-length ms rem t (omega arith)))) .2
-first-at ms (suc k) rem t h =
+first-entry ms zero rem t h =
+    let some : 0 < length (listing ms zero rem t) = omega (arith, listing-zero-length ms rem t (omega arith)) in
+    (some, listing-zero ms rem t 0 some .2)
+first-entry ms (suc k) rem t h =
     let lo = least ms k rem in
     let hi = most ms k rem in
     let v = partFirst ms k rem t in
     let some : lo ≤ hi = some-value ms k rem h in
     let low : lo ≤ v = first-low lo hi (isOdd t) some in
-    ap (λ (i : ℕ). getD (listing ms (suc k) rem t) (sum (blockSize ms k rem t) i + 0) []) (sym (first-index lo hi (isOdd t)))
-    ∙ spot-at ms k rem t v 0 low (first-high lo hi (isOdd t) some) (first-lt ms k (rem - v) (t + v) (rest-fits ms k rem v low))
-    ∙ rw (first-at ms k (rem - v) (t + v) (rest-fits ms k rem v low))
+    let high : v ≤ hi = first-high lo hi (isOdd t) some in
+    let none : earlier ms k rem t v + 0 ≡ 0 = rw (first-index lo hi (isOdd t)) in
+    let below = first-entry ms k (rem - v) (t + v) (rest-fits ms k rem v low) in (
+      rw none at (spot-lt ms k rem t v 0 low high (below .0)),
+      (rw none at (spot-at ms k rem t v 0 low high (below .0))) ∙ rw (below .1),
+    )
+
+module _ (ms : List ℕ) (k rem t : ℕ) (h : rem ≤ sumTo ms k) where
+  pub first-lt : 0 < length (listing ms k rem t)
+  first-lt = first-entry ms k rem t h .0
+
+  pub first-at : getD (listing ms k rem t) 0 [] ≡ firstOf ms k rem t
+  first-at = first-entry ms k rem t h .1
 
 pub length-first : (ms : List ℕ) (k rem t : ℕ) → length (firstOf ms k rem t) ≡ k
 unfolding firstOf

@@ -16,12 +16,12 @@ use Rattle.walsh.specs.Order.{CompositionTo, Composition, isOdd, least, 
 use Rattle.walsh.specs.Neighbours.{Neighbours, Adjacent}
 use Rattle.walsh.specs.Rank.{rankOf}
 use Rattle.walsh.specs.Step.{firstValue, lastValue, nextValue, partFirst, firstOf}
-use Rattle.walsh.specs.Step.{AtLast, Pivot, stepAt, raisedPart, otherPart, gainPart, lossPart}
+use Rattle.walsh.specs.Step.{Pivot, stepAt, raisedPart, otherPart, gainPart, lossPart}
 use Rattle.walsh.proofs.Listing.{inner}
 use Rattle.walsh.proofs.Complete.{composition-low, composition-high, composition-prefix, composition-to, composition-within}
 use Rattle.walsh.proofs.Complete.{rank-at, entry-composition, entry-rank}
 use Rattle.walsh.proofs.Ends.{length-first, last-at, first-period, next-low, next-high, rest-fits}
-use Rattle.walsh.proofs.Steps.{step-last, find-pivot, succ-last, succ-at}
+use Rattle.walsh.proofs.Steps.{step-last, LastOrPivot, find-pivot, succ-last, succ-at}
 
 -- ---- two lists with a number in the middle, g ++ x ∷ d and h ++ y ∷ d, cell by cell
 
@@ -144,25 +144,20 @@ raise : (ms : List ℕ) (k rem t : ℕ) → suc rem ≤ sumTo ms k → Raises ms
 raise ms zero rem t h = absurd (not-suc-le-zero h)
 raise ms (suc k) rem t h = go (λ ρ τ l. raise ms k ρ τ l) (value-step ms k rem (isOdd t) h)
   where
-    v : ℕ
-    v = now ms k rem t
-
-    ρ : ℕ
-    ρ = rem - v
-
-    τ : ℕ
-    τ = t + v
-
     go : ((ρ τ : ℕ) → suc ρ ≤ sumTo ms k → Raises ms k ρ τ) → ValueStep ms k rem (now ms k rem t) (then ms k rem t) → Raises ms (suc k) rem t
     go below (inl (e, l, f)) =
+        let v : ℕ = now ms k rem t in
+        let ρ : ℕ = rem - v in
+        let τ : ℕ = t + v in
         let b = below ρ τ f in
         let size = length-first ms k ρ τ in
         let size′ = length-first ms k (suc ρ) τ in
         rw (part-same ms k rem t e, first-now ms k rem t, first-same ms k rem t e l)
         (omega (arith, b .0), raised-front (firstOf ms k ρ τ) (firstOf ms k (suc ρ) τ) k v (raisedPart ms k ρ τ) size size′ (b .0) (b .1))
     go below (inr (e, rest)) =
+        let v : ℕ = now ms k rem t in
         rw (part-more ms k rem t e, first-now ms k rem t, first-more ms k rem t e rest)
-        (le-refl (suc k), raised-last (firstOf ms k ρ τ) k v (length-first ms k ρ τ))
+        (le-refl (suc k), raised-last (firstOf ms k (rem - v) (t + v)) k v (length-first ms k (rem - v) (t + v)))
 
 -- ---- one unit from one part to another
 
@@ -178,30 +173,21 @@ neighbours-sym n =
 -- from v to v + 1 at part i, the parts to its left being the first composition of ρ + 1 and then that of ρ: one of them has one fewer
 trade : (ms : List ℕ) (i ρ τ v : ℕ) (d : List ℕ) → suc ρ ≤ sumTo ms i
     → (raisedPart ms i ρ τ < i) × Neighbours (firstOf ms i (suc ρ) τ ++ (v ∷ d)) (firstOf ms i ρ τ ++ (suc v ∷ d)) i (raisedPart ms i ρ τ)
-trade ms i ρ τ v d fits = (
-  up .0,
-  record {
-    apart = λ e. omega (arith, up .0);
-    gained = rw (getD-at g v d 0 i eg, getD-at h (suc v) d 0 i eh);
-    lost = rw (left-cell g (v ∷ d) i (raisedPart ms i ρ τ) eg (up .0), left-cell h (suc v ∷ d) i (raisedPart ms i ρ τ) eh (up .0)) (up .1 .at);
-    others = λ j ni nq. same-cell h g d (suc v) v j (eh ∙ sym eg) (λ l. sym (up .1 .others j nq)) (λ q. absurd (ni (q ∙ eh)));
-  },
-)
-  where
-    g : List ℕ
-    g = firstOf ms i (suc ρ) τ
-
-    h : List ℕ
-    h = firstOf ms i ρ τ
-
-    eg : length g ≡ i
-    eg = length-first ms i (suc ρ) τ
-
-    eh : length h ≡ i
-    eh = length-first ms i ρ τ
-
-    up : Raises ms i ρ τ
-    up = raise ms i ρ τ fits
+trade ms i ρ τ v d fits =
+    let g : List ℕ = firstOf ms i (suc ρ) τ in
+    let h : List ℕ = firstOf ms i ρ τ in
+    let eg : length g ≡ i = length-first ms i (suc ρ) τ in
+    let eh : length h ≡ i = length-first ms i ρ τ in
+    let q : ℕ = raisedPart ms i ρ τ in
+    let up : Raises ms i ρ τ = raise ms i ρ τ fits in (
+      up .0,
+      record {
+        apart = λ e. omega (arith, up .0);
+        gained = rw (getD-at g v d 0 i eg, getD-at h (suc v) d 0 i eh);
+        lost = rw (left-cell g (v ∷ d) i q eg (up .0), left-cell h (suc v ∷ d) i q eh (up .0)) (up .1 .at);
+        others = λ j ni nq. same-cell h g d (suc v) v j (eh ∙ sym eg) (λ l. sym (up .1 .others j nq)) (λ e. absurd (ni (e ∙ eh)));
+      },
+    )
 
 -- of numbers alone: beside the bounds `omega` has too many cases
 room : (held rem v : ℕ) → rem - held ≤ v → v < rem → suc (rem - suc v) ≤ held
@@ -299,8 +285,7 @@ gray ms r s h = go (find-pivot ms r g (length ms))
     at : rankOf ms (length ms) r 0 g ≡ s
     at = entry-rank ms r s (omega arith)
 
-    go : ((j : ℕ) → j < length ms → AtLast ms r g j) ⊎ ((i : ℕ) × (i < length ms) × Pivot ms r g i)
-        → Adjacent (length ms) g (getD (order ms r) (suc s) [])
+    go : LastOrPivot ms r g (length ms) → Adjacent (length ms) g (getD (order ms r) (suc s) [])
     go (inl done) = absurd (omega (arith, succ-last ms r g valid done, at))
     go (inr (i, l, pivot)) =
         let m = composition-neighbours ms r g valid i l pivot in

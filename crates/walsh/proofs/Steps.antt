@@ -129,13 +129,14 @@ step-next ms (suc k) rem t r g er c l i h pivot =
 -- ---- in the order
 
 -- among the first k parts of g every one is at its last value, or one is the pivot
-pub find-pivot : (ms : List ℕ) (r : ℕ) (g : List ℕ) (k : ℕ) → ((j : ℕ) → j < k → AtLast ms r g j) ⊎ ((i : ℕ) × (i < k) × Pivot ms r g i)
+abbrev pub LastOrPivot : List ℕ → ℕ → List ℕ → ℕ → Type 0
+LastOrPivot ms r g k = ((j : ℕ) → j < k → AtLast ms r g j) ⊎ ((i : ℕ) × (i < k) × Pivot ms r g i)
+
+pub find-pivot : (ms : List ℕ) (r : ℕ) (g : List ℕ) (k : ℕ) → LastOrPivot ms r g k
 find-pivot ms r g zero = inl (λ j l. absurd (not-suc-le-zero l))
 find-pivot ms r g (suc k) = go (find-pivot ms r g k) (ℕ-discrete (getD g k 0) (partLast ms k (sumTo g (suc k)) (r - sumTo g (suc k))))
   where
-    go : ((j : ℕ) → j < k → AtLast ms r g j) ⊎ ((i : ℕ) × (i < k) × Pivot ms r g i)
-        → Dec (AtLast ms r g k)
-        → ((j : ℕ) → j < suc k → AtLast ms r g j) ⊎ ((i : ℕ) × (i < suc k) × Pivot ms r g i)
+    go : LastOrPivot ms r g k → Dec (AtLast ms r g k) → LastOrPivot ms r g (suc k)
     go (inr (i, l, p)) d = inr (i, omega arith, p)
     go (inl done) (yes e) = inl (up-to (AtLast ms r g) e done)
     go (inl done) (no ne) = inr (k, le-refl (suc k), record { done = done; moves = ne })
@@ -144,7 +145,7 @@ find-pivot ms r g (suc k) = go (find-pivot ms r g k) (ℕ-discrete (getD g k 0) 
 pub no-pivot : (ms : List ℕ) (r : ℕ) (g : List ℕ) (k : ℕ) → ((i : ℕ) → i < k → Pivot ms r g i → ⊥) → (j : ℕ) → j < k → AtLast ms r g j
 no-pivot ms r g k none = go (find-pivot ms r g k)
   where
-    go : ((j : ℕ) → j < k → AtLast ms r g j) ⊎ ((i : ℕ) × (i < k) × Pivot ms r g i) → (j : ℕ) → j < k → AtLast ms r g j
+    go : LastOrPivot ms r g k → (j : ℕ) → j < k → AtLast ms r g j
     go (inl done) = done
     go (inr (i, h, pivot)) = absurd (none i h pivot)
 

@@ -14,12 +14,6 @@ use Rattle.walsh.proofs.Lists.{sum-mono}
 pub sum-at : (f : ℕ → ℕ) (a b : ℕ) → a ≡ b → sum f a ≡ sum f b
 sum-at f a b e = ap {A = ℕ} {B = ℕ} (sum f) {x = a} {y = b} e
 
-pub sum-zero : (f : ℕ → ℕ) → sum f 0 ≡ 0
-sum-zero f = refl
-
-pub sum-suc : (f : ℕ → ℕ) (n : ℕ) → sum f (suc n) ≡ sum f n + f n
-sum-suc f n = refl
-
 pub sum-step : (f : ℕ → ℕ) (n : ℕ) → sum f (n + 1) ≡ sum f n + f n
 sum-step f n = rw add-one
 
@@ -27,11 +21,11 @@ sum-step f n = rw add-one
 window : (f : ℕ → ℕ) (t n : ℕ) → n ≤ t + 1 → sum (λ v. f (t - v)) n + sum f (t + 1 - n) ≡ sum f (t + 1)
 window f t zero l =
     let e = sum-at f (t + 1 - 0) (t + 1) (omega arith) in
-    omega (arith, sum-zero (λ v. f (t - v)))
+    omega arith
 window f t (suc n) l =
     let e = sum-at f (t + 1 - n) (t - n + 1) (omega arith) in
     let e′ = sum-at f (t + 1 - suc n) (t - n) (omega arith) in
-    omega (arith, window f t n (omega arith), sum-step f (t - n), sum-suc (λ v. f (t - v)) n)
+    omega (arith, window f t n (omega arith), sum-step f (t - n))
 
 -- ---- counts
 
