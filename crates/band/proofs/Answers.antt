@@ -49,7 +49,7 @@ module _ (ms : List ℕ) (r : ℕ) where
   unfolding numberOf
   number-refused n d e l = rw (by-refusal edition _ _ n d e l, e)
 
-  pub number-accepted : (n : ℕ) → edition ≡ refused 0 0 → n ≡ countOf ms r → record { number = 0; detail = 0; count = n } ≡ numberOf ms r
+  number-accepted : (n : ℕ) → edition ≡ refused 0 0 → n ≡ countOf ms r → record { number = 0; detail = 0; count = n } ≡ numberOf ms r
   unfolding numberOf
   number-accepted n e en = rw (by-acceptance edition _ _ (rw e), en)
 

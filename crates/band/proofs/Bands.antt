@@ -7,8 +7,8 @@ use native.Mathlib.Numerals.{add-one}
 use lib.ListN.{length, getD}
 use Rattle.walsh.specs.Sums.{sumTo}
 use Rattle.walsh.specs.Order.{count, least, most, isOdd, partValue, partChoices}
-use Rattle.walsh.proofs.Lists.{sum-mono, value-low, value-high}
-use Rattle.walsh.proofs.Window.{sum-to-mono, count-grows}
+use Rattle.walsh.proofs.Lists.{sum-mono, sumTo-mono, value-low, value-high}
+use Rattle.walsh.proofs.Window.{count-grows}
 use Rattle.bounds.specs.Edition.{whole}
 use Rattle.band.specs.Band.{InBand, lowest, highest, width, rowStart, bandSize, cellIndex}
 
@@ -16,7 +16,7 @@ module _ (ms : List ℕ) (r : ℕ) where
   -- the next part takes as much as it can of what is missing
   band-up : (k t : ℕ) → k < length ms → InBand ms r k t → InBand ms r (suc k) (t + min (getD ms k 0) (r - t))
   band-up k t l b =
-      let m = sum-to-mono ms (suc k) (length ms) l in
+      let m = sumTo-mono ms (suc k) (length ms) l in
       record { low = omega (arith, b .low, b .high); high = omega (arith, b .high); inside = omega (arith, b .inside) }
 
   band-whole : (t : ℕ) → InBand ms r (length ms) t → t ≡ r
@@ -38,7 +38,7 @@ module _ (ms : List ℕ) (r : ℕ) where
   -- what a value of part k leaves is in the band again
   pub band-down : (k rem v : ℕ) → k < length ms → InBand ms r (suc k) rem → rem - sumTo ms k ≤ v → v ≤ min (getD ms k 0) rem → InBand ms r k (rem - v)
   band-down k rem v l b low high =
-      let m = sum-to-mono ms (suc k) (length ms) l in
+      let m = sumTo-mono ms (suc k) (length ms) l in
       record { low = omega (arith, b .low, b .high); high = omega (arith, b .high); inside = omega arith }
 
   -- and so is what each of its values in the order leaves
@@ -71,7 +71,7 @@ module _ (ms : List ℕ) (r : ℕ) where
 -- the band's low end does not fall, and is at most its high end
 pub low-high : (ms : List ℕ) (r k : ℕ) → r ≤ whole ms → k < length ms → (lowest ms r (k + 1) ≤ highest ms r (k + 1)) × (lowest ms r k ≤ lowest ms r (k + 1))
 low-high ms r k reach l =
-    let m = sum-to-mono ms (suc k) (length ms) l in
+    let m = sumTo-mono ms (suc k) (length ms) l in
     rw add-one (omega (arith, m), omega arith)
 
 pub whole-band : (ms : List ℕ) (r : ℕ) → r ≤ whole ms → InBand ms r (length ms) r
@@ -79,7 +79,7 @@ whole-band ms r reach = record { low = omega arith; high = omega arith; inside =
 
 -- and rises by no more than the bound
 pub low-next : (ms : List ℕ) (r k : ℕ) → k < length ms → lowest ms r (k + 1) ≤ lowest ms r k + getD ms k 0
-low-next ms r k l = rw add-one (go (whole ms) (sumTo ms k) (getD ms k 0) (sum-to-mono ms (suc k) (length ms) l))
+low-next ms r k l = rw add-one (go (whole ms) (sumTo ms k) (getD ms k 0) (sumTo-mono ms (suc k) (length ms) l))
   where
     go : (n a m : ℕ) → a + m ≤ n → r - (n - (a + m)) ≤ r - (n - a) + m
     go n a m l = omega arith

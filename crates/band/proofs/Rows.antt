@@ -10,8 +10,9 @@ use lib.Seq.{getD-set-same, getD-set-other}
 use Rattle.walsh.specs.Sums.{sumTo}
 use Rattle.walsh.specs.Order.{count}
 use Rattle.walsh.proofs.Cases.{on-less}
+use Rattle.walsh.proofs.Lists.{sumTo-mono, sumTo-step}
 use Rattle.walsh.proofs.Listing.{count-none}
-use Rattle.walsh.proofs.Window.{sum-step, sum-to-mono, count-zero}
+use Rattle.walsh.proofs.Window.{count-zero}
 use Rattle.bounds.specs.Edition.{whole}
 use Rattle.band.specs.Band.{InBand, lowest, highest, width, rowStart, bandSize, cellIndex, cap, Row-holds, Rows-hold, IsRow}
 use Rattle.band.specs.declared.Row.{Row}
@@ -25,7 +26,7 @@ min-low a b = omega arith
 
 module _ (ms : List ℕ) (r k : ℕ) (reach : r ≤ whole ms) (k-lt : k < length ms) where
   pub part-fits : sumTo ms k + getD ms k 0 ≤ whole ms
-  part-fits = sum-to-mono ms (suc k) (length ms) k-lt
+  part-fits = sumTo-mono ms (suc k) (length ms) k-lt
 
   row-low : lowest ms r k ≤ highest ms r k
   row-low = omega (arith, part-fits)
@@ -34,7 +35,7 @@ module _ (ms : List ℕ) (r k : ℕ) (reach : r ≤ whole ms) (k-lt : k < length
     pub row-ends : (row .low ≤ row .high) × (row .high ≤ r)
     row-ends = (rw (i .low, i .high) row-low, rw (i .high) (omega arith))
 
-    pub row-width : row .high + 1 - row .low ≡ width ms r k
+    row-width : row .high + 1 - row .low ≡ width ms r k
     row-width = rw (i .high, i .low, add-one)
 
     pub row-fits : row .left + getD ms k 0 ≤ row .all
@@ -57,7 +58,7 @@ module _ (ms : List ℕ) (r k : ℕ) (reach : r ≤ whole ms) (k-lt : k < length
 
   module _ (row : Row) (i : IsRow ms r (k + 1) row) where
     pub down-left : row .left ≡ sumTo ms k + getD ms k 0
-    down-left = i .left ∙ sum-step (λ j. getD ms j 0) k
+    down-left = i .left ∙ sumTo-step ms k
 
     pub down-row : (to : Row) (m : ℕ) → m ≡ getD ms k 0 → to .left ≡ row .left - m → to .all ≡ row .all
         → to .low ≡ r - (row .all - (row .left - m)) → to .high ≡ min r (row .left - m)

@@ -8,10 +8,10 @@ use native.Mathlib.Numerals.{add-one}
 use lib.ListN.{length, getD}
 use Rattle.walsh.specs.Sums.{sum, sumTo}
 use Rattle.walsh.specs.Order.{count}
-use Rattle.walsh.proofs.Lists.{sum-mono}
+use Rattle.walsh.proofs.Lists.{sum-mono, sumTo-mono, sumTo-step}
 use Rattle.walsh.proofs.Listing.{count-none}
 use Rattle.walsh.proofs.Peel.{sum-stop}
-use Rattle.walsh.proofs.Window.{sum-at, sum-step, sum-to-mono, count-window}
+use Rattle.walsh.proofs.Window.{sum-at, sum-step, count-window}
 use Rattle.bounds.specs.Edition.{whole}
 use Rattle.band.specs.Band.{InBand, lowest, highest, cap, IsRow}
 use Rattle.band.specs.Window.{Slid}
@@ -26,7 +26,7 @@ module _ (ms : List ℕ) (r : ℕ) where
   -- the sum that leaves the window is in the band
   pub behind-in : (k t m : ℕ) → m ≡ getD ms k 0 → t ≤ highest ms r (k + 1) → lowest ms r k + m < t → InBand ms r k (t - (m + 1))
   behind-in k t m em h l =
-      let e = sum-step (λ j. getD ms j 0) k in
+      let e = sumTo-step ms k in
       record { low = omega (arith, l); high = omega (arith, h); inside = omega (arith, h, e, em) }
 
   low-before : (a m t : ℕ) → a + m ≤ whole ms → r - (whole ms - (a + m)) ≤ t → r - (whole ms - a) ≤ t - m
@@ -73,10 +73,10 @@ module _ (ms : List ℕ) (r : ℕ) where
 
   module _ (k t w : ℕ) (k-lt : k < length ms) (reach : r ≤ whole ms) (s : Slid ms r k (t + 1) w) where
     mono : sumTo ms (suc k) ≤ whole ms
-    mono = sum-to-mono ms (suc k) (length ms) k-lt
+    mono = sumTo-mono ms (suc k) (length ms) k-lt
 
     -- where the window is whole it is the number of compositions
-    pub slid-is : lowest ms r (suc k) ≤ t → w ≡ count ms (suc k) t
+    slid-is : lowest ms r (suc k) ≤ t → w ≡ count ms (suc k) t
     slid-is l =
         let e = sum-at (count ms k) (max (lowest ms r k) (t + 1 - (getD ms k 0 + 1))) (t - getD ms k 0) (latest (lowest ms r k) t (getD ms k 0) (low-before (sumTo ms k) (getD ms k 0) t mono l)) in
         let c = count-window ms k t in
@@ -115,7 +115,7 @@ module _ (ms : List ℕ) (r : ℕ) where
       join : {a a′ b c d : ℕ} → w + a ≡ c → d ≡ c → a ≡ b → a′ ≡ b → w + a′ ≡ d
       join p q e e′ = omega arith
 
-  pub slid-start : (k : ℕ) → Slid ms r k (lowest ms r k) 0
+  slid-start : (k : ℕ) → Slid ms r k (lowest ms r k) 0
   slid-start k = let e = sum-at (count ms k) (max (lowest ms r k) (lowest ms r k - (getD ms k 0 + 1))) (lowest ms r k) (omega arith) in omega arith
 
 pub slid-done : (ms : List ℕ) (r k t w : ℕ) → k < length ms → r ≤ whole ms → Slid ms r k (t + 1) w → lowest ms r (k + 1) ≤ t → w ≡ count ms (k + 1) t

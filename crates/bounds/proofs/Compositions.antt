@@ -9,8 +9,7 @@ use borrow.Author.Tests.{eqb-true, leb-true, le-leb, eq-eqb, not-false}
 use Rattle.walsh.specs.Sums.{sumTo}
 use Rattle.walsh.specs.Tests.{every}
 use Rattle.walsh.specs.Order.{Composition}
-use Rattle.walsh.proofs.Tests.{every-at}
-use Rattle.walsh.proofs.Every.{every-all}
+use Rattle.walsh.proofs.Tests.{every-at, every-all}
 use Rattle.bounds.specs.Refusal.{refused, firstRefusal}
 use Rattle.bounds.specs.Edition.{whole}
 use Rattle.bounds.specs.Places.{isWithin, isOther, compositionChecks}

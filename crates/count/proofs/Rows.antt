@@ -11,10 +11,10 @@ use lib.Seq.{getD-set-same, getD-set-other}
 use Rattle.walsh.specs.Sums.{sum, sumTo}
 use Rattle.walsh.specs.Order.{count}
 use Rattle.walsh.proofs.Cases.{on-test, on-less}
-use Rattle.walsh.proofs.Lists.{sum-mono}
+use Rattle.walsh.proofs.Lists.{sum-mono, sumTo-mono, sumTo-step}
 use Rattle.walsh.proofs.Listing.{count-none}
 use Rattle.walsh.proofs.Peel.{sum-stop}
-use Rattle.walsh.proofs.Window.{sum-at, sum-step, sum-to-mono, count-window, count-zero}
+use Rattle.walsh.proofs.Window.{sum-at, count-window, count-zero}
 use Rattle.bounds.specs.Edition.{whole}
 use Rattle.band.specs.Band.{InBand, lowest, highest, cap}
 use Rattle.band.specs.Window.{Slid}
@@ -136,7 +136,7 @@ module _ (ms : List ℕ) (r : ℕ) (part : Part) (p : Passing ms r part) where
   f = count ms (part .k)
 
   next-left : sumTo ms (part .k + 1) ≡ sumTo ms (part .k) + part .m
-  next-left = rw (p .bound) (sum-step (λ j. getD ms j 0) (part .k))
+  next-left = rw (p .bound) (sumTo-step ms (part .k))
 
   pub next-rises : part .next .low ≤ part .next .high
   next-rises = rw (p .to .low, p .to .high) (low-high ms r (part .k) (p .reached) (p .given) .0)
@@ -151,7 +151,7 @@ module _ (ms : List ℕ) (r : ℕ) (part : Part) (p : Passing ms r part) where
       go s s′ a b e = omega arith
 
   row-rises : part .row .low ≤ part .row .high
-  row-rises = go (sumTo ms (part .k)) (whole ms) (p .from .low) (p .from .high) (sum-to-mono ms (part .k) (length ms) (le-of-lt (p .given))) (p .reached)
+  row-rises = go (sumTo ms (part .k)) (whole ms) (p .from .low) (p .from .high) (sumTo-mono ms (part .k) (length ms) (le-of-lt (p .given))) (p .reached)
     where
       go : (s n : ℕ) → part .row .low ≡ r - (n - s) → part .row .high ≡ min r s → s ≤ n → r ≤ n → part .row .low ≤ part .row .high
       go s n a b l h = omega arith
@@ -228,8 +228,8 @@ ends-first ms r all e ea el eh = record { low = el ∙ rw ea; high = eh }
 pub left-fits : (ms : List ℕ) (k left m all : ℕ) → k < length ms → left ≡ sumTo ms k → m ≡ getD ms k 0 → all ≡ whole ms
     → (left + m ≡ sumTo ms (k + 1)) × (left + m ≤ all)
 left-fits ms k left m all l e em ea =
-    let q : left + m ≡ sumTo ms (k + 1) = rw (e, em) (sym (sum-step (λ j. getD ms j 0) k)) in
-    (q, rw (q, ea) (sum-to-mono ms (k + 1) (length ms) (suc-le l)))
+    let q : left + m ≡ sumTo ms (k + 1) = rw (e, em) (sym (sumTo-step ms k)) in
+    (q, rw (q, ea) (sumTo-mono ms (k + 1) (length ms) (suc-le l)))
   where
     suc-le : {a b : ℕ} → a < b → a + 1 ≤ b
     suc-le q = omega arith

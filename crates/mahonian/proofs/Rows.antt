@@ -66,7 +66,7 @@ module _ (n : ℕ) (h : n < 15) (above : (r : ℕ) → entry (suc n) r ≡ mahon
   inside (suc r) l = table-rule n (suc r) h l ∙ rw (inside r (omega arith), above (suc r), above (suc r - suc (suc n)))
 
 -- the table holds the Mahonian numbers
-pub entry-is : (n : ℕ) → n < 16 → (r : ℕ) → entry (suc n) r ≡ mahonian (suc n) r
+entry-is : (n : ℕ) → n < 16 → (r : ℕ) → entry (suc n) r ≡ mahonian (suc n) r
 entry-is zero h r = unfold mahonian in refl
 entry-is (suc n) h r = go (λ x. entry-is n (omega arith) x) (decLe r (top (suc (suc n))))
   where

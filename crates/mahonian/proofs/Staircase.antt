@@ -1,6 +1,6 @@
 -- Staircase bounds: the test at a place, what it says of the bounds, and that the table has their count.
 use mathlib.Core.Path.{_≡_, refl, sym, ap, _∙_}
-use mathlib.Core.Bool.{Bool, true, false, cond}
+use mathlib.Core.Bool.{true, false}
 use mathlib.Core.Logic.{_↔_}
 use mathlib.Core.List.{List, _∷_}
 use Prim.Native.Nat.{ℕ, suc, _+_, _-_, _≤_, _<_}
@@ -13,10 +13,11 @@ use lib.Seq.{drop-cons}
 use Rattle.walsh.specs.Tests.{both}
 use Rattle.walsh.specs.Order.{countOf}
 use Rattle.walsh.specs.Serial.{same}
+use Rattle.walsh.proofs.Tests.{both-none}
 use Rattle.walsh.proofs.Serials.{same-refl, same-eq}
 use Rattle.mahonian.specs.Staircase.{staircase, isStaircase}
 use Rattle.mahonian.specs.Read.{readOf, staircaseCountOf}
-use Rattle.mahonian.specs.declared.Entry.the-variants.{Count, Outside}
+use Rattle.mahonian.specs.declared.Entry.the-variants.{Outside}
 use Rattle.mahonian.proofs.Counting.{mahonian-count}
 
 -- ---- the test, at a place
@@ -63,8 +64,4 @@ staircase-other ms r e = rw e
 
 pub staircase-long : (ms : List ℕ) (r : ℕ) → 15 < length ms → staircaseCountOf ms r ≡ Outside
 unfolding staircaseCountOf
-staircase-long ms r h = rw (le-leb 2 (suc (length ms)) (omega arith), lt-leb (suc (length ms)) 16 (omega arith)) (go (isStaircase ms))
-  where
-    go : (b : Bool) → cond (both b false) (Count (countOf ms r)) Outside ≡ Outside
-    go true = refl
-    go false = refl
+staircase-long ms r h = rw (le-leb 2 (suc (length ms)) (omega arith), lt-leb (suc (length ms)) 16 (omega arith), both-none (isStaircase ms))

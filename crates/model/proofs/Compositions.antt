@@ -5,7 +5,7 @@ use Prim.Native.Nat.{ℕ, suc, _<_}
 use native.Mathlib.Omega.{arith}
 use lib.ListN.{length, getD, length-map, List·getD-map}
 use Rattle.walsh.specs.Order.{Composition, order, countOf}
-use Rattle.walsh.specs.Neighbours.{Neighbours}
+use Rattle.walsh.specs.Neighbours.{Adjacent}
 use Rattle.walsh.proofs.Complete.{complete, once}
 use Rattle.walsh.proofs.Gray.{gray}
 use Rattle.walsh.proofs.Serials.{count-length}
@@ -41,8 +41,7 @@ module _ (ms : List ℕ) (r : ℕ) where
 
   -- neighbouring entries have one unit more at one part and one fewer at another
   pub compositions-near : (i : ℕ) → suc i < length (compositions ms r)
-      → (gain : ℕ) × (loss : ℕ) × (gain < length ms) × (loss < length ms)
-      × Neighbours (getD (compositions ms r) i blank) (getD (compositions ms r) (suc i) blank) gain loss
+      → Adjacent (length ms) (getD (compositions ms r) i blank) (getD (compositions ms r) (suc i) blank)
   compositions-near i h =
       let n = order-size in
       let p = gray ms r i (omega arith) in

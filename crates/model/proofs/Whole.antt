@@ -8,7 +8,7 @@ use native.Mathlib.Omega.{arith}
 use lib.ListN.{length, getD, take}
 use lib.Seq.{take-all, getD-take}
 use Rattle.walsh.specs.Order.{Composition}
-use Rattle.walsh.specs.Neighbours.{Neighbours}
+use Rattle.walsh.specs.Neighbours.{Adjacent}
 use Rattle.bounds.specs.Edition.{cellsOf}
 use Rattle.model.specs.declared.Answer.{Answer}
 use Rattle.model.specs.declared.Ledger.{Ledger}
@@ -38,8 +38,7 @@ never-16 gs (c ∷ cs) l x m = go (List·Memᴰ·cases-cons m) (λ m′. never-1
 module _ (ms : List ℕ) (r : ℕ) where
   -- the first k compositions
   near : (k i : ℕ) → k ≤ length (compositions ms r) → suc i < k
-      → (gain : ℕ) × (loss : ℕ) × (gain < length ms) × (loss < length ms)
-      × Neighbours (getD (take k (compositions ms r)) i blank) (getD (take k (compositions ms r)) (suc i) blank) gain loss
+      → Adjacent (length ms) (getD (take k (compositions ms r)) i blank) (getD (take k (compositions ms r)) (suc i) blank)
   near k i h l =
       let a : i < k = omega arith in
       rw (getD-take k (compositions ms r) i blank a, getD-take k (compositions ms r) (suc i) blank l) (compositions-near ms r i (omega arith))

@@ -6,7 +6,7 @@ use mathlib.Core.List.{List, [], _∷_, _++_, List·Memᴰ}
 use Prim.Native.Nat.{ℕ, suc, _+_, _<_}
 use lib.ListN.{length, getD, take}
 use Rattle.walsh.specs.Order.{Composition}
-use Rattle.walsh.specs.Neighbours.{Neighbours}
+use Rattle.walsh.specs.Neighbours.{Adjacent}
 use Rattle.bounds.specs.Edition.{cellsOf, boundsOf}
 use Rattle.model.specs.declared.Answer.{Answer}
 use Rattle.model.specs.Basics.{zeros, nonzeros, over, Distinct, Once}
@@ -53,8 +53,7 @@ pub record Whole (ms : List ℕ) (r : ℕ) (col : List ℕ) (cs : List Call) (w 
   -- no composition twice, and each next one has one unit more at one part and one fewer at another
   pub no-repeat : Distinct blank (answeredCompositions (writers (w .trace)))
   pub neighbours : (i : ℕ) → suc i < w .ledger .entries
-      → (gain : ℕ) × (loss : ℕ) × (gain < length ms) × (loss < length ms)
-      × Neighbours (getD (answeredCompositions (writers (w .trace))) i blank) (getD (answeredCompositions (writers (w .trace))) (suc i) blank) gain loss
+      → Adjacent (length ms) (getD (answeredCompositions (writers (w .trace))) i blank) (getD (answeredCompositions (writers (w .trace))) (suc i) blank)
   -- a peek afterwards answers 21 exactly when the lines hold every composition of the edition, each exactly once
   pub full : (answered (w .ledger) (w .column) peek .number ≡ 21)
       ↔ ((g : List ℕ) → Composition ms r g → Once blank (cellsOf g) (answeredCompositions (writers (w .trace))))

@@ -11,9 +11,8 @@ use lib.Dec.{eqb, ltb}
 use lib.ListN.{length}
 use borrow.Author.Tests.{eqb-true, lt-ltb, le-ltb, eq-eqb, ne-eqb}
 use Rattle.walsh.specs.Tests.{every}
-use Rattle.walsh.proofs.Tests.{both-left, both-right, every-at}
+use Rattle.walsh.proofs.Tests.{both-left, both-right, every-at, every-all}
 use Rattle.walsh.proofs.Cases.{on-test}
-use Rattle.walsh.proofs.Every.{every-all}
 use Rattle.permutation.specs.Permutation.{howMany, times, IsPermutation, isPermutation}
 
 -- ---- tests

@@ -11,7 +11,7 @@ use lib.Seq.{drop-cons, drop-length, take-all, take-suc-set, drop-set-lt, append
 use lib.Dec.{eqb, ltb}
 use borrow.Author.Tests.{eq-eqb, ne-eqb}
 use Rattle.walsh.specs.Tests.{every}
-use Rattle.walsh.proofs.Every.{every-not}
+use Rattle.walsh.proofs.Tests.{every-not}
 use Rattle.permutation.specs.Permutation.{howMany, times, smallerAfter, isPermutation, inversions, inversionVector, lift, permutationOf}
 use Rattle.permutation.proofs.Counts.{below, many-le}
 use Rattle.permutation.proofs.Smaller.{smaller-is, inversions-cons, inversions-short, inversions-more}

@@ -11,8 +11,8 @@ use lib.ListN.{length, getD}
 use borrow.Author.Tests.{le-leb, lt-leb, eq-eqb, ne-eqb}
 use Rattle.walsh.specs.Sums.{sumTo}
 use Rattle.walsh.specs.Tests.{either, every}
-use Rattle.walsh.proofs.Every.{every-not}
-use Rattle.walsh.proofs.Lists.{sum-mono}
+use Rattle.walsh.proofs.Tests.{every-not}
+use Rattle.walsh.proofs.Lists.{sumTo-mono}
 use Rattle.bounds.specs.Edition.{whole}
 use Rattle.bounds.specs.Places.{isWithin, isOther}
 
@@ -40,7 +40,7 @@ module _ (ms : List ℕ) (r : ℕ) (g : List ℕ) (i : ℕ) where
 
   pub other-sum : i < length g → {v : ℕ} → v ≡ getD g i 0 → (left : ℕ) → left < v → left + sumTo g i ≡ r → true ≡ isOther ms r g
   other-sum h ev left l e =
-      let more : (whole g ≡ r → ⊥) = λ q. omega (arith, sum-mono (λ j. getD g j 0) (suc i) (length g) h) in
+      let more : (whole g ≡ r → ⊥) = λ q. omega (arith, sumTo-mono g (suc i) (length g) h) in
       rw (ne-eqb (whole g) r more) (sym (either-true (not (every (isWithin ms g) (length ms)))))
 
   pub other-end : length g ≡ length ms → i ≡ length g → every (isWithin ms g) i ≡ true → (left : ℕ) → left + sumTo g i ≡ r → not (eqb left 0) ≡ isOther ms r g

@@ -11,7 +11,7 @@ use lib.Seq.{take-at}
 use borrow.Author.Tests.{eqb-false, ne-eqb}
 use Rattle.walsh.specs.Order.{Composition, countOf}
 use Rattle.walsh.specs.Serial.{serialOf, compositionOf}
-use Rattle.walsh.specs.Neighbours.{Neighbours}
+use Rattle.walsh.specs.Neighbours.{Adjacent}
 use Rattle.walsh.proofs.Serials.{count-length, composition-is, serial-composition, composition-serial, serial-pos, serial-le}
 use Rattle.walsh.proofs.Gray.{gray, neighbours-sym}
 use Rattle.bounds.specs.Refusal.{refused, firstRefusal}
@@ -26,11 +26,7 @@ use Rattle.step.specs.declared.Stepped.{Stepped}
 use Rattle.step.proofs.Answers.{step-goes}
 use Rattle.step.proofs.Cells.{cells-front}
 
--- a unit goes from one part to another
-abbrev pub Near : List ℕ → List ℕ → List ℕ → Type 0
-Near ms g h = (gain : ℕ) × (loss : ℕ) × (gain < length ms) × (loss < length ms) × Neighbours g h gain loss
-
-near-serial : (ms : List ℕ) (r s : ℕ) → 0 < s → s < countOf ms r → Near ms (compositionOf ms r s) (compositionOf ms r (s + 1))
+near-serial : (ms : List ℕ) (r s : ℕ) → 0 < s → s < countOf ms r → Adjacent (length ms) (compositionOf ms r s) (compositionOf ms r (s + 1))
 unfolding compositionOf
 near-serial ms r s some l =
     let at : s + 1 - 1 ≡ suc (s - 1) = omega arith in
@@ -78,7 +74,8 @@ module _ (ms : List ℕ) (r s : ℕ) (some : 0 < s) (most : s ≤ countOf ms r) 
   to-back true = omega arith
   to-back false = omega arith
 
-  to-near : (back : Bool) → eqb s (cond back 1 (countOf ms r)) ≡ false → Near ms (compositionOf ms r s) (compositionOf ms r (nextSerial back s))
+  to-near : (back : Bool) → eqb s (cond back 1 (countOf ms r)) ≡ false
+      → Adjacent (length ms) (compositionOf ms r s) (compositionOf ms r (nextSerial back s))
   to-near true e =
       let ne = eqb-false s 1 e in
       let at : s - 1 + 1 ≡ s = omega arith in
@@ -108,7 +105,7 @@ module _ (back : Bool) (ms : List ℕ) (r : ℕ) (g : List ℕ) (ok : stepOf bac
       (sym (step-goes (not back) ms r h (firstRefusal (editionChecks ms r)) refl (at .edition) (refused 0 0) (sym (composition-passes ms r h valid)) refl (rw serial (to-on ms r (s back ms r g) pos le back)))
       ∙ rw (serial, to-back ms r (s back ms r g) pos le back, composition-serial ms r g (at .valid)))
 
-  near : Near ms g (answer back ms r g)
+  near : Adjacent (length ms) g (answer back ms r g)
   near =
       let n = to-near ms r (s back ms r g) (serial-pos ms r g (at .valid)) (serial-le ms r g (at .valid)) back (at .on) in
       rw answer-is (rw (composition-serial ms r g (at .valid)) at n)
@@ -131,11 +128,11 @@ module _ (ms : List ℕ) (r : ℕ) (g : List ℕ) where
   unfolding successorOf predecessorOf stepOf
   backward-forward ok = returned true ms r g ok
 
-  pub forward-near : successorOf ms r g .number ≡ 0 → Near ms g (after)
+  pub forward-near : successorOf ms r g .number ≡ 0 → Adjacent (length ms) g (after)
   unfolding successorOf stepOf
   forward-near ok = near false ms r g ok
 
-  pub backward-near : predecessorOf ms r g .number ≡ 0 → Near ms g (before)
+  pub backward-near : predecessorOf ms r g .number ≡ 0 → Adjacent (length ms) g (before)
   unfolding predecessorOf stepOf
   backward-near ok = near true ms r g ok
 

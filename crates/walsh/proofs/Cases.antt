@@ -1,8 +1,10 @@
--- A case by a test, with what the test says of the numbers.
+-- A case by a test, with what the test says of the numbers, and the last of some numbers apart from those before it.
 use mathlib.Core.Path.{_≡_, refl}
 use mathlib.Core.Bool.{Bool, true, false}
-use Prim.Native.Nat.{ℕ, _+_, _-_, _≤_, _<_}
-use native.Mathlib.Omega.{arith}
+use mathlib.Core.Logic.{_⊎_, inl, inr}
+use Prim.Native.Nat.{ℕ, suc, _+_, _-_, _≤_, _<_}
+use native.Mathlib.Nat.{le-of-suc-le-suc, eq-or-lt-of-le}
+use native.Mathlib.Numerals.{add-one-dec}
 use lib.Dec.{ltb}
 use borrow.Author.Tests.{ltb-true, ltb-false}
 
@@ -15,4 +17,15 @@ on-less a b f g = on-test (ltb a b) (λ e. f (ltb-true a b e) e) (λ e. g (ltb-f
 
 -- a loop that counts up to n comes closer
 pub closer : (t n : ℕ) → t < n → n - (t + 1) < n - t
-closer t n l = omega arith
+closer t n l = add-one-dec n t l
+
+pub last-or-less : {i n : ℕ} → i < suc n → (i ≡ n) ⊎ (i < n)
+last-or-less l = eq-or-lt-of-le (le-of-suc-le-suc l)
+
+-- what holds of n and of all numbers below n
+pub up-to : {n : ℕ} (P : ℕ → Type 0) → P n → ((i : ℕ) → i < n → P i) → (i : ℕ) → i < suc n → P i
+up-to {n} P top below i l = go (last-or-less l)
+  where
+    go : (i ≡ n) ⊎ (i < n) → P i
+    go (inl e) = rw e top
+    go (inr m) = below i m

@@ -1,17 +1,18 @@
--- The order holds every valid, each once: `rankOf` is the place at which a composition stands, and `unrankOf` what stands at a place.
+-- The order holds every composition, each once: `rankOf` is the place at which a composition stands, and `unrankOf` what stands at a place.
 use mathlib.Core.Path.{_≡_, refl, sym, ap, _∙_, subst}
-use mathlib.Core.Logic.{_↔_, _⊎_, inl, inr}
+use mathlib.Core.Logic.{_↔_}
 use mathlib.Core.List.{List, [], _∷_, _++_}
 use Prim.Native.Nat.{ℕ, zero, suc, _+_, _-_, _≤_, _<_}
-use native.Mathlib.Nat.{not-suc-le-zero, le-of-suc-le-suc, eq-or-lt-of-le, le-refl, zero-add, add-zero, add-suc, suc-add}
+use native.Mathlib.Nat.{not-suc-le-zero, le-of-suc-le-suc, le-refl, zero-add, add-zero, sub-zero, sub-self}
 use native.Mathlib.Omega.{arith}
 use lib.ListN.{length, getD, take, length-append, List·getD-append}
 use lib.Seq.{getD-at, take-suc, take-length}
 use borrow.Author.Tests.{lt-ltb, le-ltb}
-use Rattle.walsh.specs.Sums.{sum}
+use Rattle.walsh.specs.Sums.{sum, sumTo}
 use Rattle.walsh.specs.Order.{CompositionTo, Composition, isOdd, least, most, partValue, partChoices, listing, order, count}
 use Rattle.walsh.specs.Rank.{partIndex, blockSize, rankOf, blockOf, unrankOf}
-use Rattle.walsh.proofs.Lists.{snoc-inj, sum-same, sum-le, sum-front, index-lt, value-index}
+use Rattle.walsh.proofs.Cases.{up-to}
+use Rattle.walsh.proofs.Lists.{snoc-inj, sum-same, sum-le, sum-mono, sumTo-mono, index-lt, value-index}
 use Rattle.walsh.proofs.Listing.{length-listing, listing-zero, listing-zero-length, Spot, spot, spot-lt, spot-at, spot-item, inner}
 
 -- ---- compositions, by the last part and the parts before it
@@ -27,10 +28,11 @@ module _ {ms : List ℕ} {k rem : ℕ} {g : List ℕ} where
   pub composition-prefix : CompositionTo ms (suc k) rem g → CompositionTo ms k (rem - getD g k 0) g
   composition-prefix c = record { fits = λ i l. c .fits i (omega arith); sums = omega (arith, c .sums) }
 
-  pub composition-snoc : (v : ℕ) → v ≤ most ms k rem → length g ≡ k → CompositionTo ms k (rem - v) g → CompositionTo ms (suc k) rem (g ++ (v ∷ []))
+  composition-snoc : (v : ℕ) → v ≤ most ms k rem → length g ≡ k → CompositionTo ms k (rem - v) g
+      → CompositionTo ms (suc k) rem (g ++ (v ∷ []))
   composition-snoc v high size c =
       record {
-        fits = λ i l. bounded i (eq-or-lt-of-le (le-of-suc-le-suc l));
+        fits = up-to (λ i. getD (g ++ (v ∷ [])) i 0 ≤ getD ms i 0) (rw top (omega arith)) (λ i l. rw (← (below i l)) (c .fits i l));
         sums = omega (arith, c .sums, sum-same (λ i. getD g i 0) (λ i. getD (g ++ (v ∷ [])) i 0) k below, top);
       }
     where
@@ -40,9 +42,13 @@ module _ {ms : List ℕ} {k rem : ℕ} {g : List ℕ} where
       below : (i : ℕ) → i < k → getD g i 0 ≡ getD (g ++ (v ∷ [])) i 0
       below i l = sym (List·getD-append g (v ∷ []) 0 i (rw size l))
 
-      bounded : (i : ℕ) → (i ≡ k) ⊎ (i < k) → getD (g ++ (v ∷ [])) i 0 ≤ getD ms i 0
-      bounded i (inl e) = rw (e, top) (omega arith)
-      bounded i (inr l) = rw (← (below i l)) (c .fits i l)
+-- the first k parts of a composition
+module _ {ms : List ℕ} {r : ℕ} {g : List ℕ} (valid : Composition ms r g) (k : ℕ) (h : k ≤ length ms) where
+  pub composition-to : CompositionTo ms k (sumTo g k) g
+  composition-to = record { fits = λ i l. valid .parts .fits i (omega arith); sums = refl }
+
+  pub composition-within : sumTo g k ≤ r
+  composition-within = rw (valid .parts .sums) at (sumTo-mono g k (length ms) h)
 
 -- ---- what stands at a place is a composition
 
@@ -67,18 +73,22 @@ unfolding rankOf
 rank-lt ms zero rem t g c = omega (arith, listing-zero-length ms rem t (c .sums))
 rank-lt ms (suc k) rem t g c =
     let v : ℕ = getD g k 0 in
-    spot-lt ms k rem t v (rankOf ms k (rem - v) (t + v) g) (composition-low c) (composition-high c) (rank-lt ms k (rem - v) (t + v) g (composition-prefix c))
+    let inside = rank-lt ms k (rem - v) (t + v) g (composition-prefix c) in
+    spot-lt ms k rem t v (rankOf ms k (rem - v) (t + v) g) (composition-low c) (composition-high c) inside
 
-pub rank-at : (ms : List ℕ) (k rem t : ℕ) (g : List ℕ) → CompositionTo ms k rem g → k ≤ length g → getD (listing ms k rem t) (rankOf ms k rem t g) [] ≡ take k g
+pub rank-at : (ms : List ℕ) (k rem t : ℕ) (g : List ℕ) → CompositionTo ms k rem g → k ≤ length g
+    → getD (listing ms k rem t) (rankOf ms k rem t g) [] ≡ take k g
 unfolding rankOf
 rank-at ms zero rem t g c l = (listing-zero ms rem t 0 (omega (arith, listing-zero-length ms rem t (c .sums)))) .2
 rank-at ms (suc k) rem t g c l =
     let v : ℕ = getD g k 0 in
-    spot-at ms k rem t v (rankOf ms k (rem - v) (t + v) g) (composition-low c) (composition-high c) (rank-lt ms k (rem - v) (t + v) g (composition-prefix c))
+    let inside = rank-lt ms k (rem - v) (t + v) g (composition-prefix c) in
+    spot-at ms k rem t v (rankOf ms k (rem - v) (t + v) g) (composition-low c) (composition-high c) inside
     ∙ rw (rank-at ms k (rem - v) (t + v) g (composition-prefix c) (omega arith)) (sym (take-suc g k 0 l))
 
 -- the rank of what stands at p is p
-pub rank-of : (ms : List ℕ) (k rem t p : ℕ) → p < length (listing ms k rem t) → (g : List ℕ) → k ≤ length g → getD (listing ms k rem t) p [] ≡ take k g → rankOf ms k rem t g ≡ p
+pub rank-of : (ms : List ℕ) (k rem t p : ℕ) → p < length (listing ms k rem t)
+    → (g : List ℕ) → k ≤ length g → getD (listing ms k rem t) p [] ≡ take k g → rankOf ms k rem t g ≡ p
 unfolding rankOf
 rank-of ms zero rem t p h g l e = sym ((listing-zero ms rem t p h) .0)
 rank-of ms (suc k) rem t p h g l e =
@@ -90,34 +100,30 @@ rank-of ms (suc k) rem t p h g l e =
 -- ---- the composition at a place, computed
 
 module _ (f : ℕ → ℕ) where
-  pub block-here : (i n s : ℕ) → s < f i → blockOf f i (suc n) s ≡ (i, s)
+  block-here : (i n s : ℕ) → s < f i → blockOf f i (suc n) s ≡ (i, s)
   unfolding blockOf
   block-here i n s l = rw (lt-ltb s (f i) l, blockOf)
 
-  pub block-later : (i n s : ℕ) → f i ≤ s → blockOf f i (suc n) s ≡ blockOf f (suc i) n (s - f i)
+  block-later : (i n s : ℕ) → f i ≤ s → blockOf f i (suc n) s ≡ blockOf f (suc i) n (s - f i)
   unfolding blockOf
   block-later i n s l = rw (le-ltb s (f i) l, blockOf)
 
-  block-found : (i n j s : ℕ) → j < n → s < f (i + j) → blockOf f i n (sum (λ u. f (i + u)) j + s) ≡ (i + j, s)
+  block-found : (i n j s : ℕ) → j < n → s < f (i + j) → blockOf f i n (sum f (i + j) - sum f i + s) ≡ (i + j, s)
   block-found i zero j s h l = absurd (not-suc-le-zero h)
-  block-found i (suc n) zero s h l = rw (zero-add, add-zero) (block-here i n s (rw add-zero at l))
+  block-found i (suc n) zero s h l = rw (add-zero, sub-self, zero-add) (block-here i n s (rw add-zero at l))
   block-found i (suc n) (suc j) s h l =
-      let first : f (i + 0) ≡ f i = ap f (add-zero i) in
-      let shift : sum (λ u. f (i + suc u)) j ≡ sum (λ u. f (suc i + u)) j =
-      sum-same (λ u. f (i + suc u)) (λ u. f (suc i + u)) j (λ u b. ap f (add-suc i u ∙ sym (suc-add i u))) in
-      let p : ℕ = sum (λ u. f (i + u)) (suc j) + s in
-      let rest : p - f i ≡ sum (λ u. f (suc i + u)) j + s = omega (arith, sum-front (λ u. f (i + u)) j) in
+      let p : ℕ = sum f (i + suc j) - sum f i + s in
       let next : suc i + j ≡ i + suc j = omega arith in
-      block-later i n p (omega (arith, sum-front (λ u. f (i + u)) j))
+      let past : sum f (suc i) ≤ sum f (i + suc j) = sum-mono f (suc i) (i + suc j) (omega arith) in
+      let rest : p - f i ≡ sum f (suc i + j) - sum f (suc i) + s = rw next (omega arith) in
+      block-later i n p (omega arith)
       ∙ ap (blockOf f (suc i) n) rest
       ∙ block-found (suc i) n j s (le-of-suc-le-suc h) (rw next l)
       ∙ rw next
 
   -- place s of block j of n blocks
-  pub block-at : (n j s : ℕ) → j < n → s < f j → blockOf f 0 n (sum f j + s) ≡ (j, s)
-  block-at n j s h l =
-      let same : sum f j ≡ sum (λ u. f (0 + u)) j = sum-same f (λ u. f (0 + u)) j (λ u b. ap f (sym (zero-add u))) in
-      ap (λ (m : ℕ). blockOf f 0 n (m + s)) same ∙ block-found 0 n j s h (rw zero-add l) ∙ rw zero-add
+  block-at : (n j s : ℕ) → j < n → s < f j → blockOf f 0 n (sum f j + s) ≡ (j, s)
+  block-at n j s h l = rw (zero-add, sub-zero) at (block-found 0 n j s h (rw zero-add l))
 
 pub unrank-at : (ms : List ℕ) (k rem t p : ℕ) → p < length (listing ms k rem t) → getD (listing ms k rem t) p [] ≡ unrankOf ms k rem t p
 unfolding unrankOf
@@ -125,11 +131,12 @@ unrank-at ms zero rem t p h = (listing-zero ms rem t p h) .2
 unrank-at ms (suc k) rem t p h =
     let here : Spot ms k rem t p = spot ms k rem t p h in
     let i : ℕ = partIndex ms k rem t (here .v) in
+    let i-lt : i < partChoices ms k rem = index-lt (least ms k rem) (most ms k rem) (isOdd t) (here .v) (here .low) (here .high) in
     let value : partValue ms k rem t i ≡ here .v = value-index (least ms k rem) (most ms k rem) (isOdd t) (here .v) (here .low) (here .high) in
     let inside : here .s < blockSize ms k rem t i = rw value (rw length-listing at (here .s-lt)) in
     let found : blockOf (blockSize ms k rem t) 0 (partChoices ms k rem) p ≡ (i, here .s) =
     ap (blockOf (blockSize ms k rem t) 0 (partChoices ms k rem)) (here .is)
-    ∙ block-at (blockSize ms k rem t) (partChoices ms k rem) i (here .s) (index-lt (least ms k rem) (most ms k rem) (isOdd t) (here .v) (here .low) (here .high)) inside in
+    ∙ block-at (blockSize ms k rem t) (partChoices ms k rem) i (here .s) i-lt inside in
     spot-item ms k rem t p here
     ∙ rw (found, value, unrank-at ms k (rem - here .v) (t + here .v) (here .s) (here .s-lt))
 
@@ -139,34 +146,39 @@ pub order-length : (ms : List ℕ) (r : ℕ) → length (order ms r) ≡ count m
 unfolding order
 order-length ms r = length-listing ms (length ms) r 0
 
--- the mixes are what stands in the order
+-- a composition stands at its rank
+module _ (ms : List ℕ) (r : ℕ) (g : List ℕ) (valid : Composition ms r g) where
+  pub rank-inside : rankOf ms (length ms) r 0 g < length (order ms r)
+  unfolding order
+  rank-inside = rank-lt ms (length ms) r 0 g (valid .parts)
+
+  pub rank-entry : getD (order ms r) (rankOf ms (length ms) r 0 g) [] ≡ g
+  unfolding order
+  rank-entry = rank-at ms (length ms) r 0 g (valid .parts) (omega (arith, valid .size)) ∙ rw (← (valid .size)) (take-length g)
+
+  -- and nowhere else
+  pub rank-composition : (s : ℕ) → s < length (order ms r) → getD (order ms r) s [] ≡ g → rankOf ms (length ms) r 0 g ≡ s
+  unfolding order
+  rank-composition s h e = rank-of ms (length ms) r 0 s h g (omega (arith, valid .size)) (e ∙ sym (take-length g) ∙ rw (valid .size))
+
+-- an entry of the order is a composition, and its rank is its place
+module _ (ms : List ℕ) (r s : ℕ) (h : s < length (order ms r)) where
+  pub entry-composition : Composition ms r (getD (order ms r) s [])
+  unfolding order
+  entry-composition =
+      let here = sound ms (length ms) r 0 s h in
+      record { size = here .0; parts = here .1 }
+
+  pub entry-rank : rankOf ms (length ms) r 0 (getD (order ms r) s []) ≡ s
+  entry-rank = rank-composition ms r (getD (order ms r) s []) entry-composition s h refl
+
+-- the compositions are what stands in the order
 pub complete : (ms : List ℕ) (r : ℕ) (g : List ℕ) → Composition ms r g ↔ ((s : ℕ) × (s < length (order ms r)) × (getD (order ms r) s [] ≡ g))
-unfolding order
-complete ms r g = (there, back)
-  where
-    n : ℕ
-    n = length ms
+complete ms r g = (
+  λ valid. (rankOf ms (length ms) r 0 g, rank-inside ms r g valid, rank-entry ms r g valid),
+  λ m. subst (Composition ms r) (m .2) (entry-composition ms r (m .0) (m .1)),
+)
 
-    there : Composition ms r g → (s : ℕ) × (s < length (listing ms n r 0)) × (getD (listing ms n r 0) s [] ≡ g)
-    there valid = (
-      rankOf ms n r 0 g,
-      rank-lt ms n r 0 g (valid .parts),
-      rank-at ms n r 0 g (valid .parts) (omega (arith, valid .size)) ∙ rw (← (valid .size)) (take-length g),
-    )
-
-    back : (s : ℕ) × (s < length (listing ms n r 0)) × (getD (listing ms n r 0) s [] ≡ g) → Composition ms r g
-    back m =
-        let here = sound ms n r 0 (m .0) (m .1) in
-        subst (Composition ms r) (m .2) (record { size = here .0; parts = here .1 })
-
--- a valid stands at its rank, and nowhere else
-pub rank-composition : (ms : List ℕ) (r : ℕ) (g : List ℕ) → Composition ms r g → (s : ℕ) → s < length (order ms r) → getD (order ms r) s [] ≡ g → rankOf ms (length ms) r 0 g ≡ s
-unfolding order
-rank-composition ms r g valid s h e =
-    rank-of ms (length ms) r 0 s h g (omega (arith, valid .size)) (e ∙ sym (take-length g) ∙ rw (valid .size))
-
-pub once : (ms : List ℕ) (r s s′ : ℕ) → s < length (order ms r) → s′ < length (order ms r) → getD (order ms r) s [] ≡ getD (order ms r) s′ [] → s ≡ s′
-once ms r s s′ h h′ e =
-    let g : List ℕ = getD (order ms r) s [] in
-    let valid : Composition ms r g = (complete ms r g) .1 (s, h, refl) in
-    sym (rank-composition ms r g valid s h refl) ∙ rank-composition ms r g valid s′ h′ (sym e)
+pub once : (ms : List ℕ) (r s s′ : ℕ) → s < length (order ms r) → s′ < length (order ms r)
+    → getD (order ms r) s [] ≡ getD (order ms r) s′ [] → s ≡ s′
+once ms r s s′ h h′ e = sym (entry-rank ms r s h) ∙ ap (rankOf ms (length ms) r 0) e ∙ entry-rank ms r s′ h′

@@ -1,8 +1,8 @@
 -- Compositions with the same ending stand together.
 use mathlib.Core.Path.{_≡_, refl, sym, ap, _∙_, subst}
-use mathlib.Core.List.{List, [], _++_, append-nil}
+use mathlib.Core.List.{List, [], _∷_, _++_, append-nil}
 use Prim.Native.Nat.{ℕ, zero, suc, _+_, _-_, _≤_, _<_}
-use native.Mathlib.Nat.{add-zero, add-suc}
+use native.Mathlib.Nat.{add-zero, add-suc, add-assoc, zero-add, sub-self}
 use native.Mathlib.Omega.{arith}
 use lib.ListN.{length, getD, take, drop, take-append-drop}
 use lib.Seq.{getD-drop, drop-cons, drop-at, drop-length, append-snoc}
@@ -10,20 +10,16 @@ use Rattle.walsh.specs.Sums.{sumTo}
 use Rattle.walsh.specs.Order.{CompositionTo, Composition, listing, order, count}
 use Rattle.walsh.specs.Ending.{Together}
 use Rattle.walsh.specs.Rank.{rankOf}
-use Rattle.walsh.proofs.Lists.{sum-mono}
 use Rattle.walsh.proofs.Listing.{length-listing, spot-lt, spot-at, earlier, inner}
-use Rattle.walsh.proofs.Complete.{composition-low, composition-high, sound, rank-lt, rank-at, complete, once}
+use Rattle.walsh.proofs.Complete.{composition-low, composition-high, composition-to, composition-within}
+use Rattle.walsh.proofs.Complete.{sound, rank-lt, rank-at, entry-composition, once}
 
 -- the sum of the first k + j parts, by the ending from k on
 sumTo-drop : (g : List ℕ) (k j : ℕ) → sumTo g (k + j) ≡ sumTo g k + sumTo (drop k g) j
-sumTo-drop g k zero = rw add-zero (sym (add-zero (sumTo g k)))
+sumTo-drop g k zero = rw (add-zero k) (sym (add-zero (sumTo g k)))
 sumTo-drop g k (suc j) = rw add-suc (omega (arith, sumTo-drop g k j, getD-drop k g j 0))
 
 module _ (ms : List ℕ) (r : ℕ) where
-  -- the first k parts of a composition
-  prefix : (g : List ℕ) → Composition ms r g → (k : ℕ) → k ≤ length ms → CompositionTo ms k (sumTo g k) g
-  prefix g valid k h = record { fits = λ i l. valid .parts .fits i (omega arith); sums = refl }
-
   module _ (g : List ℕ) (valid : Composition ms r g) where
     record Inside (k : ℕ) : Type 0 where
       start : ℕ
@@ -38,66 +34,35 @@ module _ (ms : List ℕ) (r : ℕ) where
           start = 0;
           at = λ s l. (
             omega (arith, length-listing ms (length ms) r 0, ap (count ms (length ms)) (valid .parts .sums)),
-            rw (valid .parts .sums, none, ended, append-nil) (ap (λ (p : ℕ). getD (listing ms (length ms) r 0) p []) (sum-zero s)),
+            rw (valid .parts .sums, sub-self r, ended, append-nil, zero-add s),
           );
         }
       where
-        none : r - r ≡ 0
-        none = omega arith
-
-        sum-zero : (s : ℕ) → 0 + s ≡ s
-        sum-zero s = omega arith
-
         ended : drop (length ms) g ≡ []
         ended = rw (← (valid .size)) (drop-length g)
 
     -- one part more in the ending: the block of its value
     inside-next : (k : ℕ) → k < length ms → Inside (suc k) → Inside k
     inside-next k h below =
-        record { start = below .start + earlier ms k rem t v; at = λ s l. (within s l, entry s l) }
-      where
-        rem : ℕ
-        rem = sumTo g (suc k)
-
-        t : ℕ
-        t = r - rem
-
-        v : ℕ
-        v = getD g k 0
-
-        c : CompositionTo ms (suc k) rem g
-        c = prefix g valid (suc k) h
-
-        left : rem - v ≡ sumTo g k
-        left = omega arith
-
-        right : t + v ≡ r - sumTo g k
-        right = omega (arith, valid .parts .sums, sum-mono (λ i. getD g i 0) (suc k) (length ms) h)
-
-        -- place s of the block, in the listing of one part more
-        deeper : (s : ℕ) → s < count ms k (sumTo g k) → earlier ms k rem t v + s < count ms (suc k) rem
-        deeper s l =
-            let l′ : s < length (inner ms k rem t v) = rw (length-listing, left) l in
-            rw length-listing at (spot-lt ms k rem t v s (composition-low c) (composition-high c) l′)
-
-        on : (s : ℕ) → below .start + earlier ms k rem t v + s ≡ below .start + (earlier ms k rem t v + s)
-        on s = omega arith
-
-        within : (s : ℕ) → s < count ms k (sumTo g k) → below .start + earlier ms k rem t v + s < length (order ms r)
-        within s l = rw (on s) ((below .at (earlier ms k rem t v + s) (deeper s l)) .0)
-
-        entry : (s : ℕ) → s < count ms k (sumTo g k)
-            → getD (order ms r) (below .start + earlier ms k rem t v + s) [] ≡ getD (listing ms k (sumTo g k) (r - sumTo g k)) s [] ++ drop k g
-        entry s l =
-            let l′ : s < length (inner ms k rem t v) = rw (length-listing, left) l in
-            let x : List ℕ = getD (inner ms k rem t v) s [] in
-            ap (λ (p : ℕ). getD (order ms r) p []) (on s)
-            ∙ (below .at (earlier ms k rem t v + s) (deeper s l)) .1
-            ∙ ap (λ (y : List ℕ). y ++ drop (suc k) g) (spot-at ms k rem t v s (composition-low c) (composition-high c) l′)
-            ∙ append-snoc x v (drop (suc k) g)
-            ∙ ap (λ (y : List ℕ). x ++ y) (sym (drop-cons g k 0 (omega (arith, valid .size))))
-            ∙ ap (λ (m : ℕ). getD (listing ms k m (t + v)) s [] ++ drop k g) left
-            ∙ ap (λ (m : ℕ). getD (listing ms k (sumTo g k) m) s [] ++ drop k g) right
+        let rem : ℕ = sumTo g (suc k) in
+        let t : ℕ = r - rem in
+        let v : ℕ = getD g k 0 in
+        let c : CompositionTo ms (suc k) rem g = composition-to valid (suc k) h in
+        let left : rem - v ≡ sumTo g k = omega arith in
+        let right : t + v ≡ r - sumTo g k = omega (arith, composition-within valid (suc k) h) in
+        let ends : drop k g ≡ v ∷ drop (suc k) g = drop-cons g k 0 (omega (arith, valid .size)) in
+        record {
+          start = below .start + earlier ms k rem t v;
+          at = λ s l.
+              let l′ : s < length (inner ms k rem t v) = rw (length-listing, left) l in
+              let p : ℕ = earlier ms k rem t v + s in
+              let p-lt : p < count ms (suc k) rem = rw length-listing at (spot-lt ms k rem t v s (composition-low c) (composition-high c) l′) in
+              let x : List ℕ = getD (inner ms k rem t v) s [] in
+              let whole : getD (listing ms (suc k) rem t) p [] ++ drop (suc k) g ≡ x ++ drop k g =
+              rw (spot-at ms k rem t v s (composition-low c) (composition-high c) l′, ends) (append-snoc x v (drop (suc k) g)) in
+              let found = below .at p p-lt in
+              rw (add-assoc (below .start) (earlier ms k rem t v) s) (found .0, found .1 ∙ whole ∙ rw (left, right));
+        }
 
     inside : (j k : ℕ) → k + j ≡ length ms → Inside k
     inside zero k e = subst Inside (sym (sym (add-zero k) ∙ e)) inside-all
@@ -105,10 +70,11 @@ module _ (ms : List ℕ) (r : ℕ) where
 
     -- an entry h that ends as g does stands at the place of its first k parts in the interval
     module _ (k : ℕ) (l : k ≤ length ms) (here : Inside k) where
-      only : (p : ℕ) → p < length (order ms r) → drop k (getD (order ms r) p []) ≡ drop k g → (here .start ≤ p) × (p < here .start + count ms k (sumTo g k))
+      only : (p : ℕ) → p < length (order ms r) → drop k (getD (order ms r) p []) ≡ drop k g
+          → (here .start ≤ p) × (p < here .start + count ms k (sumTo g k))
       only p inside-p e =
           let h : List ℕ = getD (order ms r) p [] in
-          let ch : Composition ms r h = (complete ms r h) .1 (p, inside-p, refl) in
+          let ch : Composition ms r h = entry-composition ms r p inside-p in
           let rem : ℕ = sumTo g k in
           let t : ℕ = r - rem in
           let j : ℕ = length ms - k in
@@ -139,7 +105,7 @@ module _ (ms : List ℕ) (r : ℕ) where
       → drop k (getD (order ms r) s []) ≡ drop k (getD (order ms r) p [])
   between k p q s l ps sq inside-q e =
       let g : List ℕ = getD (order ms r) p [] in
-      let valid : Composition ms r g = (complete ms r g) .1 (p, omega arith, refl) in
+      let valid : Composition ms r g = entry-composition ms r p (omega arith) in
       let here : Together ms r g k = together g valid k l in
       let from = here .only p (omega arith) refl in
       let to = here .only q inside-q (sym e) in

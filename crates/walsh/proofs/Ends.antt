@@ -12,7 +12,8 @@ use Rattle.walsh.specs.Order.{isOdd, least, most, choices, partChoices, 
 use Rattle.walsh.specs.Rank.{indexOf, partIndex, blockSize}
 use Rattle.walsh.specs.Step.{firstValue, lastValue, nextValue, partFirst, partLast, firstOf}
 use Rattle.walsh.proofs.Lists.{isOdd-suc-suc, value-index}
-use Rattle.walsh.proofs.Listing.{length-listing, count-blocks, listing-reverse, listing-zero, listing-zero-length, spot-lt, spot-at, earlier, inner}
+use Rattle.walsh.proofs.Listing.{length-listing, count-blocks, listing-reverse, listing-zero, listing-zero-length}
+use Rattle.walsh.proofs.Listing.{spot-lt, spot-at, earlier, inner}
 
 -- ---- first, last and next value
 
@@ -41,7 +42,8 @@ module _ (lo hi : ℕ) where
   next-high true v high ne = omega arith
   next-high false v high ne = omega arith
 
-  next-index : (odd : Bool) (v : ℕ) → lo ≤ v → v ≤ hi → (v ≡ lastValue lo hi odd → ⊥) → indexOf lo hi odd (nextValue odd v) ≡ suc (indexOf lo hi odd v)
+  next-index : (odd : Bool) (v : ℕ) → lo ≤ v → v ≤ hi → (v ≡ lastValue lo hi odd → ⊥)
+      → indexOf lo hi odd (nextValue odd v) ≡ suc (indexOf lo hi odd v)
   next-index true v low high ne = omega arith
   next-index false v low high ne = omega arith
 
@@ -56,29 +58,31 @@ module _ (ms : List ℕ) (k rem : ℕ) where
   pub rest-fits : (v : ℕ) → least ms k rem ≤ v → rem - v ≤ sumTo ms k
   rest-fits v h = omega arith
 
-pub first-lt : (ms : List ℕ) (k rem t : ℕ) → rem ≤ sumTo ms k → 0 < length (listing ms k rem t)
-first-lt ms zero rem t h = omega (arith, listing-zero-length ms rem t (omega arith))
-first-lt ms (suc k) rem t h =
-    let lo = least ms k rem in
-    let hi = most ms k rem in
-    let v = partFirst ms k rem t in
-    let some : lo ≤ hi = some-value ms k rem h in
-    let low : lo ≤ v = first-low lo hi (isOdd t) some in
-    rw (first-index lo hi (isOdd t)) at
-    (spot-lt ms k rem t v 0 low (first-high lo hi (isOdd t) some) (first-lt ms k (rem - v) (t + v) (rest-fits ms k rem v low)))
-
-pub first-at : (ms : List ℕ) (k rem t : ℕ) → rem ≤ sumTo ms k → getD (listing ms k rem t) 0 [] ≡ firstOf ms k rem t
+first-entry : (ms : List ℕ) (k rem t : ℕ) → rem ≤ sumTo ms k
+    → (0 < length (listing ms k rem t)) × (getD (listing ms k rem t) 0 [] ≡ firstOf ms k rem t)
 unfolding firstOf
-first-at ms zero rem t h = (listing-zero ms rem t 0 (omega (arith, listing-zero-length ms rem t (omega arith)))) .2
-first-at ms (suc k) rem t h =
+first-entry ms zero rem t h =
+    let some : 0 < length (listing ms zero rem t) = omega (arith, listing-zero-length ms rem t (omega arith)) in
+    (some, listing-zero ms rem t 0 some .2)
+first-entry ms (suc k) rem t h =
     let lo = least ms k rem in
     let hi = most ms k rem in
     let v = partFirst ms k rem t in
     let some : lo ≤ hi = some-value ms k rem h in
     let low : lo ≤ v = first-low lo hi (isOdd t) some in
-    ap (λ (i : ℕ). getD (listing ms (suc k) rem t) (sum (blockSize ms k rem t) i + 0) []) (sym (first-index lo hi (isOdd t)))
-    ∙ spot-at ms k rem t v 0 low (first-high lo hi (isOdd t) some) (first-lt ms k (rem - v) (t + v) (rest-fits ms k rem v low))
-    ∙ rw (first-at ms k (rem - v) (t + v) (rest-fits ms k rem v low))
+    let high : v ≤ hi = first-high lo hi (isOdd t) some in
+    let none : earlier ms k rem t v + 0 ≡ 0 = rw (first-index lo hi (isOdd t)) in
+    let below = first-entry ms k (rem - v) (t + v) (rest-fits ms k rem v low) in (
+      rw none at (spot-lt ms k rem t v 0 low high (below .0)),
+      (rw none at (spot-at ms k rem t v 0 low high (below .0))) ∙ rw (below .1),
+    )
+
+module _ (ms : List ℕ) (k rem t : ℕ) (h : rem ≤ sumTo ms k) where
+  pub first-lt : 0 < length (listing ms k rem t)
+  first-lt = first-entry ms k rem t h .0
+
+  pub first-at : getD (listing ms k rem t) 0 [] ≡ firstOf ms k rem t
+  first-at = first-entry ms k rem t h .1
 
 pub length-first : (ms : List ℕ) (k rem t : ℕ) → length (firstOf ms k rem t) ≡ k
 unfolding firstOf
@@ -104,7 +108,8 @@ getD-reverse (x ∷ xs) i (suc j) e =
     rw (reverse-cons x xs)
     (List·getD-append (reverse xs) (x ∷ []) [] i (omega (arith, length-reverse xs)) ∙ getD-reverse xs i j (omega arith))
 
-pub last-at : (ms : List ℕ) (k rem t s : ℕ) → rem ≤ sumTo ms k → suc s ≡ length (listing ms k rem t) → getD (listing ms k rem t) s [] ≡ firstOf ms k rem (suc t)
+pub last-at : (ms : List ℕ) (k rem t s : ℕ) → rem ≤ sumTo ms k → suc s ≡ length (listing ms k rem t)
+    → getD (listing ms k rem t) s [] ≡ firstOf ms k rem (suc t)
 last-at ms k rem t s h e =
     sym (getD-reverse (listing ms k rem t) 0 s (omega arith))
     ∙ ap (λ (l : List (List ℕ)). getD l 0 []) (sym (listing-reverse ms k rem t))

@@ -4,40 +4,40 @@ use mathlib.Core.Bool.{Bool, true, false, cond}
 use mathlib.Core.Logic.{_⊎_, inl, inr}
 use mathlib.Core.List.{List, [], _∷_, _++_}
 use Prim.Native.Nat.{ℕ, zero, suc, _+_, _-_, _≤_, _<_, max}
-use native.Mathlib.Nat.{not-suc-le-zero, add-suc, le-refl, le-trans, min-le-right, suc-sub-suc}
-use native.Mathlib.Numerals.{add-one}
+use native.Mathlib.Nat.{not-suc-le-zero, zero-lt-suc, add-suc, le-refl, le-trans, min-le-right, suc-sub-suc}
+use native.Mathlib.Numerals.{add-one, sub-one}
 use native.Mathlib.Omega.{arith}
 use native.Mathlib.Decide.{decLe, ℕ-discrete}
 use lib.ListN.{length, getD, take, drop, List·getD-append}
-use lib.Seq.{getD-at, getD-append-add, split-at}
+use lib.Seq.{getD-at, split-at}
 use borrow.Author.Tests.{eq-eqb, ne-eqb}
 use Rattle.walsh.specs.Sums.{sumTo}
 use Rattle.walsh.specs.Order.{CompositionTo, Composition, isOdd, least, most, order}
-use Rattle.walsh.specs.Neighbours.{Neighbours}
+use Rattle.walsh.specs.Neighbours.{Neighbours, Adjacent}
 use Rattle.walsh.specs.Rank.{rankOf}
-use Rattle.walsh.specs.Step.{firstValue, lastValue, nextValue, partFirst, firstOf, AtLast, Pivot, stepAt, raisedPart, otherPart, gainPart, lossPart}
-use Rattle.walsh.proofs.Lists.{sum-mono}
+use Rattle.walsh.specs.Step.{firstValue, lastValue, nextValue, partFirst, firstOf}
+use Rattle.walsh.specs.Step.{Pivot, stepAt, raisedPart, otherPart, gainPart, lossPart}
 use Rattle.walsh.proofs.Listing.{inner}
-use Rattle.walsh.proofs.Complete.{complete, rank-composition, rank-at, composition-prefix, composition-low, composition-high}
+use Rattle.walsh.proofs.Complete.{composition-low, composition-high, composition-prefix, composition-to, composition-within}
+use Rattle.walsh.proofs.Complete.{rank-at, entry-composition, entry-rank}
 use Rattle.walsh.proofs.Ends.{length-first, last-at, first-period, next-low, next-high, rest-fits}
-use Rattle.walsh.proofs.Steps.{step-last, find-pivot, succ-last, succ-at}
+use Rattle.walsh.proofs.Steps.{step-last, LastOrPivot, find-pivot, succ-last, succ-at}
 
--- ---- cells of a list put together
+-- ---- two lists with a number in the middle, g ++ x ∷ d and h ++ y ∷ d, cell by cell
 
-getD-left : (g d : List ℕ) (i j : ℕ) → length g ≡ i → j < i → getD (g ++ d) j 0 ≡ getD g j 0
-getD-left g d i j e l = List·getD-append g d 0 j (rw e l)
+left-cell : (g d : List ℕ) (i j : ℕ) → length g ≡ i → j < i → getD (g ++ d) j 0 ≡ getD g j 0
+left-cell g d i j e l = List·getD-append g d 0 j (rw e l)
 
-getD-right : (g d : List ℕ) (i j : ℕ) → length g ≡ i → i ≤ j → getD (g ++ d) j 0 ≡ getD d (j - i) 0
-getD-right g d i j e l =
-    let at : j ≡ length g + (j - i) = omega arith in
-    ap (λ (n : ℕ). getD (g ++ d) n 0) at ∙ getD-append-add g d (j - i) 0
-
--- cells past i do not see what stands before and at i
-getD-past : (g h d : List ℕ) (i j x y : ℕ) → length g ≡ i → length h ≡ i → i < j → getD (g ++ (x ∷ d)) j 0 ≡ getD (h ++ (y ∷ d)) j 0
-getD-past g h d i j x y eg eh l =
-    let l′ : i ≤ j = omega arith in
-    let far : j - i ≡ suc (j - suc i) = omega arith in
-    rw (getD-right g (x ∷ d) i j eg l′, getD-right h (y ∷ d) i j eh l′, far)
+-- they agree at j if the fronts agree there and, where j is the middle, the two numbers do
+same-cell : (g h d : List ℕ) (x y j : ℕ) → length g ≡ length h → (j < length g → getD g j 0 ≡ getD h j 0) → (j ≡ length g → x ≡ y)
+    → getD (g ++ (x ∷ d)) j 0 ≡ getD (h ++ (y ∷ d)) j 0
+same-cell [] [] d x y zero e front middle = middle refl
+same-cell [] [] d x y (suc j) e front middle = refl
+same-cell [] (b ∷ h) d x y j e front middle = absurd (omega arith)
+same-cell (a ∷ g) [] d x y j e front middle = absurd (omega arith)
+same-cell (a ∷ g) (b ∷ h) d x y zero e front middle = front (zero-lt-suc (length g))
+same-cell (a ∷ g) (b ∷ h) d x y (suc j) e front middle =
+    same-cell g h d x y j (omega arith) (λ l. front (omega arith)) (λ q. middle (omega arith))
 
 -- ---- h is g with one more at part i
 
@@ -45,24 +45,19 @@ record Raised (g h : List ℕ) (i : ℕ) : Type 0 where
   at : getD h i 0 ≡ suc (getD g i 0)
   others : (j : ℕ) → (j ≡ i → ⊥) → getD h j 0 ≡ getD g j 0
 
-raised-front : (g h d : List ℕ) (n i : ℕ) → length g ≡ n → length h ≡ n → i < n → Raised g h i → Raised (g ++ d) (h ++ d) i
-raised-front g h d n i eg eh l up =
-    record { at = rw (getD-left g d n i eg l, getD-left h d n i eh l) (up .at); others = λ j ne. go j ne (decLe n j) }
-  where
-    go : (j : ℕ) → (j ≡ i → ⊥) → Dec (n ≤ j) → getD (h ++ d) j 0 ≡ getD (g ++ d) j 0
-    go j ne (yes m) = rw (getD-right g d n j eg m, getD-right h d n j eh m)
-    go j ne (no m) =
-        let m′ : j < n = omega arith in
-        rw (getD-left g d n j eg m′, getD-left h d n j eh m′) (up .others j ne)
+raised-front : (g h : List ℕ) (k v i : ℕ) → length g ≡ k → length h ≡ k → i < k → Raised g h i → Raised (g ++ (v ∷ [])) (h ++ (v ∷ [])) i
+raised-front g h k v i eg eh l up =
+    record {
+      at = rw (left-cell g (v ∷ []) k i eg l, left-cell h (v ∷ []) k i eh l) (up .at);
+      others = λ j ne. same-cell h g [] v v j (eh ∙ sym eg) (λ b. up .others j ne) (λ q. refl);
+    }
 
 raised-last : (g : List ℕ) (k v : ℕ) → length g ≡ k → Raised (g ++ (v ∷ [])) (g ++ (suc v ∷ [])) k
-raised-last g k v e = record { at = rw (getD-at g v [] 0 k e, getD-at g (suc v) [] 0 k e); others = λ j ne. go j ne (decLe k j) }
-  where
-    go : (j : ℕ) → (j ≡ k → ⊥) → Dec (k ≤ j) → getD (g ++ (suc v ∷ [])) j 0 ≡ getD (g ++ (v ∷ [])) j 0
-    go j ne (yes m) = getD-past g g [] k j (suc v) v e e (omega arith)
-    go j ne (no m) =
-        let m′ : j < k = omega arith in
-        rw (getD-left g (v ∷ []) k j e m′, getD-left g (suc v ∷ []) k j e m′)
+raised-last g k v e =
+    record {
+      at = rw (getD-at g v [] 0 k e, getD-at g (suc v) [] 0 k e);
+      others = λ j ne. same-cell g g [] (suc v) v j refl (λ b. refl) (λ q. absurd (ne (q ∙ e)));
+    }
 
 -- ---- a total of one more raises one part of the first composition by one
 
@@ -124,7 +119,8 @@ module _ (ms : List ℕ) (k rem t : ℕ) where
       let less : suc rem - now ≡ suc (rem - now) = omega arith in
       rw (e, less)
 
-  first-more : then ≡ suc now → (rem - now ≡ 0) ⊎ (rem - now ≡ sumTo ms k) → firstOf ms (suc k) (suc rem) t ≡ firstOf ms k (rem - now) (t + now) ++ (suc now ∷ [])
+  first-more : then ≡ suc now → (rem - now ≡ 0) ⊎ (rem - now ≡ sumTo ms k)
+      → firstOf ms (suc k) (suc rem) t ≡ firstOf ms k (rem - now) (t + now) ++ (suc now ∷ [])
   unfolding firstOf
   first-more e rest = rw (e, suc-sub-suc) (ap (λ (g : List ℕ). g ++ (suc now ∷ [])) (go rest))
     where
@@ -140,26 +136,26 @@ module _ (ms : List ℕ) (k rem t : ℕ) where
   unfolding raisedPart
   part-more e = rw (ne-eqb now then (λ q. omega arith), raisedPart)
 
-raise : (ms : List ℕ) (k rem t : ℕ) → suc rem ≤ sumTo ms k
-    → (raisedPart ms k rem t < k) × Raised (firstOf ms k rem t) (firstOf ms k (suc rem) t) (raisedPart ms k rem t)
+-- the first composition of rem + 1 is that of rem with one more at `raisedPart`
+abbrev Raises : List ℕ → ℕ → ℕ → ℕ → Type 0
+Raises ms k rem t = (raisedPart ms k rem t < k) × Raised (firstOf ms k rem t) (firstOf ms k (suc rem) t) (raisedPart ms k rem t)
+
+raise : (ms : List ℕ) (k rem t : ℕ) → suc rem ≤ sumTo ms k → Raises ms k rem t
 raise ms zero rem t h = absurd (not-suc-le-zero h)
 raise ms (suc k) rem t h = go (λ ρ τ l. raise ms k ρ τ l) (value-step ms k rem (isOdd t) h)
   where
-    v : ℕ
-    v = now ms k rem t
-
-    go : ((ρ τ : ℕ) → suc ρ ≤ sumTo ms k → (raisedPart ms k ρ τ < k) × Raised (firstOf ms k ρ τ) (firstOf ms k (suc ρ) τ) (raisedPart ms k ρ τ))
-        → ValueStep ms k rem (now ms k rem t) (then ms k rem t)
-        → (raisedPart ms (suc k) rem t < suc k) × Raised (firstOf ms (suc k) rem t) (firstOf ms (suc k) (suc rem) t) (raisedPart ms (suc k) rem t)
+    go : ((ρ τ : ℕ) → suc ρ ≤ sumTo ms k → Raises ms k ρ τ) → ValueStep ms k rem (now ms k rem t) (then ms k rem t) → Raises ms (suc k) rem t
     go below (inl (e, l, f)) =
+        let v : ℕ = now ms k rem t in
         let ρ : ℕ = rem - v in
         let τ : ℕ = t + v in
         let b = below ρ τ f in
-        rw (part-same ms k rem t e, first-now ms k rem t, first-same ms k rem t e l) (
-          omega (arith, b .0),
-          raised-front (firstOf ms k ρ τ) (firstOf ms k (suc ρ) τ) (v ∷ []) k (raisedPart ms k ρ τ) (length-first ms k ρ τ) (length-first ms k (suc ρ) τ) (b .0) (b .1),
-        )
+        let size = length-first ms k ρ τ in
+        let size′ = length-first ms k (suc ρ) τ in
+        rw (part-same ms k rem t e, first-now ms k rem t, first-same ms k rem t e l)
+        (omega (arith, b .0), raised-front (firstOf ms k ρ τ) (firstOf ms k (suc ρ) τ) k v (raisedPart ms k ρ τ) size size′ (b .0) (b .1))
     go below (inr (e, rest)) =
+        let v : ℕ = now ms k rem t in
         rw (part-more ms k rem t e, first-now ms k rem t, first-more ms k rem t e rest)
         (le-refl (suc k), raised-last (firstOf ms k (rem - v) (t + v)) k v (length-first ms k (rem - v) (t + v)))
 
@@ -174,23 +170,26 @@ neighbours-sym n =
       others = λ i nb na. sym (n .others i na nb);
     }
 
--- one more at part i, and one fewer at part q to the left of it
-trade : (g h d : List ℕ) (i q v : ℕ) → length g ≡ i → length h ≡ i → q < i → Raised h g q → Neighbours (g ++ (v ∷ d)) (h ++ (suc v ∷ d)) i q
-trade g h d i q v eg eh l up =
-    record {
-      apart = λ e. omega arith;
-      gained = rw (getD-at g v d 0 i eg, getD-at h (suc v) d 0 i eh);
-      lost = rw (getD-left g (v ∷ d) i q eg l, getD-left h (suc v ∷ d) i q eh l) (up .at);
-      others = λ j ni nq. go j ni nq (decLe i j);
-    }
-  where
-    go : (j : ℕ) → (j ≡ i → ⊥) → (j ≡ q → ⊥) → Dec (i ≤ j) → getD (h ++ (suc v ∷ d)) j 0 ≡ getD (g ++ (v ∷ d)) j 0
-    go j ni nq (yes m) = getD-past h g d i j (suc v) v eh eg (omega arith)
-    go j ni nq (no m) =
-        let m′ : j < i = omega arith in
-        rw (getD-left g (v ∷ d) i j eg m′, getD-left h (suc v ∷ d) i j eh m′) (sym (up .others j nq))
+-- from v to v + 1 at part i, the parts to its left being the first composition of ρ + 1 and then that of ρ: one of them has one fewer
+trade : (ms : List ℕ) (i ρ τ v : ℕ) (d : List ℕ) → suc ρ ≤ sumTo ms i
+    → (raisedPart ms i ρ τ < i) × Neighbours (firstOf ms i (suc ρ) τ ++ (v ∷ d)) (firstOf ms i ρ τ ++ (suc v ∷ d)) i (raisedPart ms i ρ τ)
+trade ms i ρ τ v d fits =
+    let g : List ℕ = firstOf ms i (suc ρ) τ in
+    let h : List ℕ = firstOf ms i ρ τ in
+    let eg : length g ≡ i = length-first ms i (suc ρ) τ in
+    let eh : length h ≡ i = length-first ms i ρ τ in
+    let q : ℕ = raisedPart ms i ρ τ in
+    let up : Raises ms i ρ τ = raise ms i ρ τ fits in (
+      up .0,
+      record {
+        apart = λ e. omega (arith, up .0);
+        gained = rw (getD-at g v d 0 i eg, getD-at h (suc v) d 0 i eh);
+        lost = rw (left-cell g (v ∷ d) i q eg (up .0), left-cell h (suc v ∷ d) i q eh (up .0)) (up .1 .at);
+        others = λ j ni nq. same-cell h g d (suc v) v j (eh ∙ sym eg) (λ l. sym (up .1 .others j nq)) (λ e. absurd (ni (e ∙ eh)));
+      },
+    )
 
--- numbers by themselves, for `omega` has too many cases beside the bounds
+-- of numbers alone: beside the bounds `omega` has too many cases
 room : (held rem v : ℕ) → rem - held ≤ v → v < rem → suc (rem - suc v) ≤ held
 room held rem v low l = omega arith
 
@@ -203,41 +202,29 @@ max-more v = omega arith
 max-less : (v : ℕ) → max (suc v - 1) (suc v) ≡ suc v
 max-less v = omega arith
 
-less-one : (v : ℕ) → suc v - 1 ≡ v
-less-one v = omega arith
+-- the last composition with part i at v, and the first with part i at u: one unit goes from part q to part i, or back where the values fall
+abbrev Moved : List ℕ → ℕ → ℕ → ℕ → ℕ → List ℕ → Bool → ℕ → ℕ → Type 0
+Moved ms i rem t v d odd u q =
+    (q < i)
+    × Neighbours (firstOf ms i (rem - v) (suc (t + v)) ++ (v ∷ d)) (firstOf ms i (rem - u) (t + u) ++ (u ∷ d)) (cond odd q i) (cond odd i q)
 
--- the last composition with part i at v, and the first with part i at its next value
-moved : (ms : List ℕ) (i rem t v : ℕ) (d : List ℕ) (odd : Bool) → least ms i rem ≤ v → v ≤ most ms i rem → (v ≡ lastValue (least ms i rem) (most ms i rem) odd → ⊥)
-    → (raisedPart ms i (rem - max (nextValue odd v) v) (t + nextValue odd v) < i)
-    × Neighbours
-    (firstOf ms i (rem - v) (suc (t + v)) ++ (v ∷ d))
-    (firstOf ms i (rem - nextValue odd v) (t + nextValue odd v) ++ (nextValue odd v ∷ d))
-    (cond odd (raisedPart ms i (rem - max (nextValue odd v) v) (t + nextValue odd v)) i)
-    (cond odd i (raisedPart ms i (rem - max (nextValue odd v) v) (t + nextValue odd v)))
+moved : (ms : List ℕ) (i rem t v : ℕ) (d : List ℕ) (odd : Bool) → least ms i rem ≤ v → v ≤ most ms i rem
+    → (v ≡ lastValue (least ms i rem) (most ms i rem) odd → ⊥)
+    → Moved ms i rem t v d odd (nextValue odd v) (raisedPart ms i (rem - max (nextValue odd v) v) (t + nextValue odd v))
 moved ms i rem t v d false low high ne =
-    let ρ : ℕ = rem - suc v in
-    let τ : ℕ = t + suc v in
-    let above : v < rem = rw add-one at (le-trans (next-high (least ms i rem) (most ms i rem) false v high ne) (min-le-right (getD ms i 0) rem)) in
-    let up = raise ms i ρ τ (room (sumTo ms i) rem v low above) in
-    rw (max-more, add-one, ← (add-suc t v), one-less rem v above) (
-      up .0,
-      trade (firstOf ms i (suc ρ) τ) (firstOf ms i ρ τ) d i (raisedPart ms i ρ τ) v (length-first ms i (suc ρ) τ) (length-first ms i ρ τ) (up .0) (up .1),
-    )
+    let next : suc v ≤ most ms i rem = rw add-one at (next-high (least ms i rem) (most ms i rem) false v high ne) in
+    let above : v < rem = le-trans next (min-le-right (getD ms i 0) rem) in
+    rw (max-more, add-one, ← (add-suc t v), one-less rem v above) (trade ms i (rem - suc v) (t + suc v) v d (room (sumTo ms i) rem v low above))
 moved ms i rem t zero d true low high ne = absurd (ne (omega (arith, low)))
 moved ms i rem t (suc u) d true low high ne =
-    let ρ : ℕ = rem - suc u in
-    let τ : ℕ = t + u in
     let above : u < rem = le-trans high (min-le-right (getD ms i 0) rem) in
-    let low′ : least ms i rem ≤ u = rw less-one at (next-low (least ms i rem) (most ms i rem) true (suc u) low ne) in
-    let up = raise ms i ρ τ (room (sumTo ms i) rem u low′ above) in
-    rw (max-less, less-one, add-suc t u, first-period ms i ρ τ, one-less rem u above) (
-      up .0,
-      neighbours-sym
-          (trade (firstOf ms i (suc ρ) τ) (firstOf ms i ρ τ) d i (raisedPart ms i ρ τ) u (length-first ms i (suc ρ) τ) (length-first ms i ρ τ) (up .0) (up .1)),
-    )
+    let low′ : least ms i rem ≤ u = rw sub-one at (next-low (least ms i rem) (most ms i rem) true (suc u) low ne) in
+    let back = trade ms i (rem - suc u) (t + u) u d (room (sumTo ms i) rem u low′ above) in
+    rw (max-less, sub-one, add-suc t u, first-period ms i (rem - suc u) (t + u), one-less rem u above) (back .0, neighbours-sym (back .1))
 
 -- a step takes one unit from one part to another
-pub step-neighbours : (ms : List ℕ) (r : ℕ) (g : List ℕ) (i : ℕ) → i < length g → CompositionTo ms (suc i) (sumTo g (suc i)) g → sumTo g (suc i) ≤ r → Pivot ms r g i
+step-neighbours : (ms : List ℕ) (r : ℕ) (g : List ℕ) (i : ℕ) → i < length g
+    → CompositionTo ms (suc i) (sumTo g (suc i)) g → sumTo g (suc i) ≤ r → Pivot ms r g i
     → (otherPart ms r g i < i) × Neighbours g (stepAt ms r g i) (gainPart ms r g i) (lossPart ms r g i)
 unfolding stepAt otherPart gainPart lossPart
 step-neighbours ms r g i h c le pivot =
@@ -248,7 +235,8 @@ step-neighbours ms r g i h c le pivot =
     let s : ℕ = rankOf ms i (rem - v) (t + v) g in
     let full : suc s ≡ length (inner ms i rem t v) = step-last ms i (rem - v) (t + v) r g (omega arith) (composition-prefix c) (pivot .done) in
     let prefix : take i g ≡ firstOf ms i (rem - v) (suc (t + v)) =
-    sym (rank-at ms i (rem - v) (t + v) g (composition-prefix c) (omega arith)) ∙ last-at ms i (rem - v) (t + v) s (rest-fits ms i rem v low) full in
+    sym (rank-at ms i (rem - v) (t + v) g (composition-prefix c) (omega arith))
+    ∙ last-at ms i (rem - v) (t + v) s (rest-fits ms i rem v low) full in
     let whole : g ≡ firstOf ms i (rem - v) (suc (t + v)) ++ (v ∷ drop (suc i) g) =
     split-at g i 0 h ∙ ap (λ (q : List ℕ). q ++ (v ∷ drop (suc i) g)) prefix in
     let both = moved ms i rem t v (drop (suc i) g) (isOdd t) low (composition-high c) (pivot .moves) in
@@ -274,36 +262,33 @@ cond-lt : (b : Bool) (x y n : ℕ) → x < n → y < n → cond b x y < n
 cond-lt true x y n hx hy = hx
 cond-lt false x y n hx hy = hy
 
--- a valid with a pivot, and the valid that a step makes of it
+-- a composition with a pivot, and the composition that a step makes of it
 pub composition-neighbours : (ms : List ℕ) (r : ℕ) (g : List ℕ) → Composition ms r g → (i : ℕ) → i < length ms → Pivot ms r g i
     → (gainPart ms r g i < length ms) × (lossPart ms r g i < length ms) × Neighbours g (stepAt ms r g i) (gainPart ms r g i) (lossPart ms r g i)
 unfolding gainPart lossPart
 composition-neighbours ms r g valid i h pivot =
-    let c : CompositionTo ms (suc i) (sumTo g (suc i)) g = record { fits = λ j l. valid .parts .fits j (omega arith); sums = refl } in
-    let le : sumTo g (suc i) ≤ r = rw (valid .parts .sums) at (sum-mono (λ j. getD g j 0) (suc i) (length ms) h) in
-    let step = step-neighbours ms r g i (omega (arith, valid .size)) c le pivot in
+    let step = step-neighbours ms r g i (omega (arith, valid .size)) (composition-to valid (suc i) h) (composition-within valid (suc i) h) pivot in
     let near : otherPart ms r g i < length ms = omega (arith, step .0) in
     let odd : Bool = isOdd (r - sumTo g (suc i)) in
     (cond-lt odd (otherPart ms r g i) i (length ms) near h, cond-lt odd i (otherPart ms r g i) (length ms) h near, step .1)
 
 -- neighbours in the order
-pub gray : (ms : List ℕ) (r s : ℕ) → suc s < length (order ms r)
-    → (gain : ℕ) × (loss : ℕ) × (gain < length ms) × (loss < length ms) × Neighbours (getD (order ms r) s []) (getD (order ms r) (suc s) []) gain loss
+pub gray : (ms : List ℕ) (r s : ℕ) → suc s < length (order ms r) → Adjacent (length ms) (getD (order ms r) s []) (getD (order ms r) (suc s) [])
 gray ms r s h = go (find-pivot ms r g (length ms))
   where
     g : List ℕ
     g = getD (order ms r) s []
 
     valid : Composition ms r g
-    valid = (complete ms r g) .1 (s, omega arith, refl)
+    valid = entry-composition ms r s (omega arith)
 
     at : rankOf ms (length ms) r 0 g ≡ s
-    at = rank-composition ms r g valid s (omega arith) refl
+    at = entry-rank ms r s (omega arith)
 
-    go : ((j : ℕ) → j < length ms → AtLast ms r g j) ⊎ ((i : ℕ) × (i < length ms) × Pivot ms r g i)
-        → (gain : ℕ) × (loss : ℕ) × (gain < length ms) × (loss < length ms) × Neighbours g (getD (order ms r) (suc s) []) gain loss
+    go : LastOrPivot ms r g (length ms) → Adjacent (length ms) g (getD (order ms r) (suc s) [])
     go (inl done) = absurd (omega (arith, succ-last ms r g valid done, at))
     go (inr (i, l, pivot)) =
         let m = composition-neighbours ms r g valid i l pivot in
-        let e : getD (order ms r) (suc s) [] ≡ stepAt ms r g i = ap (λ (p : ℕ). getD (order ms r) (suc p) []) (sym at) ∙ (succ-at ms r g valid i l pivot) .1 in
-        (gainPart ms r g i, lossPart ms r g i, m .0, m .1, subst (λ (x : List ℕ). Neighbours g x (gainPart ms r g i) (lossPart ms r g i)) (sym e) (m .2))
+        let e : getD (order ms r) (suc s) [] ≡ stepAt ms r g i =
+        ap (λ (p : ℕ). getD (order ms r) (suc p) []) (sym at) ∙ succ-at ms r g valid i l pivot .1 in
+        subst (Adjacent (length ms) g) (sym e) (gainPart ms r g i, lossPart ms r g i, m .0, m .1, m .2)

@@ -1,9 +1,9 @@
-pub mod Tests
 pub mod Cases
+pub mod Tests
 pub mod Lists
 pub mod Listing
-pub mod Peel
 pub mod Window
+pub mod Peel
 pub mod Product
 pub mod Complete
 pub mod Serials
@@ -14,4 +14,3 @@ pub mod Ends
 pub mod Steps
 pub mod Successors
 pub mod Gray
-pub mod Every

@@ -1,18 +1,21 @@
--- Laws of `sum`, `flat` and the values of a part, and of lists, that Walsh's order needs.
+-- Laws of `sum` and `flat`, of the parity, and of the values of one part.
 use mathlib.Core.Path.{_≡_, refl, sym, ap, _∙_}
-use mathlib.Core.Bool.{Bool, true, false, not}
+use mathlib.Core.Bool.{Bool, true, false, not, Bool·not-not}
 use mathlib.Core.Logic.{_⊎_, inl, inr}
-use mathlib.Core.List.{List, [], _∷_, _++_, append-assoc, append-nil, reverse, reverse-append, reverse-reverse, head-eq-of-cons-eq, tail-eq-of-cons-eq}
+use mathlib.Core.List.{List, [], _∷_, _++_, append-assoc, append-nil}
+use mathlib.Core.List.{reverse, reverse-append, reverse-reverse, head-eq-of-cons-eq, tail-eq-of-cons-eq}
 use Prim.Native.Nat.{ℕ, zero, suc, _+_, _-_, _≤_, _<_, _%_}
-use native.Mathlib.Nat.{add-zero, add-suc, suc-mod, mod-lt, le-of-suc-le-suc, not-suc-le-zero, zero-lt-suc, eq-or-lt-of-le, le-refl}
+use native.Mathlib.Nat.{add-zero, add-suc, suc-mod, mod-lt, not-suc-le-zero, zero-lt-suc, le-refl}
+use native.Mathlib.Numerals.{add-one}
 use native.Mathlib.Decide.{decLe, decLt, le-ind}
 use native.Mathlib.Omega.{arith}
 use lib.Dec.{eqb}
 use lib.ListN.{length, getD, length-append, List·getD-append}
 use lib.Seq.{getD-append-add}
-use Rattle.walsh.specs.Sums.{sum, flat}
+use Rattle.walsh.specs.Sums.{sum, flat, sumTo}
 use Rattle.walsh.specs.Order.{isOdd, choices, valueAt}
 use Rattle.walsh.specs.Rank.{indexOf}
+use Rattle.walsh.proofs.Cases.{last-or-less}
 
 -- ---- lists
 
@@ -36,6 +39,12 @@ sum-le f g (suc n) h = omega (arith, sum-le f g n (λ i l. h i (omega arith)), h
 pub sum-mono : (f : ℕ → ℕ) (m n : ℕ) → m ≤ n → sum f m ≤ sum f n
 sum-mono f m n h = le-ind (λ (k : ℕ). sum f m ≤ sum f k) (le-refl (sum f m)) (λ k l b. omega arith) n h
 
+pub sumTo-mono : (xs : List ℕ) (m n : ℕ) → m ≤ n → sumTo xs m ≤ sumTo xs n
+sumTo-mono xs m n h = sum-mono (λ i. getD xs i 0) m n h
+
+pub sumTo-step : (xs : List ℕ) (n : ℕ) → sumTo xs (n + 1) ≡ sumTo xs n + getD xs n 0
+sumTo-step xs n = rw add-one
+
 pub sum-none : (f : ℕ → ℕ) (n : ℕ) → ((i : ℕ) → i < n → f i ≡ 0) → sum f n ≡ 0
 sum-none f zero h = refl
 sum-none f (suc n) h = omega (arith, sum-none f n (λ i l. h i (omega arith)), h n (le-refl (suc n)))
@@ -45,13 +54,13 @@ sum-front f zero = omega arith
 sum-front f (suc n) = omega (arith, sum-front f n)
 
 -- the same numbers from the other end
-pub sum-mirror : (f g : ℕ → ℕ) (n : ℕ) → ((i j : ℕ) → suc (i + j) ≡ n → f i ≡ g j) → sum f n ≡ sum g n
+sum-mirror : (f g : ℕ → ℕ) (n : ℕ) → ((i j : ℕ) → suc (i + j) ≡ n → f i ≡ g j) → sum f n ≡ sum g n
 sum-mirror f g zero h = refl
 sum-mirror f g (suc n) h =
     omega (arith, sum-front g n, sum-mirror f (λ i. g (suc i)) n (λ i j e. h i (suc j) (omega arith)), h n 0 (omega arith))
 
 -- numbers that are 0 may be left out at the beginning
-pub sum-skip : (f : ℕ → ℕ) (lo n : ℕ) → ((i : ℕ) → i < lo → f i ≡ 0) → sum f (lo + n) ≡ sum (λ i. f (lo + i)) n
+sum-skip : (f : ℕ → ℕ) (lo n : ℕ) → ((i : ℕ) → i < lo → f i ≡ 0) → sum f (lo + n) ≡ sum (λ i. f (lo + i)) n
 sum-skip f lo zero h = rw add-zero (sum-none f lo h)
 sum-skip f lo (suc n) h = rw (add-suc, sum-skip f lo n h)
 
@@ -70,7 +79,7 @@ module _ (f : ℕ → List (List ℕ)) where
 
   pub flat-at : (n j s : ℕ) → j < n → s < length (f j) → getD (flat f n) (sum sizes j + s) [] ≡ getD (f j) s []
   flat-at zero j s h l = absurd (not-suc-le-zero h)
-  flat-at (suc n) j s h l = go (flat-at n j s) (eq-or-lt-of-le (le-of-suc-le-suc h))
+  flat-at (suc n) j s h l = go (flat-at n j s) (last-or-less h)
     where
       go : (j < n → s < length (f j) → getD (flat f n) (sum sizes j + s) [] ≡ getD (f j) s [])
           → (j ≡ n) ⊎ (j < n)
@@ -103,7 +112,7 @@ module _ (f : ℕ → List (List ℕ)) where
             is = omega (arith, length-flat n);
           }
 
-pub flat-front : (f : ℕ → List (List ℕ)) (n : ℕ) → flat f (suc n) ≡ f 0 ++ flat (λ i. f (suc i)) n
+flat-front : (f : ℕ → List (List ℕ)) (n : ℕ) → flat f (suc n) ≡ f 0 ++ flat (λ i. f (suc i)) n
 flat-front f zero = sym (append-nil (f 0))
 flat-front f (suc n) = rw (flat-front f n) (append-assoc (f 0) (flat (λ i. f (suc i)) n) (f (suc n)))
 
@@ -111,8 +120,8 @@ flat-front f (suc n) = rw (flat-front f n) (append-assoc (f 0) (flat (λ i. f (s
 pub flat-mirror : (f g : ℕ → List (List ℕ)) (n : ℕ) → ((i j : ℕ) → suc (i + j) ≡ n → f i ≡ reverse (g j)) → flat f n ≡ reverse (flat g n)
 flat-mirror f g zero h = refl
 flat-mirror f g (suc n) h =
-    flat-front f n
-    ∙ rw (h 0 n (omega arith), flat-mirror (λ i. f (suc i)) g n (λ i j e. h (suc i) j (omega arith))) (sym (reverse-append (flat g n) (g n)))
+    let rest : flat (λ i. f (suc i)) n ≡ reverse (flat g n) = flat-mirror (λ i. f (suc i)) g n (λ i j e. h (suc i) j (omega arith)) in
+    flat-front f n ∙ rw (h 0 n (omega arith), rest) (sym (reverse-append (flat g n) (g n)))
 
 -- ---- parity
 
@@ -124,12 +133,8 @@ isOdd-suc t = rw (suc-mod t 2) (go (t % 2) (mod-lt t (zero-lt-suc 1)))
     go (suc zero) h = refl
     go (suc (suc m)) h = absurd (omega arith)
 
-not-not : (b : Bool) → not (not b) ≡ b
-not-not true = refl
-not-not false = refl
-
 pub isOdd-suc-suc : (t : ℕ) → isOdd (suc (suc t)) ≡ isOdd t
-isOdd-suc-suc t = rw (isOdd-suc, isOdd-suc) (not-not (isOdd t))
+isOdd-suc-suc t = rw (isOdd-suc, isOdd-suc) (Bool·not-not (isOdd t))
 
 -- ---- values
 
@@ -160,7 +165,7 @@ module _ (lo hi : ℕ) where
   value-mirror false i j e = omega arith
 
   -- a sum over the values is the sum from 0 to hi, where the numbers below lo add nothing
-  pub sum-rising : (f : ℕ → ℕ) → ((u : ℕ) → u < lo → f u ≡ 0) → sum (λ i. f (lo + i)) (choices lo hi) ≡ sum f (suc hi)
+  sum-rising : (f : ℕ → ℕ) → ((u : ℕ) → u < lo → f u ≡ 0) → sum (λ i. f (lo + i)) (choices lo hi) ≡ sum f (suc hi)
   sum-rising f h = go (decLe lo (suc hi))
     where
       go : Dec (lo ≤ suc hi) → sum (λ i. f (lo + i)) (choices lo hi) ≡ sum f (suc hi)
@@ -171,7 +176,8 @@ module _ (lo hi : ℕ) where
           let none : choices lo hi ≡ 0 = omega arith in
           rw none (sym (sum-none f (suc hi) (λ u b. h u (omega arith))))
 
-  pub sum-values : (f : ℕ → ℕ) (odd : Bool) → ((u : ℕ) → u < lo → f u ≡ 0) → sum (λ i. f (valueAt lo hi odd i)) (choices lo hi) ≡ sum f (suc hi)
+  pub sum-values : (f : ℕ → ℕ) (odd : Bool) → ((u : ℕ) → u < lo → f u ≡ 0)
+      → sum (λ i. f (valueAt lo hi odd i)) (choices lo hi) ≡ sum f (suc hi)
   sum-values f false h = sum-rising f h
   sum-values f true h =
       sum-mirror (λ i. f (hi - i)) (λ i. f (lo + i)) (choices lo hi) (λ i j e. ap f (value-mirror false i j e)) ∙ sum-rising f h

@@ -1,11 +1,10 @@
 -- The count by the values of the FIRST part: `count` peels off the last part, and it may be any other.
 use mathlib.Core.Path.{_≡_, refl, sym, ap, _∙_}
 use mathlib.Core.Bool.{Bool, true, false, cond}
-use mathlib.Core.Logic.{_⊎_, inl, inr}
 use mathlib.Core.List.{List, _∷_}
 use Prim.Native.Nat.{ℕ, zero, suc, _+_, _-_, _≤_, _<_, min}
-use native.Mathlib.Nat.{le-of-suc-le-suc, eq-or-lt-of-le, le-refl}
-use native.Mathlib.Decide.{decLe}
+use native.Mathlib.Nat.{le-refl}
+use native.Mathlib.Decide.{decLe, le-ind}
 use native.Mathlib.Omega.{arith}
 use borrow.Author.Tests.{le-leb, lt-leb}
 use lib.Dec.{leb}
@@ -13,19 +12,19 @@ use lib.ListN.{length, getD}
 use Rattle.walsh.specs.Sums.{sum}
 use Rattle.walsh.specs.Order.{count, countOf}
 use Rattle.walsh.proofs.Lists.{sum-same, sum-none}
+use Rattle.walsh.proofs.Window.{count-suc}
 
 -- ---- sums
 
+-- numbers that are 0 may be left out at the end
 pub sum-stop : (f : ℕ → ℕ) (a b : ℕ) → a ≤ b → ((i : ℕ) → a ≤ i → i < b → f i ≡ 0) → sum f b ≡ sum f a
-sum-stop f a zero h none = ap (sum f) (sym e)
-  where
-    e : a ≡ 0
-    e = omega arith
-sum-stop f a (suc b) h none = go (λ l. sum-stop f a b l (λ i x y. none i x (omega arith))) (eq-or-lt-of-le h)
-  where
-    go : (a ≤ b → sum f b ≡ sum f a) → (a ≡ suc b) ⊎ (a < suc b) → sum f (suc b) ≡ sum f a
-    go below (inl e) = ap (sum f) (sym e)
-    go below (inr l) = omega (arith, below (le-of-suc-le-suc l), none b (le-of-suc-le-suc l) (le-refl (suc b)))
+sum-stop f a b h =
+    le-ind
+    (λ (n : ℕ). ((i : ℕ) → a ≤ i → i < n → f i ≡ 0) → sum f n ≡ sum f a)
+    (λ none. refl)
+    (λ n l below none. omega (arith, below (λ i x y. none i x (omega arith)), none n l (le-refl (suc n))))
+    b
+    h
 
 sum-add : (f g : ℕ → ℕ) (n : ℕ) → sum (λ i. f i + g i) n ≡ sum f n + sum g n
 sum-add f g zero = refl
@@ -81,13 +80,36 @@ after-comm f r v w = go (decLe (v + w) r)
         both v w l ∙ ap (λ (n : ℕ). f (r - n)) e ∙ sym (both w v (omega arith))
     go (no l) = none v w (omega arith) (decLe v r) ∙ sym (none w v (omega arith) (decLe w r))
 
+-- ---- one part more
+
+-- f with one part more, of bound m: f at what each value of that part leaves
+abbrev extended : (ℕ → ℕ) → ℕ → ℕ → ℕ
+extended f m r = sum (after f r) (suc m)
+
+extended-same : (f g : ℕ → ℕ) (m r : ℕ) → ((x : ℕ) → f x ≡ g x) → extended f m r ≡ extended g m r
+extended-same f g m r e = sum-same (after f r) (after g r) (suc m) (λ v l. after-same f g r v e)
+
+-- of two parts more, either may come first
+extended-comm : (f : ℕ → ℕ) (a b r : ℕ) → extended (extended f a) b r ≡ extended (extended f b) a r
+extended-comm f a b r =
+    by-pairs a b
+    ∙ sum-swap left (suc a) (suc b)
+    ∙ sum-same (λ v. sum (λ w. left w v) (suc b)) (λ v. sum (left v) (suc b)) (suc a)
+    (λ v l. sum-same (λ w. left w v) (left v) (suc b) (λ w l. after-comm f r w v))
+    ∙ sym (by-pairs b a)
+  where
+    -- f at what w and v leave
+    left : ℕ → ℕ → ℕ
+    left w v = after (λ x. after f x v) r w
+
+    by-pairs : (a b : ℕ) → extended (extended f a) b r ≡ sum (λ w. sum (left w) (suc a)) (suc b)
+    by-pairs a b =
+        sum-same (after (extended f a) r) (λ w. sum (left w) (suc a)) (suc b) (λ w l. after-sum (λ x v. after f x v) (suc a) r w)
+
 -- ---- the two ways to peel
 
-pub count-last : (ms : List ℕ) (k r : ℕ) → count ms (suc k) r ≡ sum (after (count ms k) r) (suc (getD ms k 0))
-count-last ms k r = opened ∙ sum-after (count ms k) (getD ms k 0) r
-  where
-    opened : count ms (suc k) r ≡ sum (λ v. count ms k (r - v)) (suc (min (getD ms k 0) r))
-    opened = unfold count in refl
+count-last : (ms : List ℕ) (k r : ℕ) → count ms (suc k) r ≡ extended (count ms k) (getD ms k 0) r
+count-last ms k r = count-suc ms k r ∙ sum-after (count ms k) (getD ms k 0) r
 
 no-parts : (ms ns : List ℕ) (r : ℕ) → count ms 0 r ≡ count ns 0 r
 unfolding count
@@ -96,28 +118,16 @@ no-parts ms ns (suc r) = refl
 
 -- the same sum over the values of the first part
 pub count-first : (m : ℕ) (ms : List ℕ) (n r : ℕ) → count (m ∷ ms) (suc n) r ≡ sum (after (count ms n) r) (suc m)
-count-first m ms zero r =
-    count-last (m ∷ ms) 0 r
-    ∙ sum-same (after (count (m ∷ ms) 0) r) (after (count ms 0) r) (suc m) (λ v l. after-same (count (m ∷ ms) 0) (count ms 0) r v (no-parts (m ∷ ms) ms))
+count-first m ms zero r = count-last (m ∷ ms) 0 r ∙ extended-same (count (m ∷ ms) 0) (count ms 0) m r (no-parts (m ∷ ms) ms)
 count-first m ms (suc n) r =
-    let b : ℕ = suc (getD ms n 0) in
+    let b : ℕ = getD ms n 0 in
     count-last (m ∷ ms) (suc n) r
-    ∙ sum-same
-    (after (count (m ∷ ms) (suc n)) r)
-    (λ w. sum (λ v. after (λ x. after (count ms n) x v) r w) (suc m))
-    b
-    (λ w l. after-same (count (m ∷ ms) (suc n)) (λ x. sum (after (count ms n) x) (suc m)) r w (count-first m ms n) ∙ after-sum (λ x v. after (count ms n) x v) (suc m) r w)
-    ∙ sum-swap (λ w v. after (λ x. after (count ms n) x v) r w) (suc m) b
-    ∙ sum-same
-    (λ v. sum (λ w. after (λ x. after (count ms n) x v) r w) b)
-    (after (count ms (suc n)) r)
-    (suc m)
-    (λ v l. sum-same (λ w. after (λ x. after (count ms n) x v) r w) (λ w. after (λ x. after (count ms n) x w) r v) b (λ w l. after-comm (count ms n) r w v)
-    ∙ sym (after-sum (λ x w. after (count ms n) x w) b r v)
-    ∙ sym (after-same (count ms (suc n)) (λ x. sum (after (count ms n) x) b) r v (count-last ms n)))
+    ∙ extended-same (count (m ∷ ms) (suc n)) (extended (count ms n) m) b r (count-first m ms n)
+    ∙ extended-comm (count ms n) m b r
+    ∙ extended-same (extended (count ms n) b) (count ms (suc n)) m r (λ x. sym (count-last ms n x))
 
 -- the plain recursion, over the values of the first part
-pub count-peel : (m : ℕ) (ms : List ℕ) (n r : ℕ) → count (m ∷ ms) (suc n) r ≡ sum (λ v. count ms n (r - v)) (suc (min m r))
+count-peel : (m : ℕ) (ms : List ℕ) (n r : ℕ) → count (m ∷ ms) (suc n) r ≡ sum (λ v. count ms n (r - v)) (suc (min m r))
 count-peel m ms n r = count-first m ms n r ∙ sym (sum-after (count ms n) m r)
 
 pub countOf-peel : (m : ℕ) (ms : List ℕ) (r : ℕ) → countOf (m ∷ ms) r ≡ sum (λ v. countOf ms (r - v)) (suc (min m r))

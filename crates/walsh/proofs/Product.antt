@@ -12,7 +12,7 @@ use Rattle.walsh.specs.Order.{count}
 use Rattle.walsh.proofs.Cases.{on-less}
 use Rattle.walsh.proofs.Lists.{sum-same, sum-mono}
 use Rattle.walsh.proofs.Peel.{sum-swap, after, after-le, after-lt, sum-after}
-use Rattle.walsh.proofs.Window.{sum-at, sum-zero, sum-suc, count-zero, count-suc, count-window}
+use Rattle.walsh.proofs.Window.{sum-at, count-suc, count-window}
 
 -- n numbers that are at most p
 sum-most : (f : ℕ → ℕ) (p n : ℕ) → ((i : ℕ) → i < n → f i ≤ p) → sum f n ≤ n * p
@@ -21,35 +21,33 @@ sum-most f p (suc n) h = omega (arith, suc-mul n p, sum-most f p n (λ i l. h i 
 
 -- what v leaves of each sum below n is below n
 sum-left : (f : ℕ → ℕ) (v n : ℕ) → sum (λ t. after f t v) n ≤ sum f (n - v)
-sum-left f v zero = omega (arith, sum-zero (λ t. after f t v))
+sum-left f v zero = omega arith
 sum-left f v (suc n) = go (sum-left f v n) (decLe v n)
   where
     go : sum (λ t. after f t v) n ≤ sum f (n - v) → Dec (v ≤ n) → sum (λ t. after f t v) (suc n) ≤ sum f (suc n - v)
     go below (yes l) =
         let e = sum-at f (suc n - v) (suc (n - v)) (omega arith) in
-        omega (arith, sum-suc (λ t. after f t v) n, after-le f n v l, sum-suc f (n - v))
+        omega (arith, after-le f n v l)
     go below (no l) =
-        omega (arith, sum-suc (λ t. after f t v) n, after-lt f n v (omega arith), sum-mono f (n - v) (suc n - v) (omega arith))
+        omega (arith, after-lt f n v (omega arith), sum-mono f (n - v) (suc n - v) (omega arith))
 
 -- counts of the first k parts: each up to r is at most p, and those up to r together are at most p * w
 pub record Few (ms : List ℕ) (r k p w : ℕ) : Type 0 where
   pub each : (t : ℕ) → t ≤ r → count ms k t ≤ p
   pub sums : (n : ℕ) → n ≤ suc r → sum (count ms k) n ≤ p * w
 
-count-zero-suc : (ms : List ℕ) (t : ℕ) → count ms 0 (suc t) ≡ 0
-unfolding count
-count-zero-suc ms t = refl
-
 few-at-zero : (ms : List ℕ) (n : ℕ) → sum (count ms 0) (suc n) ≡ 1
-few-at-zero ms zero = omega (arith, sum-suc (count ms 0) 0, count-zero ms)
-few-at-zero ms (suc n) = omega (arith, sum-suc (count ms 0) (suc n), few-at-zero ms n, count-zero-suc ms n)
+unfolding count
+few-at-zero ms zero = refl
+few-at-zero ms (suc n) = omega (arith, few-at-zero ms n)
 
 pub few-none : (ms : List ℕ) (r : ℕ) → Few ms r 0 1 1
+unfolding count
 few-none ms r = record { each = λ t l. one t; sums = λ n l. all n }
   where
     one : (t : ℕ) → count ms 0 t ≤ 1
-    one zero = omega (arith, count-zero ms)
-    one (suc t) = omega (arith, count-zero-suc ms t)
+    one zero = omega arith
+    one (suc t) = omega arith
 
     all : (n : ℕ) → sum (count ms 0) n ≤ 1 * 1
     all zero = omega arith

@@ -1,19 +1,18 @@
 -- Serials: "1 plus the number of mixes before" is 1 plus the rank, and serial and composition undo each other.
-use mathlib.Core.Path.{_≡_, refl, sym, ap, _∙_}
+use mathlib.Core.Path.{_≡_, refl, ap, _∙_}
 use mathlib.Core.Bool.{Bool, true, false, cond, false≢true}
 use mathlib.Core.List.{List, [], _∷_}
 use Prim.Native.Nat.{ℕ, zero, suc, _-_, _≤_, _<_}
 use native.Mathlib.Nat.{not-suc-le-zero, le-of-suc-le-suc, zero-lt-suc}
 use native.Mathlib.Omega.{arith}
 use lib.Dec.{eqb}
-use lib.ListN.{length, getD, take}
-use lib.Seq.{take-length}
+use lib.ListN.{length, getD}
 use borrow.Author.Tests.{eq-eqb, eqb-true}
 use Rattle.walsh.specs.Order.{Composition, order, countOf}
 use Rattle.walsh.specs.Serial.{same, placeOf, serialOf, compositionOf}
 use Rattle.walsh.specs.Rank.{rankOf, unrankOf}
 use Rattle.walsh.proofs.Tests.{both-left, both-right}
-use Rattle.walsh.proofs.Complete.{complete, rank-composition, unrank-at, rank-lt, rank-at, order-length}
+use Rattle.walsh.proofs.Complete.{unrank-at, order-length, rank-inside, rank-entry, rank-composition, entry-composition, entry-rank}
 
 -- ---- the place of a list in a list of lists
 
@@ -31,7 +30,8 @@ same-eq (x ∷ g) (y ∷ h) e =
     rw (eqb-true x y (both-left (eqb x y) (same g h) e), same-eq g h (both-right (eqb x y) (same g h) e))
 
 -- a list's place is the first at which it stands
-pub place-first : (g : List ℕ) (l : List (List ℕ)) (p : ℕ) → p < length l → getD l p [] ≡ g → ((q : ℕ) → q < p → getD l q [] ≡ g → ⊥) → placeOf g l ≡ p
+place-first : (g : List ℕ) (l : List (List ℕ)) (p : ℕ) → p < length l → getD l p [] ≡ g → ((q : ℕ) → q < p → getD l q [] ≡ g → ⊥)
+    → placeOf g l ≡ p
 unfolding placeOf
 place-first g [] p h e none = absurd (not-suc-le-zero h)
 place-first g (x ∷ l) zero h e none = rw (e, same-refl g)
@@ -50,13 +50,13 @@ module _ (ms : List ℕ) (r : ℕ) where
   count-length = order-length ms r
 
   -- a serial's place
-  pub place-lt : (s : ℕ) → 0 < s → s ≤ countOf ms r → s - 1 < length (order ms r)
+  place-lt : (s : ℕ) → 0 < s → s ≤ countOf ms r → s - 1 < length (order ms r)
   place-lt s h l = omega (arith, count-length)
 
   -- serial to composition
   pub composition-is : (s : ℕ) → 0 < s → s ≤ countOf ms r → Composition ms r (compositionOf ms r s)
   unfolding compositionOf
-  composition-is s h l = (complete ms r (getD (order ms r) (s - 1) [])) .1 (s - 1, place-lt s h l, refl)
+  composition-is s h l = entry-composition ms r (s - 1) (place-lt s h l)
 
   -- by the counts, from the last part down
   pub composition-unrank : (s : ℕ) → 0 < s → s ≤ countOf ms r → compositionOf ms r s ≡ unrankOf ms (length ms) r 0 (s - 1)
@@ -68,23 +68,17 @@ module _ (ms : List ℕ) (r : ℕ) where
     abbrev rank : ℕ
     rank = rankOf ms (length ms) r 0 g
 
-    pub rank-inside : rankOf ms (length ms) r 0 g < length (order ms r)
-    unfolding order
-    rank-inside = rank-lt ms (length ms) r 0 g (valid .parts)
-
-    pub rank-entry : getD (order ms r) (rankOf ms (length ms) r 0 g) [] ≡ g
-    unfolding order
-    rank-entry =
-        rank-at ms (length ms) r 0 g (valid .parts) (omega (arith, valid .size)) ∙ ap (λ (n : ℕ). take n g) (sym (valid .size)) ∙ take-length g
-
     -- the number of entries before g, by the counts
     pub serial-rank : serialOf ms r g ≡ suc (rankOf ms (length ms) r 0 g)
     unfolding serialOf
     serial-rank =
-        ap suc (place-first g (order ms r) rank rank-inside rank-entry (λ q b at. absurd (omega (arith, rank-composition ms r g valid q (omega (arith, rank-inside)) at))))
+        let inside : rank < length (order ms r) = rank-inside ms r g valid in
+        let not-before : (q : ℕ) → q < rank → getD (order ms r) q [] ≡ g → ⊥ =
+        λ q b at. omega (arith, rank-composition ms r g valid q (omega arith) at) in
+        ap suc (place-first g (order ms r) rank inside (rank-entry ms r g valid) not-before)
 
     pub serial-le : serialOf ms r g ≤ countOf ms r
-    serial-le = omega (arith, serial-rank, rank-inside, count-length)
+    serial-le = omega (arith, serial-rank, rank-inside ms r g valid, count-length)
 
     pub serial-pos : 0 < serialOf ms r g
     serial-pos = omega (arith, serial-rank)
@@ -93,11 +87,10 @@ module _ (ms : List ℕ) (r : ℕ) where
     unfolding compositionOf
     composition-serial =
         let at : serialOf ms r g - 1 ≡ rank = omega (arith, serial-rank) in
-        ap (λ (p : ℕ). getD (order ms r) p []) at ∙ rank-entry
+        ap (λ (p : ℕ). getD (order ms r) p []) at ∙ rank-entry ms r g valid
 
   pub serial-composition : (s : ℕ) → 0 < s → s ≤ countOf ms r → serialOf ms r (compositionOf ms r s) ≡ s
   unfolding compositionOf
   serial-composition s h l =
-      let g : List ℕ = getD (order ms r) (s - 1) [] in
-      let valid : Composition ms r g = (complete ms r g) .1 (s - 1, place-lt s h l, refl) in
-      omega (arith, serial-rank g valid, rank-composition ms r g valid (s - 1) (place-lt s h l) refl)
+      let inside : s - 1 < length (order ms r) = place-lt s h l in
+      omega (arith, serial-rank (getD (order ms r) (s - 1) []) (entry-composition ms r (s - 1) inside), entry-rank ms r (s - 1) inside)

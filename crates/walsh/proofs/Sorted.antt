@@ -1,5 +1,5 @@
 -- The compositions stand in the order sorted by the comparison `before`, in which no bound occurs.
-use mathlib.Core.Path.{_≡_, refl, sym, ap, _∙_}
+use mathlib.Core.Path.{_≡_, sym, ap, _∙_}
 use mathlib.Core.Bool.{Bool, true, false, false≢true}
 use mathlib.Core.Logic.{_↔_, _⊎_, inl, inr}
 use mathlib.Core.List.{List, []}
@@ -9,18 +9,19 @@ use native.Mathlib.Omega.{arith}
 use lib.ListN.{length, getD}
 use borrow.Author.Tests.{ltb-true}
 use Rattle.walsh.specs.Sums.{sum}
-use Rattle.walsh.specs.Order.{CompositionTo, Composition, isOdd, least, most, listing, order}
+use Rattle.walsh.specs.Order.{CompositionTo, Composition, isOdd, least, most, order}
 use Rattle.walsh.specs.Serial.{serialOf}
 use Rattle.walsh.specs.Compare.{valueBefore, beforeTo, before}
 use Rattle.walsh.specs.Rank.{indexOf, partIndex, blockSize, rankOf}
 use Rattle.walsh.proofs.Lists.{sum-mono, value-index}
-use Rattle.walsh.proofs.Listing.{length-listing}
-use Rattle.walsh.proofs.Complete.{composition-low, composition-high, composition-prefix, rank-lt, complete, rank-composition}
+use Rattle.walsh.proofs.Listing.{length-listing, earlier, inner}
+use Rattle.walsh.proofs.Complete.{composition-low, composition-high, composition-prefix, rank-lt, entry-composition, entry-rank}
 use Rattle.walsh.proofs.Serials.{serial-rank}
 use Rattle.walsh.proofs.Compare.{before-equal, before-differ, before-total}
 
 -- the value that comes first has the smaller number
-index-before : (lo hi : ℕ) (odd : Bool) (v w : ℕ) → lo ≤ v → v ≤ hi → lo ≤ w → w ≤ hi → valueBefore odd v w ≡ true → indexOf lo hi odd v < indexOf lo hi odd w
+index-before : (lo hi : ℕ) (odd : Bool) (v w : ℕ) → lo ≤ v → v ≤ hi → lo ≤ w → w ≤ hi
+    → valueBefore odd v w ≡ true → indexOf lo hi odd v < indexOf lo hi odd w
 index-before lo hi true v w lv hv lw hw e = omega (arith, ltb-true w v e)
 index-before lo hi false v w lv hv lw hw e = omega (arith, ltb-true v w e)
 
@@ -43,10 +44,10 @@ module _ (ms : List ℕ) (k rem t : ℕ) (g h : List ℕ) where
       let hi : ℕ = most ms k rem in
       let less : partIndex ms k rem t v < partIndex ms k rem t w =
       index-before lo hi (isOdd t) v w (composition-low cg) (composition-high cg) (composition-low ch) (composition-high ch) b in
-      let size : blockSize ms k rem t (partIndex ms k rem t v) ≡ length (listing ms k (rem - v) (t + v)) =
+      let size : blockSize ms k rem t (partIndex ms k rem t v) ≡ length (inner ms k rem t v) =
       rw (value-index lo hi (isOdd t) v (composition-low cg) (composition-high cg)) (sym (length-listing ms k (rem - v) (t + v))) in
-      let inside : rankOf ms k (rem - v) (t + v) g < length (listing ms k (rem - v) (t + v)) = rank-lt ms k (rem - v) (t + v) g (composition-prefix cg) in
-      let whole : sum (blockSize ms k rem t) (suc (partIndex ms k rem t v)) ≤ sum (blockSize ms k rem t) (partIndex ms k rem t w) =
+      let inside : rankOf ms k (rem - v) (t + v) g < length (inner ms k rem t v) = rank-lt ms k (rem - v) (t + v) g (composition-prefix cg) in
+      let whole : sum (blockSize ms k rem t) (suc (partIndex ms k rem t v)) ≤ earlier ms k rem t w =
       sum-mono (blockSize ms k rem t) (suc (partIndex ms k rem t v)) (partIndex ms k rem t w) less in
       omega arith
 
@@ -66,11 +67,11 @@ rank-before ms (suc k) rem t g h cg ch b = go (rank-before ms k (rem - v) (t + v
     go below (no ne) = earlier-block ms k rem t g h cg ch (sym (before-differ k t g h ne) ∙ b)
 
 module _ (ms : List ℕ) (r : ℕ) where
-  module _ (g h : List ℕ) (cg : Composition ms r g) (ch : Composition ms r h) where
-    before-less : before g h ≡ true → serialOf ms r g < serialOf ms r h
-    unfolding before
-    before-less b =
-        omega (arith, serial-rank ms r g cg, serial-rank ms r h ch, rank-before ms (length ms) r 0 g h (cg .parts) (ch .parts) (ap (λ (n : ℕ). beforeTo n 0 g h) (sym (cg .size)) ∙ b))
+  before-less : (g h : List ℕ) → Composition ms r g → Composition ms r h → before g h ≡ true → serialOf ms r g < serialOf ms r h
+  unfolding before
+  before-less g h cg ch b =
+      let by-parts : beforeTo (length ms) 0 g h ≡ true = rw (cg .size) at b in
+      omega (arith, serial-rank ms r g cg, serial-rank ms r h ch, rank-before ms (length ms) r 0 g h (cg .parts) (ch .parts) by-parts)
 
   -- the comparison and the serials say the same
   pub before-serial : (g h : List ℕ) → Composition ms r g → Composition ms r h → (before g h ≡ true) ↔ (serialOf ms r g < serialOf ms r h)
@@ -83,10 +84,10 @@ module _ (ms : List ℕ) (r : ℕ) where
 
   -- the list is sorted
   pub order-sorted : (s s′ : ℕ) → s < s′ → s′ < length (order ms r) → before (getD (order ms r) s []) (getD (order ms r) s′ []) ≡ true
-  order-sorted s s′ l h =
+  order-sorted s s′ l h′ =
       let g : List ℕ = getD (order ms r) s [] in
-      let j : List ℕ = getD (order ms r) s′ [] in
-      let cg : Composition ms r g = (complete ms r g) .1 (s, omega arith, refl) in
-      let cj : Composition ms r j = (complete ms r j) .1 (s′, h, refl) in
-      (before-serial g j cg cj) .1
-      (omega (arith, serial-rank ms r g cg, serial-rank ms r j cj, rank-composition ms r g cg s (omega arith) refl, rank-composition ms r j cj s′ h refl))
+      let g′ : List ℕ = getD (order ms r) s′ [] in
+      let h : s < length (order ms r) = omega arith in
+      let c : Composition ms r g = entry-composition ms r s h in
+      let c′ : Composition ms r g′ = entry-composition ms r s′ h′ in
+      before-serial g g′ c c′ .1 (omega (arith, serial-rank ms r g c, serial-rank ms r g′ c′, entry-rank ms r s h, entry-rank ms r s′ h′))

@@ -1,9 +1,9 @@
--- The step to the next valid: the first part that is not at its last value moves, and the parts to the left of it start again.
+-- The step to the next composition: the first part that is not at its last value moves, and the parts to the left of it start again.
 use mathlib.Core.Path.{_≡_, sym, ap, _∙_, subst}
 use mathlib.Core.Logic.{_⊎_, inl, inr}
 use mathlib.Core.List.{List, [], _∷_, _++_, reverse}
 use Prim.Native.Nat.{ℕ, zero, suc, _+_, _-_, _≤_, _<_}
-use native.Mathlib.Nat.{not-suc-le-zero, le-of-suc-le-suc, eq-or-lt-of-le, le-refl}
+use native.Mathlib.Nat.{not-suc-le-zero, le-refl}
 use native.Mathlib.Decide.{ℕ-discrete}
 use native.Mathlib.Omega.{arith}
 use lib.ListN.{length, getD, take, drop, length-append, length-drop}
@@ -12,6 +12,7 @@ use Rattle.walsh.specs.Sums.{sumTo}
 use Rattle.walsh.specs.Order.{CompositionTo, Composition, isOdd, listing, order}
 use Rattle.walsh.specs.Rank.{rankOf}
 use Rattle.walsh.specs.Step.{nextValue, partLast, firstOf, AtLast, Pivot, stepAt}
+use Rattle.walsh.proofs.Cases.{last-or-less, up-to}
 use Rattle.walsh.proofs.Listing.{length-listing, listing-reverse, listing-zero-length, spot-lt, spot-at, earlier, inner}
 use Rattle.walsh.proofs.Complete.{composition-low, composition-high, composition-prefix, rank-lt, rank-at, rank-of}
 use Rattle.walsh.proofs.Ends.{length-first, getD-reverse, block-last, block-next-lt, block-next}
@@ -34,15 +35,16 @@ module _ (ms : List ℕ) (r : ℕ) (g : List ℕ) (i : ℕ) where
 
   length-front : length front ≡ suc i
   length-front =
-      length-append (firstOf ms i (upTo - moved) (r - upTo + moved)) (moved ∷ []) ∙ omega (arith, length-first ms i (upTo - moved) (r - upTo + moved))
+      let left : List ℕ = firstOf ms i (upTo - moved) (r - upTo + moved) in
+      length-append left (moved ∷ []) ∙ omega (arith, length-first ms i (upTo - moved) (r - upTo + moved))
 
   step-front : take (suc i) (stepAt ms r g i) ≡ front
   step-front = rw step-split (take-at front (drop (suc i) g) (suc i) length-front)
 
-  pub step-length : i < length g → length (stepAt ms r g i) ≡ length g
+  step-length : i < length g → length (stepAt ms r g i) ≡ length g
   step-length h = rw (step-split, length-append, length-drop) (omega (arith, length-front))
 
-  pub step-right : (j : ℕ) → i < j → getD (stepAt ms r g i) j 0 ≡ getD g j 0
+  step-right : (j : ℕ) → i < j → getD (stepAt ms r g i) j 0 ≡ getD g j 0
   step-right j h =
       let at : j ≡ length front + (j - suc i) = omega (arith, length-front) in
       let at′ : suc i + (j - suc i) ≡ j = omega arith in
@@ -62,7 +64,8 @@ last-same ms k rem t r g er e =
     rw (e, et)
 
 -- with every part at its last value, g is the last
-pub step-last : (ms : List ℕ) (k rem t r : ℕ) (g : List ℕ) → r ≡ t + rem → CompositionTo ms k rem g → ((j : ℕ) → j < k → AtLast ms r g j)
+pub step-last : (ms : List ℕ) (k rem t r : ℕ) (g : List ℕ) → r ≡ t + rem → CompositionTo ms k rem g
+    → ((j : ℕ) → j < k → AtLast ms r g j)
     → suc (rankOf ms k rem t g) ≡ length (listing ms k rem t)
 unfolding rankOf
 step-last ms zero rem t r g er c done = sym (listing-zero-length ms rem t (c .sums))
@@ -73,12 +76,15 @@ step-last ms (suc k) rem t r g er c done =
     block-last ms k rem t v (rankOf ms k (rem - v) (t + v) g) (composition-low c) (composition-high c) below
     (done k (le-refl (suc k)) ∙ last-same ms k rem t r g er (c .sums))
 
-pub step-next : (ms : List ℕ) (k rem t r : ℕ) (g : List ℕ) → r ≡ t + rem → CompositionTo ms k rem g → k ≤ length g → (i : ℕ) → i < k → Pivot ms r g i
-    → (suc (rankOf ms k rem t g) < length (listing ms k rem t)) × (getD (listing ms k rem t) (suc (rankOf ms k rem t g)) [] ≡ take k (stepAt ms r g i))
+-- with part i the pivot, the next is the step at i
+step-next : (ms : List ℕ) (k rem t r : ℕ) (g : List ℕ) → r ≡ t + rem → CompositionTo ms k rem g → k ≤ length g
+    → (i : ℕ) → i < k → Pivot ms r g i
+    → (suc (rankOf ms k rem t g) < length (listing ms k rem t))
+    × (getD (listing ms k rem t) (suc (rankOf ms k rem t g)) [] ≡ take k (stepAt ms r g i))
 unfolding rankOf
 step-next ms zero rem t r g er c l i h pivot = absurd (not-suc-le-zero h)
 step-next ms (suc k) rem t r g er c l i h pivot =
-    go (step-next ms k (rem - v) (t + v) r g er′ (composition-prefix c) (omega arith) i) (eq-or-lt-of-le (le-of-suc-le-suc h))
+    go (step-next ms k (rem - v) (t + v) r g er′ (composition-prefix c) (omega arith) i) (last-or-less h)
   where
     v : ℕ
     v = getD g k 0
@@ -123,20 +129,25 @@ step-next ms (suc k) rem t r g er c l i h pivot =
 -- ---- in the order
 
 -- among the first k parts of g every one is at its last value, or one is the pivot
-pub find-pivot : (ms : List ℕ) (r : ℕ) (g : List ℕ) (k : ℕ) → ((j : ℕ) → j < k → AtLast ms r g j) ⊎ ((i : ℕ) × (i < k) × Pivot ms r g i)
+abbrev pub LastOrPivot : List ℕ → ℕ → List ℕ → ℕ → Type 0
+LastOrPivot ms r g k = ((j : ℕ) → j < k → AtLast ms r g j) ⊎ ((i : ℕ) × (i < k) × Pivot ms r g i)
+
+pub find-pivot : (ms : List ℕ) (r : ℕ) (g : List ℕ) (k : ℕ) → LastOrPivot ms r g k
 find-pivot ms r g zero = inl (λ j l. absurd (not-suc-le-zero l))
 find-pivot ms r g (suc k) = go (find-pivot ms r g k) (ℕ-discrete (getD g k 0) (partLast ms k (sumTo g (suc k)) (r - sumTo g (suc k))))
   where
-    all : ((j : ℕ) → j < k → AtLast ms r g j) → AtLast ms r g k → (j : ℕ) → (j ≡ k) ⊎ (j < k) → AtLast ms r g j
-    all done e j (inl q) = rw q e
-    all done e j (inr l) = done j l
-
-    go : ((j : ℕ) → j < k → AtLast ms r g j) ⊎ ((i : ℕ) × (i < k) × Pivot ms r g i)
-        → Dec (AtLast ms r g k)
-        → ((j : ℕ) → j < suc k → AtLast ms r g j) ⊎ ((i : ℕ) × (i < suc k) × Pivot ms r g i)
+    go : LastOrPivot ms r g k → Dec (AtLast ms r g k) → LastOrPivot ms r g (suc k)
     go (inr (i, l, p)) d = inr (i, omega arith, p)
-    go (inl done) (yes e) = inl (λ j l. all done e j (eq-or-lt-of-le (le-of-suc-le-suc l)))
+    go (inl done) (yes e) = inl (up-to (AtLast ms r g) e done)
     go (inl done) (no ne) = inr (k, le-refl (suc k), record { done = done; moves = ne })
+
+-- where none is the pivot every one is at its last value
+pub no-pivot : (ms : List ℕ) (r : ℕ) (g : List ℕ) (k : ℕ) → ((i : ℕ) → i < k → Pivot ms r g i → ⊥) → (j : ℕ) → j < k → AtLast ms r g j
+no-pivot ms r g k none = go (find-pivot ms r g k)
+  where
+    go : LastOrPivot ms r g k → (j : ℕ) → j < k → AtLast ms r g j
+    go (inl done) = done
+    go (inr (i, h, pivot)) = absurd (none i h pivot)
 
 module _ (ms : List ℕ) (r : ℕ) (g : List ℕ) (valid : Composition ms r g) where
   abbrev n : ℕ
@@ -154,12 +165,12 @@ module _ (ms : List ℕ) (r : ℕ) (g : List ℕ) (valid : Composition ms r g) w
       let wide : i < length g = omega (arith, valid .size) in
       ap (λ (m : ℕ). take m (stepAt ms w g i)) (sym (step-length ms w g i wide ∙ valid .size)) ∙ take-length (stepAt ms w g i)
 
-  -- the last valid
+  -- the last composition
   pub succ-last : ((j : ℕ) → j < length ms → AtLast ms r g j) → suc (rankOf ms (length ms) r 0 g) ≡ length (order ms r)
   unfolding order
   succ-last done = step-last ms n r 0 r g (omega arith) (valid .parts) done
 
-  -- the next valid
+  -- the next composition
   pub succ-at : (i : ℕ) → i < length ms → Pivot ms r g i
       → (suc (rankOf ms (length ms) r 0 g) < length (order ms r)) × (getD (order ms r) (suc (rankOf ms (length ms) r 0 g)) [] ≡ stepAt ms r g i)
   unfolding order
@@ -186,11 +197,11 @@ module _ (ms : List ℕ) (r : ℕ) (g : List ℕ) (valid : Composition ms r g) w
       let at : there ≡ j = rank-of ms n r 0 j (omega (arith, same-length)) g (omega (arith, valid .size)) here in
       omega (arith, same-length)
 
-  -- the first valid
+  -- the first composition
   pub pred-first : ((j : ℕ) → j < length ms → AtLast ms (suc r) g j) → rankOf ms (length ms) r 0 g ≡ 0
   pred-first done = omega (arith, rank-back, same-length, step-last ms n r 1 (suc r) g (omega arith) (valid .parts) done)
 
-  -- the valid before
+  -- the composition before
   pub pred-at : (i : ℕ) → i < length ms → Pivot ms (suc r) g i
       → (0 < rankOf ms (length ms) r 0 g) × (getD (order ms r) (rankOf ms (length ms) r 0 g - 1) [] ≡ stepAt ms (suc r) g i)
   unfolding order

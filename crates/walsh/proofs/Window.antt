@@ -5,7 +5,7 @@ use Prim.Native.Nat.{ℕ, zero, suc, _+_, _-_, _≤_, min}
 use native.Mathlib.Omega.{arith}
 use native.Mathlib.Numerals.{add-one}
 use lib.ListN.{getD}
-use Rattle.walsh.specs.Sums.{sum, sumTo}
+use Rattle.walsh.specs.Sums.{sum}
 use Rattle.walsh.specs.Order.{count}
 use Rattle.walsh.proofs.Lists.{sum-mono}
 
@@ -14,27 +14,18 @@ use Rattle.walsh.proofs.Lists.{sum-mono}
 pub sum-at : (f : ℕ → ℕ) (a b : ℕ) → a ≡ b → sum f a ≡ sum f b
 sum-at f a b e = ap {A = ℕ} {B = ℕ} (sum f) {x = a} {y = b} e
 
-pub sum-zero : (f : ℕ → ℕ) → sum f 0 ≡ 0
-sum-zero f = refl
-
-pub sum-suc : (f : ℕ → ℕ) (n : ℕ) → sum f (suc n) ≡ sum f n + f n
-sum-suc f n = refl
-
 pub sum-step : (f : ℕ → ℕ) (n : ℕ) → sum f (n + 1) ≡ sum f n + f n
 sum-step f n = rw add-one
-
-pub sum-to-mono : (ms : List ℕ) (a b : ℕ) → a ≤ b → sumTo ms a ≤ sumTo ms b
-sum-to-mono ms a b l = sum-mono (λ i. getD ms i 0) a b l
 
 -- n terms downwards from t, and all before them, are all up to t
 window : (f : ℕ → ℕ) (t n : ℕ) → n ≤ t + 1 → sum (λ v. f (t - v)) n + sum f (t + 1 - n) ≡ sum f (t + 1)
 window f t zero l =
     let e = sum-at f (t + 1 - 0) (t + 1) (omega arith) in
-    omega (arith, sum-zero (λ v. f (t - v)))
+    omega arith
 window f t (suc n) l =
     let e = sum-at f (t + 1 - n) (t - n + 1) (omega arith) in
     let e′ = sum-at f (t + 1 - suc n) (t - n) (omega arith) in
-    omega (arith, window f t n (omega arith), sum-step f (t - n), sum-suc (λ v. f (t - v)) n)
+    omega (arith, window f t n (omega arith), sum-step f (t - n))
 
 -- ---- counts
 
@@ -57,5 +48,6 @@ count-window ms k t =
 -- a composition of t with the value v behind it is one of t + v
 pub count-grows : (ms : List ℕ) (k t v : ℕ) → v ≤ getD ms k 0 → count ms k t ≤ count ms (suc k) (t + v)
 count-grows ms k t v l =
-    omega
-    (arith, count-window ms k (t + v), sum-step (count ms k) t, sum-mono (count ms k) (t + v - getD ms k 0) t (omega arith), sum-mono (count ms k) (t + 1) (t + v + 1) (omega arith))
+    let below = sum-mono (count ms k) (t + v - getD ms k 0) t (omega arith) in
+    let above = sum-mono (count ms k) (t + 1) (t + v + 1) (omega arith) in
+    omega (arith, count-window ms k (t + v), sum-step (count ms k) t)

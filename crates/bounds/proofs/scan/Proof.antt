@@ -6,7 +6,8 @@ use lib.ListN.{length, drop, getD}
 use denote.Ref.{now}
 use borrow.Author.Needs.{needs}
 use Rattle.walsh.specs.Sums.{sumTo}
-use Rattle.walsh.proofs.Window.{sum-at, sum-step}
+use Rattle.walsh.proofs.Lists.{sumTo-step}
+use Rattle.walsh.proofs.Window.{sum-at}
 use Rattle.bounds.specs.Edition.{firstOutside}
 use Rattle.bounds.proofs.Editions.{first-here, first-next, first-none}
 use Rattle.bounds.proofs.scan.Statement.{statement}
@@ -34,7 +35,7 @@ loop-again c =
     let w = c .before .before .wide .ensures in (
       omega arith,
       sym (first-next ms (l .i) (omega arith) (rw (w .0) at e)) ∙ l .inv .1,
-      omega (arith, sum-step (λ j. getD ms j 0) (l .i), w .0),
+      omega (arith, sumTo-step ms (l .i), w .0),
       omega (arith, w .1),
     )
 

@@ -2,12 +2,12 @@
 use Prim.Native.Nat.{ℕ, _-_, _*_, _≤_, _<_}
 use mathlib.Core.Path.{_≡_, sym, _∙_}
 use native.Mathlib.Omega.{arith}
-use lib.ListN.{length, getD}
+use lib.ListN.{length}
 use borrow.Author.Count.{below-more}
 use borrow.Author.Needs.{needs}
 use Rattle.walsh.specs.Sums.{sumTo}
 use Rattle.walsh.specs.Step.{AtLast}
-use Rattle.walsh.proofs.Window.{sum-step}
+use Rattle.walsh.proofs.Lists.{sumTo-step}
 use Rattle.step.specs.Turn.{Moving, canMove}
 use Rattle.step.proofs.Turns.{part-stays, first-stays, can-here}
 use Rattle.step.proofs.pivot.Statement.{statement}
@@ -94,8 +94,8 @@ loop-again c =
     let inside : i < length ms = omega (arith, bound .before .before .loop-test .taken) in (
       omega arith,
       omega arith,
-      omega (arith, sum-step (λ j. getD ms j 0) i),
-      omega (arith, sum-step (λ j. getD g j 0) i),
+      omega (arith, sumTo-step ms i),
+      omega (arith, sumTo-step g i),
       omega arith,
       omega arith,
       λ m. below-more (AtLast ms (start .args .total) g) i (turn .loop .inv .6 m)
