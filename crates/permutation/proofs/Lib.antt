@@ -1,4 +1,5 @@
 pub mod Counts
+pub mod Sets
 pub mod Smaller
 pub mod Inverse
 pub mod Vectors

@@ -3,23 +3,30 @@ use mathlib.Core.Path.{_≡_, refl, sym, ap, _∙_}
 use mathlib.Core.Bool.{Bool, true, false}
 use mathlib.Core.List.{List, _++_}
 use Prim.Native.Nat.{ℕ, _+_, _-_, _≤_, _<_}
+use native.Mathlib.Numerals.{add-one}
 use native.Mathlib.Omega.{arith}
-use lib.ListN.{length, getD}
+use lib.ListN.{length, getD, take, length-take}
 use borrow.Author.Tests.{eqb-true, eq-eqb, lt-ltb, not-false}
 use Rattle.walsh.specs.Order.{Composition}
 use Rattle.bounds.specs.Refusal.{refused, firstRefusal}
-use Rattle.bounds.specs.Edition.{shapeChecks, editionChecks}
-use Rattle.bounds.specs.Places.{compositionChecks, lentChecks}
+use Rattle.bounds.specs.Edition.{editionChecks}
+use Rattle.bounds.specs.Places.{compositionChecks}
 use Rattle.bounds.specs.declared.Refusal.{Refusal}
 use Rattle.bounds.proofs.Refusals.{numbered, passed}
-use Rattle.bounds.proofs.Editions.{shapely}
+use Rattle.bounds.proofs.Editions.{shapely, edition-shape}
+use Rattle.bounds.proofs.Places.{lent-passed, lent-passes}
 use Rattle.bounds.proofs.Compositions.{composition-passed, composition-passes}
 use Rattle.bounds.proofs.Chains.{Accepts, accepts-split, accepts-join}
 use Rattle.mahonian.specs.Staircase.{isStaircase}
+use Rattle.permutation.specs.Permutation.{inversionVector}
 use Rattle.permutation.specs.Reading.{Reading, PermutationWith}
 use Rattle.permutation.specs.Conversions.{staircaseChecks, permutationChecks, toPermutationChecks, toCompositionChecks}
 use Rattle.permutation.proofs.Counts.{is-permutation}
+use Rattle.permutation.proofs.Inverse.{inversions-length}
 use Rattle.permutation.proofs.Vectors.{composition-fits}
+
+pub refused-not : {v : Refusal} {n d : ℕ} → v ≡ refused n d → 0 < n → v .number ≡ 0 → ⊥
+refused-not {v} e some none = omega (arith, ap (λ (w : Refusal). w .number) e)
 
 -- ---- the bounds
 
@@ -47,19 +54,10 @@ module _ (ms : List ℕ) (r : ℕ) where
   staircase-passes e = rw e
 
   edition-few : Accepts (editionChecks ms r) → length ms ≤ 24
-  edition-few e = shapely ms r (accepts-split (shapeChecks ms r) _ refl e .0) .few
+  edition-few e = shapely ms r (edition-shape ms r e) .few
 
   pub staircase-few : {v : Refusal} → v ≡ firstRefusal (editionChecks ms r ++ staircaseChecks ms) → v .number ≡ 0 → length ms ≤ 24
   staircase-few {v} e none = edition-few (accepts-split (editionChecks ms r) _ refl (ap (λ (w : Refusal). w .number) (sym e) ∙ none) .0)
-
--- ---- the lent part
-
-lent-passed : (want have : ℕ) → Accepts (lentChecks want have) → have ≡ want
-lent-passed want have e = eqb-true have want (not-false _ (passed _ _ refl e .0))
-
-lent-passes : (want have : ℕ) → have ≡ want → Accepts (lentChecks want have)
-unfolding firstRefusal
-lent-passes want have e = rw (eq-eqb have want e)
 
 -- ---- mix to order
 
@@ -75,7 +73,7 @@ module _ (ms : List ℕ) (r : ℕ) (g : List ℕ) (room : ℕ) where
   to-permutation-passes s comp fits =
       accepts-join (editionChecks ms r) _ refl (s .edition)
       (accepts-join (staircaseChecks ms) _ refl (staircase-passes ms r (s .stairs))
-      (accepts-join (compositionChecks ms r g) _ refl (ap (λ (v : Refusal). v .number) (composition-passes ms r g comp)) (lent-passes (length ms + 1) room fits)))
+      (accepts-join (compositionChecks ms r g) _ refl (ap (λ (v : Refusal). v .number) (composition-passes ms r g comp)) (ap (λ (v : Refusal). v .number) (lent-passes (length ms + 1) room fits))))
 
   -- what `fill_permutation` asks
   pub to-permutation-ready : {v : Refusal} → v ≡ firstRefusal (toPermutationChecks ms r g room) → v .number ≡ 0
@@ -118,12 +116,13 @@ module _ (reading : Reading) (refuses : 0 < reading .number) (ms : List ℕ) (r 
     to-composition-passes s perm fits =
         accepts-join (editionChecks ms r) _ refl (s .edition)
         (accepts-join (staircaseChecks ms) _ refl (staircase-passes ms r (s .stairs))
-        (accepts-join (permutationChecks reading ms r p) _ given-numbered (given-passes perm) (lent-passes (length ms) room fits)))
+        (accepts-join (permutationChecks reading ms r p) _ given-numbered (given-passes perm) (ap (λ (v : Refusal). v .number) (lent-passes (length ms) room fits))))
 
-    -- what `fill_inversions` asks
-    pub to-composition-ready : {v : Refusal} → v ≡ firstRefusal (toCompositionChecks reading ms r p room) → v .number ≡ 0
-        → (length p ≤ 25) × (length p ≡ room + 1)
-    to-composition-ready {v} e none =
+    -- what `fill_composition` asks: the vector that is read has as many cells as the lent part
+    pub to-composition-ready : (vector : List ℕ) {v : Refusal} → v ≡ firstRefusal (toCompositionChecks reading ms r p room) → v .number ≡ 0
+        → take room vector ≡ inversionVector p
+        → (room ≤ 25) × (room ≤ length vector)
+    to-composition-ready vector {v} e none is =
         let known = to-composition-passed (ap (λ (w : Refusal). w .number) (sym e) ∙ none) in
-        let size = known .1 .is .size in
-        (omega (arith, edition-few ms r (known .0 .edition)), omega (arith, known .2))
+        let size : length (inversionVector p) ≡ length ms = inversions-length (rw (add-one (length ms)) at (known .1 .is)) in
+        (omega (arith, edition-few ms r (known .0 .edition), known .2), omega (arith, ap length is, length-take room vector, size, known .2))

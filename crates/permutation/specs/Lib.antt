@@ -1,4 +1,5 @@
 pub mod Permutation
+pub mod Values
 pub mod Exchange
 pub mod Reading
 pub mod Conversions

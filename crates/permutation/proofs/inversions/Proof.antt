@@ -1,4 +1,5 @@
 -- `permutation::inversions` meets its contract.
+use mathlib.Core.Path.{_∙_}
 use native.Mathlib.Omega.{arith}
 use borrow.Author.Needs.{needs}
 use Rattle.bounds.proofs.Filling.{filling-refused, filling-done}
@@ -10,19 +11,22 @@ use Rattle.permutation.proofs.inversions.Tie as tie
 
 returns : tie.Need-returns
 unfolding toComposition
-returns c = filling-refused _ _ _ (c .before .before .to-composition-refusal .ensures) (c .if1 .taken)
+returns c = let test = c .before in
+    filling-refused _ _ _ (test .before .before .to-composition .ensures .0) (test .if1 .taken)
 
-fill-inversions-requires : tie.Need-fill-inversions-requires
-fill-inversions-requires c κs = let checked = c .before .before .before in
+fill-composition-requires : tie.Need-fill-composition-requires
+fill-composition-requires c κs = let test = c .before .before .before in
+    let checked = test .before .before in
     let args = checked .before .before .before .before .args in
-    to-composition-ready byInversions (omega arith) (args .upper .now) (args .total) (args .permutation .now) _ (checked .to-composition-refusal .ensures) (c .before .if1 .left)
+    to-composition-ready byInversions (omega arith) (args .upper .now) (args .total) (args .permutation .now) _ _ (checked .to-composition .ensures .0) (test .if1 .left) (checked .to-composition .ensures .1 (test .if1 .left))
 
 returns-2 : tie.Need-returns-2
 unfolding toComposition
-returns-2 c = let filled = c .before .before in
-    let checked = filled .before .before .before .before in
-    filling-done _ _ _ (checked .to-composition-refusal .ensures) (filled .before .before .if1 .left) (filled .fill-inversions .ensures)
+returns-2 c = let filled = c .before .before .before in
+    let test = filled .before .before .before .before in
+    let checked = test .before .before in
+    filling-done _ _ _ (checked .to-composition .ensures .0) (test .if1 .left) (filled .fill-composition .ensures ∙ checked .to-composition .ensures .1 (test .if1 .left))
 
 pub inversions-spec : {M : Type 1} → statement M
 inversions-spec =
-    tie.close (tie.spec (λ c κs. search needs) returns fill-inversions-requires (λ c. search needs) returns-2)
+    tie.close (tie.spec (λ c κs. search needs) returns fill-composition-requires (λ c. search needs) returns-2)
