@@ -8,5 +8,6 @@ pub mod Raised
 pub mod Serials
 pub mod Turns
 pub mod ByInversions
+pub mod Mahonian
 pub mod Tables
 pub mod RoundTrips

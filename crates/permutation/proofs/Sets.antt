@@ -14,7 +14,7 @@ use lib.ListN.{length}
 use borrow.Author.Tests.{lt-ltb, le-ltb, eq-eqb, ne-eqb}
 use Rattle.walsh.proofs.Cases.{on-test}
 use Rattle.permutation.specs.Permutation.{times, IsPermutation, isPermutation}
-use Rattle.permutation.specs.Values.{digit, HasValues}
+use Rattle.permutation.specs.Values.{digit, aloneOf, HasValues}
 use Rattle.permutation.proofs.Counts.{below, below-suc, below-zero, many-le, permutation, is-permutation, not-permutation}
 
 -- ---- digits
@@ -55,23 +55,19 @@ ones-none n = rw (mod-one n)
 
 -- ---- one value more
 
--- the set of a value alone
-abbrev pub alone : ℕ → ℕ
-alone x = cond (ltb x 32) (2 ^ x) 0
-
 pub values-none : HasValues 0 []
 values-none = record { digits = λ v h. rw (div-eq-of-lt (pow-pos v)) }
 
-digit-alone : (v x : ℕ) → v < 32 → digit v (alone x) ≡ cond (eqb x v) 1 0
+digit-alone : (v x : ℕ) → v < 32 → digit v (aloneOf x) ≡ cond (eqb x v) 1 0
 digit-alone v x h = go (decLt x 32)
   where
-    go : Dec (x < 32) → digit v (alone x) ≡ cond (eqb x v) 1 0
+    go : Dec (x < 32) → digit v (aloneOf x) ≡ cond (eqb x v) 1 0
     go (yes l) = rw (lt-ltb x 32 l) (digit-power v x)
     go (no l) = rw (le-ltb x 32 (omega arith), ne-eqb x v (λ e. omega arith), div-eq-of-lt (pow-pos v))
 
-pub values-more : {n : ℕ} {l : List ℕ} (x : ℕ) → HasValues n l → HasValues (bitOr n (alone x)) (x ∷ l)
+pub values-more : {n : ℕ} {l : List ℕ} (x : ℕ) → HasValues n l → HasValues (bitOr n (aloneOf x)) (x ∷ l)
 values-more {n} {l} x has =
-    record { digits = λ v h. digit-or v n (alone x) ∙ rw (digit-alone v x h, has .digits v h) (go v (ℕ-discrete x v)) }
+    record { digits = λ v h. digit-or v n (aloneOf x) ∙ rw (digit-alone v x h, has .digits v h) (go v (ℕ-discrete x v)) }
   where
     go : (v : ℕ) → Dec (x ≡ v) → max (min (times v l) 1) (cond (eqb x v) 1 0) ≡ min (times v (x ∷ l)) 1
     go v (yes e) = rw (eq-eqb x v e) (omega arith)

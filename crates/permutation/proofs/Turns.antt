@@ -13,9 +13,9 @@ use lib.Count.{ones}
 use lib.Dec.{eqb, ltb}
 use borrow.Author.Tests.{lt-ltb}
 use Rattle.permutation.specs.Permutation.{IsPermutation, smallerAfter, tabulate, inversions, inversionVector, lift, permutationOf}
-use Rattle.permutation.specs.Values.{HasValues}
+use Rattle.permutation.specs.Values.{aloneOf, HasValues}
 use Rattle.permutation.proofs.Counts.{below, many-le, many-drop, entry-le, times-le}
-use Rattle.permutation.proofs.Sets.{alone, values-none, values-more, values-below}
+use Rattle.permutation.proofs.Sets.{values-none, values-more, values-below}
 use Rattle.permutation.proofs.Smaller.{smaller-is, inversions-more}
 use Rattle.permutation.proofs.Inverse.{Under, lift-low, lift-high}
 use Rattle.permutation.proofs.Vectors.{at-under}
@@ -28,7 +28,7 @@ drop-back p (suc i) h l =
     let back : suc i - 1 ≡ i = omega arith in
     rw back (drop-cons p i 0 l)
 
-pub set-turn : (p : List ℕ) (i n x : ℕ) → 0 < i → i ≤ length p → x ≡ getD p (i - 1) 0 → HasValues n (drop i p) → HasValues (bitOr n (alone x)) (drop (i - 1) p)
+pub set-turn : (p : List ℕ) (i n x : ℕ) → 0 < i → i ≤ length p → x ≡ getD p (i - 1) 0 → HasValues n (drop i p) → HasValues (bitOr n (aloneOf x)) (drop (i - 1) p)
 set-turn p i n x h l ex has = rw (drop-back p i h l, ← ex) (values-more x has)
 
 -- ---- the inversion vector

@@ -16,7 +16,7 @@ use Rattle.permutation.proofs.Inverse.{Under, permutation-is, inversion
 
 -- ---- the staircase
 
-length-staircase : (n : ℕ) → length (staircase (suc n)) ≡ n
+pub length-staircase : (n : ℕ) → length (staircase (suc n)) ≡ n
 unfolding staircase
 length-staircase zero = refl
 length-staircase (suc n) = ap suc (length-staircase n)

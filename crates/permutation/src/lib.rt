@@ -6,10 +6,8 @@ use places::lent_refusal;
 use places::refusal;
 use walsh::wide;
 ghost use mathlib.Core.Path.{_≡_};
-ghost use mathlib.Core.Bool.{cond};
 ghost use mathlib.Core.List.{List, map, _++_};
 ghost use Prim.Native.Nat.{ℕ, _+_, _-_, _^_, _≤_, _<_};
-ghost use lib.Dec.{ltb};
 ghost use lib.ListN.{length, getD, take, drop};
 ghost use Rattle.bounds.specs.Refusal.{firstRefusal};
 ghost use Rattle.bounds.specs.Edition.{editionChecks};
@@ -17,7 +15,7 @@ ghost use Rattle.bounds.specs.declared.Refusal.{Refusal};
 ghost use Rattle.permutation.specs.Reading.{byInversions};
 ghost use Rattle.permutation.specs.Conversions.{staircaseChecks, permutationChecks, toPermutationChecks, toCompositionChecks, toPermutation, toComposition};
 ghost use Rattle.permutation.specs.Permutation.{IsPermutation, isPermutation, inversions, inversionVector, lift, permutationOf};
-ghost use Rattle.permutation.specs.Values.{HasValues};
+ghost use Rattle.permutation.specs.Values.{aloneOf, HasValues};
 
 // The inversion vector of a permutation of at most 25, with 0 for its last entry and in the cells past it; and the sum.
 struct Found {
@@ -38,9 +36,9 @@ fn power(v: usize) -> u32
     1u32 << v
 }
 
-// The set of the value v alone, or of none where v is 32 or more.
-fn only(v: usize) -> u32
-    ensures { λ r. ⌜ r ≡ cond (ltb v 32) (2 ^ v) 0 ⌝ }
+// The set of the value v alone, or of none where v is over 31.
+fn alone(v: usize) -> u32
+    ensures { λ r. ⌜ r ≡ aloneOf v ⌝ }
 {
     if v < 32 { power(v) } else { 0 }
 }
@@ -53,7 +51,7 @@ fn value_set(p: &[u8]) -> u32
     let mut i = p.len();
     while 0 < i {
         i -= 1;
-        set = set | only(wide(p[i]));
+        set = set | alone(wide(p[i]));
     }
     set
 }
