@@ -21,7 +21,9 @@ by-inversions =
       permutation-is =
           λ ms r g stairs comp.
           record { is = rw (add-one (length ms)) (composition-permutation ms stairs comp); total = composition-inversions ms stairs comp };
-      composition-is = λ ms r p stairs perm. subst (λ (t : ℕ). Composition ms t (inversionVector p)) (perm .total) (vector-composition ms stairs p (one-more perm));
+      composition-is =
+          λ ms r p stairs perm.
+          subst (λ (t : ℕ). Composition ms t (inversionVector p)) (perm .total) (vector-composition ms stairs p (one-more perm));
       composition-back = λ ms r g stairs comp. inversions-permutation g (composition-under ms stairs comp);
       permutation-back = λ ms r p stairs perm. permutation-inversions (one-more perm);
     }

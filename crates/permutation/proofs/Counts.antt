@@ -122,7 +122,11 @@ module _ {k : ℕ} {p : List ℕ} (perm : IsPermutation k p) where
 pub is-permutation : (k : ℕ) (p : List ℕ) → (isPermutation k p ≡ true) ↔ IsPermutation k p
 unfolding isPermutation
 is-permutation k p = (
-  λ e. record { size = eqb-true (length p) k (both-left (eqb (length p) k) (every each k) e); once = once (both-right (eqb (length p) k) (every each k) e) },
+  λ e.
+      record {
+        size = eqb-true (length p) k (both-left (eqb (length p) k) (every each k) e);
+        once = once (both-right (eqb (length p) k) (every each k) e);
+      },
   λ perm. rw (eq-eqb (length p) k (perm .size)) (every-all each k (λ v l. eq-eqb (times (suc v) p) 1 (perm .once (suc v) (omega arith) l))),
 )
   where
@@ -135,4 +139,7 @@ is-permutation k p = (
 
 -- number 11: "length isn't k, or not a permutation of 1..k"
 pub not-permutation : (k : ℕ) (p : List ℕ) → (isPermutation k p ≡ false) ↔ (IsPermutation k p → ⊥)
-not-permutation k p = (λ e perm. false≢true (sym e ∙ is-permutation k p .1 perm), λ other. on-test (isPermutation k p) (λ e. absurd (other (is-permutation k p .0 e))) (λ e. e))
+not-permutation k p = (
+  λ e perm. false≢true (sym e ∙ is-permutation k p .1 perm),
+  λ other. on-test (isPermutation k p) (λ e. absurd (other (is-permutation k p .0 e))) (λ e. e),
+)

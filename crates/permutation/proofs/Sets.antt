@@ -125,7 +125,8 @@ module _ {n : ℕ} {p : List ℕ} (has : HasValues n p) (k : ℕ) (short : k ≤
       each (suc v) l h = omega (arith, sym (digit-half n v) ∙ set-all (n / 2) k e v h, has .digits (suc v) (omega arith))
 
   pub permutation-set : IsPermutation k p → ones (n / 2 % 2 ^ k) ≡ k
-  permutation-set perm = all-set (n / 2) k (λ v h. digit-half n v ∙ has .digits (suc v) (omega arith) ∙ omega (arith, perm .once (suc v) (omega arith) h))
+  permutation-set perm =
+      all-set (n / 2) k (λ v h. digit-half n v ∙ has .digits (suc v) (omega arith) ∙ omega (arith, perm .once (suc v) (omega arith) h))
 
 module _ (k : ℕ) (p : List ℕ) where
   pub other-size : (length p ≡ k → ⊥) → isPermutation k p ≡ false

@@ -7,16 +7,17 @@ use native.Mathlib.Numerals.{add-one}
 use native.Mathlib.Omega.{arith}
 use native.Mathlib.Decide.{decLt, ℕ-discrete}
 use lib.ListN.{length, getD, take, drop, set, replicate, length-drop, length-set, drop-of-length-le}
-use lib.Seq.{drop-cons, drop-length, take-all, take-suc, take-suc-set, drop-set-lt, append-snoc, getD-set-same, getD-set-other, getD-drop, drop-at, length-take-le}
+use lib.Seq.{drop-cons, drop-length, drop-set-lt, drop-at, take-all, take-suc-set, length-take-le}
+use lib.Seq.{append-snoc, getD-set-same, getD-set-other, getD-drop}
 use lib.Bits.{bitOr}
 use lib.Count.{ones}
 use lib.Dec.{eqb, ltb}
 use borrow.Author.Tests.{lt-ltb}
-use Rattle.permutation.specs.Permutation.{IsPermutation, smallerAfter, tabulate, inversions, inversionVector, lift, permutationOf}
+use Rattle.permutation.specs.Permutation.{IsPermutation, smallerAfter, inversions, inversionVector, lift, permutationOf}
 use Rattle.permutation.specs.Values.{aloneOf, HasValues}
 use Rattle.permutation.proofs.Counts.{below, many-le, many-drop, entry-le, times-le}
 use Rattle.permutation.proofs.Sets.{values-none, values-more, values-below}
-use Rattle.permutation.proofs.Smaller.{smaller-is, inversions-more}
+use Rattle.permutation.proofs.Smaller.{tabulate-take, smaller-is, inversions-more}
 use Rattle.permutation.proofs.Inverse.{Under, lift-low, lift-high}
 use Rattle.permutation.proofs.Vectors.{at-under}
 
@@ -28,12 +29,14 @@ drop-back p (suc i) h l =
     let back : suc i - 1 ≡ i = omega arith in
     rw back (drop-cons p i 0 l)
 
-pub set-turn : (p : List ℕ) (i n x : ℕ) → 0 < i → i ≤ length p → x ≡ getD p (i - 1) 0 → HasValues n (drop i p) → HasValues (bitOr n (aloneOf x)) (drop (i - 1) p)
+pub set-turn : (p : List ℕ) (i n x : ℕ) → 0 < i → i ≤ length p → x ≡ getD p (i - 1) 0 → HasValues n (drop i p)
+    → HasValues (bitOr n (aloneOf x)) (drop (i - 1) p)
 set-turn p i n x h l ex has = rw (drop-back p i h l, ← ex) (values-more x has)
 
 -- ---- the inversion vector
 
--- what is found from place i on: the set of the values there, the inversions among them, and their part of the vector
+-- what is found from place i on: the set of the values there, the inversions among them (`few`: the sum does not overflow), and their parts
+-- of the vector
 pub record FoundFrom (p : List ℕ) (i : ℕ) (vector : List ℕ) (sum behind : ℕ) : Type 0 where
   pub place : i ≤ length p
   pub cells : length vector ≡ 25
@@ -57,14 +60,17 @@ module _ (p : List ℕ) (short : length p ≤ 25) where
 
   module _ (perm : IsPermutation (length p) p) {i sum behind : ℕ} {vector : List ℕ} (found : FoundFrom p i vector sum behind) where
     module _ (first : 0 < i) (x : ℕ) (here : x ≡ getD p (i - 1) 0) where
+      entry-within : x ≤ length p
+      entry-within = omega (arith, entry-le perm (i - 1) (omega (arith, found .place)))
+
       pub entry-small : x < 32
-      entry-small = omega (arith, found .place, entry-le perm (i - 1) (omega (arith, found .place)))
+      entry-small = omega (arith, entry-within)
 
       -- the values behind that are smaller
       behind-below : ones (behind % 2 ^ x) ≡ below x (drop i p)
       behind-below =
           values-below (found .values) x (omega (arith, entry-small))
-          (λ u h. omega (arith, many-drop (λ y. eqb y u) i p, times-le perm u (omega (arith, found .place, entry-le perm (i - 1) (omega (arith, found .place))))))
+          (λ u h. omega (arith, many-drop (λ y. eqb y u) i p, times-le perm u (omega (arith, entry-within))))
 
       pub behind-few : ones (behind % 2 ^ x) ≤ 25
       behind-few = omega (arith, behind-below, many-le (λ y. ltb y x) (drop i p), length-drop i p)
@@ -93,11 +99,6 @@ module _ (p : List ℕ) (short : length p ≤ 25) where
               go : Dec (j ≡ i - 1) → getD (set vector (i - 1) n) j 0 ≡ smallerAfter p j
               go (yes e) = rw e (getD-set-same vector (i - 1) n 0 (omega (arith, found .cells, found .place)) ∙ en ∙ behind-smaller)
               go (no e) = getD-set-other vector (i - 1) j n 0 e ∙ found .parts j (omega arith) h
-
-  tabulate-take : (f : ℕ → ℕ) (l : List ℕ) (n : ℕ) → n ≤ length l → ((j : ℕ) → j < n → getD l j 0 ≡ f j) → take n l ≡ tabulate f n
-  tabulate-take f l zero h each = refl
-  tabulate-take f l (suc n) h each =
-      take-suc l n 0 h ∙ rw (tabulate-take f l n (omega arith) (λ j b. each j (omega arith)), each n (le-refl (suc n)))
 
   pub found-vector : {i sum behind : ℕ} {vector : List ℕ} → FoundFrom p i vector sum behind → i ≤ 0 → take (length p - 1) vector ≡ inversionVector p
   unfolding inversionVector
@@ -167,7 +168,8 @@ module _ (g : List ℕ) (fits : (i : ℕ) → i < length g → getD g i 0 ≤ le
   pub permutation-small : (out : List ℕ) (a : ℕ) → length g ≤ 24 → drop a out ≡ permutationOf (drop a g) → (j : ℕ) → a ≤ j → getD out j 0 < 255
   permutation-small out a short e j h =
       let here : a + (j - a) ≡ j = omega arith in
-      let entry : getD out j 0 ≡ getD (permutationOf (drop a g)) (j - a) 0 = ap (λ (n : ℕ). getD out n 0) (sym here) ∙ sym (getD-drop a out (j - a) 0) ∙ ap (λ (l : List ℕ). getD l (j - a) 0) e in
+      let entry : getD out j 0 ≡ getD (permutationOf (drop a g)) (j - a) 0 =
+      ap (λ (n : ℕ). getD out n 0) (sym here) ∙ sym (getD-drop a out (j - a) 0) ∙ ap (λ (l : List ℕ). getD l (j - a) 0) e in
       omega (arith, entries-le (drop a g) (under-drop g a (at-under g fits)) (j - a), length-drop a g)
 
 module _ (g : List ℕ) where
@@ -181,7 +183,8 @@ module _ (g : List ℕ) where
         drop-length g,
       )
 
-  pub permutation-turn : (out room : List ℕ) (a c : ℕ) → 0 < a → a ≤ length g → length out ≡ length g + 1 → length room ≡ length out → c ≡ getD g (a - 1) 0
+  pub permutation-turn : (out room : List ℕ) (a c : ℕ) → 0 < a → a ≤ length g → length out ≡ length g + 1 → length room ≡ length out
+      → c ≡ getD g (a - 1) 0
       → room ≡ take a out ++ map (lift c) (drop a out)
       → drop a out ≡ permutationOf (drop a g)
       → drop (a - 1) (set room (a - 1) (c + 1)) ≡ permutationOf (drop (a - 1) g)
@@ -190,7 +193,10 @@ module _ (g : List ℕ) where
   permutation-turn out room (suc i) c h l k kr ec er e =
       let back : suc i - 1 ≡ i = omega arith in
       let ec′ : c ≡ getD g i 0 = rw back at ec in
-      let later : drop (suc i) room ≡ map (lift c) (permutationOf (drop (suc i) g)) = ap (drop (suc i)) er ∙ drop-at (take (suc i) out) (map (lift c) (drop (suc i) out)) (suc i) (length-take-le (suc i) out (omega arith)) ∙ ap (map (lift c)) e in
+      let later : drop (suc i) room ≡ map (lift c) (permutationOf (drop (suc i) g)) =
+      ap (drop (suc i)) er
+      ∙ drop-at (take (suc i) out) (map (lift c) (drop (suc i) out)) (suc i) (length-take-le (suc i) out (omega arith))
+      ∙ ap (map (lift c)) e in
       rw back
       (drop-cons (set room i (c + 1)) i 0 (omega (arith, length-set room i (c + 1)))
       ∙ rw (

@@ -13,11 +13,12 @@ ghost use Rattle.bounds.specs.Refusal.{firstRefusal};
 ghost use Rattle.bounds.specs.Edition.{editionChecks};
 ghost use Rattle.bounds.specs.declared.Refusal.{Refusal};
 ghost use Rattle.permutation.specs.Reading.{byInversions};
-ghost use Rattle.permutation.specs.Conversions.{staircaseChecks, permutationChecks, toPermutationChecks, toCompositionChecks, toPermutation, toComposition};
+ghost use Rattle.permutation.specs.Conversions.{staircaseChecks, permutationChecks, toPermutationChecks, toCompositionChecks};
+ghost use Rattle.permutation.specs.Conversions.{toPermutation, toComposition};
 ghost use Rattle.permutation.specs.Permutation.{IsPermutation, isPermutation, inversions, inversionVector, lift, permutationOf};
 ghost use Rattle.permutation.specs.Values.{aloneOf, HasValues};
 
-// The inversion vector of a permutation of at most 25, with 0 for its last entry and in the cells past it; and the sum.
+// The inversion vector of a permutation of at most 25 entries, followed by zeros, and its sum.
 struct Found {
     vector: [u8; 25],
     sum: u32,
@@ -29,6 +30,7 @@ struct Vectored {
     vector: [u8; 25],
 }
 
+// The bit of the value v in a set.
 fn power(v: usize) -> u32
     requires { ⌜ v < 32 ⌝ }
     ensures { λ r. ⌜ r ≡ 2 ^ v ⌝ }
@@ -56,7 +58,7 @@ fn value_set(p: &[u8]) -> u32
     set
 }
 
-// p is a permutation of 1..k: it has k entries, and k values of 1..k are among them.
+// p is a permutation of 1..k: it has k entries, and as many of the values 1..k are among them.
 fn is_permutation(p: &[u8], k: usize) -> bool
     requires { ⌜ k ≤ 25 ⌝ }
     ensures { λ r. ⌜ r ≡ isPermutation k (now (p .entry)) ⌝ }
@@ -67,7 +69,7 @@ fn is_permutation(p: &[u8], k: usize) -> bool
     u32::count_ones(value_set(p) / 2 % power(k)) as usize == k
 }
 
-// The inversion vector, from the last place to the first: of the set of the values behind a place, those below the entry there are counted.
+// The inversion vector, from the last place to the first: the values below the entry are counted in the set of those behind it.
 fn find_inversions(p: &[u8]) -> Found
     requires { ⌜ (length (now p) ≤ 25) × IsPermutation (length (now p)) (now p) ⌝ }
     ensures { λ r. ⌜ (take (length (now (p .entry)) - 1) (r .vector) ≡ inversionVector (now (p .entry))) × (r .sum ≡ inversions (now (p .entry))) ⌝ }
@@ -108,7 +110,8 @@ fn make_room(out: &mut [u8], from: usize, c: u8)
 
 // Fills out with the permutation whose inversion vector is g, from the last place to the first.
 fn fill_permutation(g: &[u8], out: &mut [u8])
-    requires { ⌜ (length (now g) ≤ 24) × (length (now out) ≡ length (now g) + 1) × ((i : ℕ) → i < length (now g) → getD (now g) i 0 ≤ length (now g) - i) ⌝ }
+    requires { ⌜ (length (now g) ≤ 24) × (length (now out) ≡ length (now g) + 1)
+        × ((i : ℕ) → i < length (now g) → getD (now g) i 0 ≤ length (now g) - i) ⌝ }
     ensures { λ _. ⌜ now (out .exit) ≡ permutationOf (now (g .entry)) ⌝ }
 {
     let mut i = g.len();
@@ -146,7 +149,7 @@ fn unread(refusal: Refusal) -> Vectored
     }
 }
 
-// The place 'sheet orders' from 11 on.
+// The place 'sheet orders' from 11 on, with the vector that it needs.
 fn read_permutation(upper: &[u8], total: u32, p: &[u8]) -> Vectored
     requires { ⌜ length (now upper) ≤ 24 ⌝ }
     ensures { λ r. ⌜ (r .refusal ≡ firstRefusal (permutationChecks byInversions (now (upper .entry)) total (now (p .entry))))

@@ -30,8 +30,9 @@ rem-smaller c = omega (arith, c .power .ensures, pow-pos (c .before .wide .resul
 few : (c : tie.After-power Inv-loop μ-loop) → ones (c .before .before .before .before .loop .behind % c .power .result) ≤ 25
 few c = let test = c .before .before .before in
     let start = test .before .before .before in
+    let p = start .args .p .now in
     rw (c .power .ensures)
-    (behind-few (start .args .p .now) (start .pre .0) (start .pre .1) (test .before .loop .inv) (test .loop-test .taken) _ (c .before .wide .ensures .0))
+    (behind-few p (start .pre .0) (start .pre .1) (test .before .loop .inv) (test .loop-test .taken) _ (c .before .wide .ensures .0))
 
 array-write-vector : tie.Need-array-write-vector Inv-loop μ-loop
 array-write-vector c = let turn = c .before .before .before .before in
@@ -40,13 +41,15 @@ array-write-vector c = let turn = c .before .before .before .before in
 loop-again : tie.Need-loop-again Inv-loop μ-loop
 loop-again c = let test = c .before .before .before in
     let start = test .before .before .before in
+    let p = start .args .p .now in
     rw (c .power .ensures)
-    (found-turn (start .args .p .now) (start .pre .0) (start .pre .1) (test .before .loop .inv) (test .loop-test .taken) _ (c .before .wide .ensures .0) _ refl)
+    (found-turn p (start .pre .0) (start .pre .1) (test .before .loop .inv) (test .loop-test .taken) _ (c .before .wide .ensures .0) _ refl)
 
 returns : tie.Need-returns Inv-loop μ-loop
 returns c = let start = c .before .before .before in
     let p = start .args .p .now in
-    (found-vector p (start .pre .0) (c .before .loop .inv) (c .loop-test .left), found-sum p (start .pre .0) (c .before .loop .inv) (c .loop-test .left))
+    let found = c .before .loop .inv in
+    (found-vector p (start .pre .0) found (c .loop-test .left), found-sum p (start .pre .0) found (c .loop-test .left))
 
 pub find-inversions-spec : {M : Type 1} → statement M
 find-inversions-spec =

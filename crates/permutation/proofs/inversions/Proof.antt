@@ -18,14 +18,17 @@ fill-composition-requires : tie.Need-fill-composition-requires
 fill-composition-requires c κs = let test = c .before .before .before in
     let checked = test .before .before in
     let args = checked .before .before .before .before .args in
-    to-composition-ready byInversions (omega arith) (args .upper .now) (args .total) (args .permutation .now) _ _ (checked .to-composition .ensures .0) (test .if1 .left) (checked .to-composition .ensures .1 (test .if1 .left))
+    let is = checked .to-composition .ensures in
+    let none = test .if1 .left in
+    to-composition-ready byInversions (omega arith) (args .upper .now) (args .total) (args .permutation .now) _ _ (is .0) none (is .1 none)
 
 returns-2 : tie.Need-returns-2
 unfolding toComposition
 returns-2 c = let filled = c .before .before .before in
     let test = filled .before .before .before .before in
     let checked = test .before .before in
-    filling-done _ _ _ (checked .to-composition .ensures .0) (test .if1 .left) (filled .fill-composition .ensures ∙ checked .to-composition .ensures .1 (test .if1 .left))
+    let is = checked .to-composition .ensures in
+    filling-done _ _ _ (is .0) (test .if1 .left) (filled .fill-composition .ensures ∙ is .1 (test .if1 .left))
 
 pub inversions-spec : {M : Type 1} → statement M
 inversions-spec =

@@ -19,7 +19,8 @@ returns c = let test = c .before .before in
     (simp (sym (test .before .is-permutation .ensures) ∙ not-true _ (test .if1 .taken)) is, λ none. absurd (refused-not is (omega arith) none))
 
 -- p is a permutation, and has an entry more than there are bounds
-passed : (c : tie.Else1) → IsPermutation (length (c .before .before .before .before .args .upper .now) + 1) (c .before .before .before .before .args .p .now)
+passed : (c : tie.Else1)
+    → IsPermutation (length (c .before .before .before .before .args .upper .now) + 1) (c .before .before .before .before .args .p .now)
 passed c = is-permutation _ _ .0 (sym (c .before .is-permutation .ensures) ∙ not-false _ (c .if1 .left))
 
 find-inversions-requires : tie.Need-find-inversions-requires
@@ -42,7 +43,8 @@ returns-3 : tie.Need-returns-3
 unfolding firstRefusal
 returns-3 c = let test = c .before .before in
     let found = test .before .before in
-    let one-less : length (found .before .before .before .before .before .args .p .now) - 1 ≡ length (found .before .before .before .before .before .args .upper .now) = omega (arith, passed (found .before) .size) in (
+    let args = found .before .before .before .before .before .args in
+    let one-less : length (args .p .now) - 1 ≡ length (args .upper .now) = omega (arith, passed (found .before) .size) in (
       simp (
         sym (found .before .before .is-permutation .ensures) ∙ not-false _ (found .before .if1 .left),
         eq-eqb _ _ (sym (found .find-inversions .ensures .1) ∙ test .if2 .left),

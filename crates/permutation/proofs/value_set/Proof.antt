@@ -25,7 +25,8 @@ loop-again : tie.Need-loop-again Inv-loop μ-loop
 loop-again c = let test = c .before .before .before in
     let turn = test .before in
     let p = turn .before .before .args .p .now in
-    (omega arith, rw (c .alone .ensures) (set-turn p (turn .loop .i) (turn .loop .set) _ (test .loop-test .taken) (turn .loop .inv .0) (c .before .wide .ensures .0) (turn .loop .inv .1)))
+    let more = set-turn p (turn .loop .i) (turn .loop .set) _ (test .loop-test .taken) (turn .loop .inv .0) (c .before .wide .ensures .0) in
+    (omega arith, rw (c .alone .ensures) (more (turn .loop .inv .1)))
 
 returns : tie.Need-returns Inv-loop μ-loop
 returns c = let none : c .before .loop .i ≡ 0 = omega arith in
