@@ -128,7 +128,7 @@ module _ (reading : Reading) (refuses : 0 < reading .number) (ms : List ℕ) (r 
     -- what `fill_composition` asks: the vector that is read has as many cells as the lent part
     pub to-composition-ready : (vector : List ℕ) {v : Refusal} → v ≡ firstRefusal (toCompositionChecks reading ms r p room) → v .number ≡ 0
         → take room vector ≡ inversionVector p
-        → (room ≤ 25) × (room ≤ length vector)
+        → (room ≤ 32) × (room ≤ length vector)
     to-composition-ready vector {v} e none is =
         let known = to-composition-passed (number-of (sym e) ∙ none) in
         let size : length (inversionVector p) ≡ length ms = inversions-length (rw (add-one (length ms)) at (known .1 .is)) in

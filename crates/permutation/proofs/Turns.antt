@@ -39,14 +39,14 @@ set-turn p i n x h l ex has = rw (drop-back p i h l, ← ex) (values-more x has)
 -- of the vector
 pub record FoundFrom (p : List ℕ) (i : ℕ) (vector : List ℕ) (sum behind : ℕ) : Type 0 where
   pub place : i ≤ length p
-  pub cells : length vector ≡ 25
+  pub cells : length vector ≡ 32
   pub values : HasValues behind (drop i p)
   pub total : sum ≡ inversions (drop i p)
   pub few : sum + i * 25 ≤ 625
   pub parts : (j : ℕ) → i ≤ j → j < length p → getD vector j 0 ≡ smallerAfter p j
 
 module _ (p : List ℕ) (short : length p ≤ 25) where
-  pub found-start : FoundFrom p (length p) (replicate 25 0) 0 0
+  pub found-start : FoundFrom p (length p) (replicate 32 0) 0 0
   found-start =
       let none : drop (length p) p ≡ [] = drop-length p in
       record {

@@ -18,16 +18,16 @@ ghost use Rattle.permutation.specs.Conversions.{toPermutation, toComposi
 ghost use Rattle.permutation.specs.Permutation.{IsPermutation, isPermutation, inversions, inversionVector, lift, permutationOf};
 ghost use Rattle.permutation.specs.Values.{aloneOf, HasValues};
 
-// The inversion vector of a permutation of at most 25 entries, followed by zeros, and its sum.
+// The inversion vector of a permutation of at most 25 entries, followed by zeros, and its sum. (A copy of 32 bytes is faster than one of 25.)
 struct Found {
-    vector: [u8; 25],
+    vector: [u8; 32],
     sum: u32,
 }
 
 // The refusal of a permutation; where it is none, the inversion vector.
 struct Vectored {
     refusal: Refusal,
-    vector: [u8; 25],
+    vector: [u8; 32],
 }
 
 // The bit of the value v in a set.
@@ -74,7 +74,7 @@ fn find_inversions(p: &[u8]) -> Found
     requires { ⌜ (length (now p) ≤ 25) × IsPermutation (length (now p)) (now p) ⌝ }
     ensures { λ r. ⌜ (take (length (now (p .entry)) - 1) (r .vector) ≡ inversionVector (now (p .entry))) × (r .sum ≡ inversions (now (p .entry))) ⌝ }
 {
-    let mut vector = [0u8; 25];
+    let mut vector = [0u8; 32];
     let mut sum = 0u32;
     let mut behind = 0u32;
     let mut i = p.len();
@@ -129,9 +129,9 @@ fn fill_permutation(g: &[u8], out: &mut [u8])
 fn staircase_refusal(upper: &[u8], total: u32) -> Refusal
     ensures { λ r. ⌜ r ≡ firstRefusal (editionChecks (now (upper .entry)) total ++ staircaseChecks (now (upper .entry))) ⌝ }
 {
-    let edition = count::refusal(upper, total);
-    if edition.number != 0 {
-        return edition;
+    let limits = count::refusal(upper, total);
+    if limits.number != 0 {
+        return limits;
     }
     if is_staircase(upper) {
         return refusal(0);
@@ -145,7 +145,7 @@ fn unread(refusal: Refusal) -> Vectored
 {
     Vectored {
         refusal,
-        vector: [0u8; 25],
+        vector: [0u8; 32],
     }
 }
 
@@ -205,8 +205,8 @@ fn to_composition(upper: &[u8], total: u32, p: &[u8], room: usize) -> Vectored
 }
 
 // Fills out with the beginning of the vector.
-fn fill_composition(vector: &[u8; 25], out: &mut [u8])
-    requires { ⌜ (length (now out) ≤ 25) × (length (now out) ≤ length (now vector)) ⌝ }
+fn fill_composition(vector: &[u8; 32], out: &mut [u8])
+    requires { ⌜ (length (now out) ≤ 32) × (length (now out) ≤ length (now vector)) ⌝ }
     ensures { λ _. ⌜ now (out .exit) ≡ take (length (now (out .entry))) (now (vector .entry)) ⌝ }
 {
     let mut i = 0;
