@@ -1,6 +1,6 @@
 -- Document 01, "Sheet orders": permutations of 1..k and their inversion vectors. The document's sheet order p1..pk is a list p. Places are
--- counted from 0 here: `getD p i 0` is its p(i+1). A reader who believes this file, `Exchange`, `Reading` and `Conversions` knows what is
--- promised.
+-- counted from 0 here: `getD p i 0` is its p(i+1). A reader who believes this file, `Exchange`, `Reading`, `Numbered` and `Conversions`
+-- knows what is promised.
 use mathlib.Core.Path.{_≡_, refl}
 use mathlib.Core.Bool.{Bool, cond, true}
 use mathlib.Core.List.{List, [], _∷_, _++_, map}
