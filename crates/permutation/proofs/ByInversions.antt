@@ -1,12 +1,12 @@
 -- The reading by inversions is faithful.
-use mathlib.Core.Path.{_≡_, sym, ap, subst, _∙_}
+use mathlib.Core.Path.{subst}
 use mathlib.Core.List.{List}
 use Prim.Native.Nat.{ℕ, suc, _+_}
 use native.Mathlib.Numerals.{add-one}
 use native.Mathlib.Omega.{arith}
 use lib.ListN.{length}
 use Rattle.walsh.specs.Order.{Composition}
-use Rattle.permutation.specs.Permutation.{IsPermutation, inversionVector, permutationOf}
+use Rattle.permutation.specs.Permutation.{IsPermutation, inversionVector}
 use Rattle.permutation.specs.Reading.{byInversions, PermutationWith, Faithful}
 use Rattle.permutation.proofs.Inverse.{inversions-permutation, permutation-inversions}
 use Rattle.permutation.proofs.Vectors.{vector-composition, composition-under, composition-permutation, composition-inversions}
@@ -21,11 +21,9 @@ by-inversions =
       permutation-is =
           λ ms r g stairs comp.
           record { is = rw (add-one (length ms)) (composition-permutation ms stairs comp); total = composition-inversions ms stairs comp };
-      composition-is = λ ms r p stairs perm. subst (λ (t : ℕ). Composition ms t (inversionVector p)) (perm .total) (vector-composition ms stairs p (one-more perm));
+      composition-is =
+          λ ms r p stairs perm.
+          subst (λ (t : ℕ). Composition ms t (inversionVector p)) (perm .total) (vector-composition ms stairs p (one-more perm));
       composition-back = λ ms r g stairs comp. inversions-permutation g (composition-under ms stairs comp);
       permutation-back = λ ms r p stairs perm. permutation-inversions (one-more perm);
     }
-
--- `permutationOf g` is the only permutation whose inversion vector is g
-pub only : {n : ℕ} {g p : List ℕ} → IsPermutation (suc n) p → inversionVector p ≡ g → p ≡ permutationOf g
-only perm e = sym (permutation-inversions perm) ∙ ap permutationOf e

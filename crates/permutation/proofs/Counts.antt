@@ -8,8 +8,8 @@ use native.Mathlib.Nat.{le-refl}
 use native.Mathlib.Decide.{decLt}
 use native.Mathlib.Omega.{arith}
 use lib.Dec.{eqb, ltb}
-use lib.ListN.{length}
-use borrow.Author.Tests.{eqb-true, lt-ltb, le-ltb, eq-eqb, ne-eqb}
+use lib.ListN.{length, getD, drop}
+use borrow.Author.Tests.{eqb-true, ltb-true, lt-ltb, le-ltb, eq-eqb, ne-eqb}
 use Rattle.walsh.specs.Tests.{every}
 use Rattle.walsh.proofs.Tests.{both-left, both-right, every-at, every-all}
 use Rattle.walsh.proofs.Cases.{on-test}
@@ -41,6 +41,21 @@ bit-le false = omega arith
 pub many-le : (test : ℕ → Bool) (l : List ℕ) → howMany test l ≤ length l
 many-le test [] = le-refl 0
 many-le test (x ∷ l) = omega (arith, bit-le (test x), many-le test l)
+
+bit-true : (b : Bool) → 1 ≤ cond b 1 0 → b ≡ true
+bit-true true h = refl
+bit-true false h = absurd (omega arith)
+
+-- where as many entries pass as there are, each does
+pub many-all : (test : ℕ → Bool) (l : List ℕ) → howMany test l ≡ length l → (i : ℕ) → i < length l → test (getD l i 0) ≡ true
+many-all test [] e i h = absurd (omega arith)
+many-all test (x ∷ l) e zero h = bit-true (test x) (omega (arith, many-le test l))
+many-all test (x ∷ l) e (suc i) h = many-all test l (omega (arith, bit-le (test x), many-le test l)) i (omega arith)
+
+pub many-drop : (test : ℕ → Bool) (i : ℕ) (l : List ℕ) → howMany test (drop i l) ≤ howMany test l
+many-drop test zero l = le-refl (howMany test l)
+many-drop test (suc i) [] = le-refl 0
+many-drop test (suc i) (x ∷ l) = omega (arith, many-drop test i l)
 
 -- a test of the mapped list is a test of the list
 pub many-map : (f : ℕ → ℕ) (test test′ : ℕ → Bool) (l : List ℕ) → ((x : ℕ) → test (f x) ≡ test′ x) → howMany test (map f l) ≡ howMany test′ l
@@ -88,13 +103,29 @@ permutation {k} {p} c = record { size = c .size; once = once }
     once zero l h = absurd (omega arith)
     once (suc v) l h = omega (arith, below-suc (suc v) p, c .upTo (suc v) h, c .upTo v (omega arith))
 
+module _ {k : ℕ} {p : List ℕ} (perm : IsPermutation k p) where
+  -- an entry is at most k
+  pub entry-le : (i : ℕ) → i < k → getD p i 0 ≤ k
+  entry-le i h =
+      let all : below (suc k) p ≡ length p = counted perm .upTo k (le-refl k) ∙ sym (perm .size) in
+      omega (arith, ltb-true (getD p i 0) (suc k) (many-all (λ x. ltb x (suc k)) p all i (rw (perm .size) h)))
+
+  -- a value up to k stands at most once
+  pub times-le : (v : ℕ) → v ≤ k → times v p ≤ 1
+  times-le zero h = omega (arith, below-suc 0 p, counted perm .upTo 0 h)
+  times-le (suc v) h = omega (arith, perm .once (suc v) (omega arith) h)
+
 -- ---- the test
 
 -- the test says what it means
 pub is-permutation : (k : ℕ) (p : List ℕ) → (isPermutation k p ≡ true) ↔ IsPermutation k p
 unfolding isPermutation
 is-permutation k p = (
-  λ e. record { size = eqb-true (length p) k (both-left (eqb (length p) k) (every each k) e); once = once (both-right (eqb (length p) k) (every each k) e) },
+  λ e.
+      record {
+        size = eqb-true (length p) k (both-left (eqb (length p) k) (every each k) e);
+        once = once (both-right (eqb (length p) k) (every each k) e);
+      },
   λ perm. rw (eq-eqb (length p) k (perm .size)) (every-all each k (λ v l. eq-eqb (times (suc v) p) 1 (perm .once (suc v) (omega arith) l))),
 )
   where
@@ -107,4 +138,7 @@ is-permutation k p = (
 
 -- number 11: "length isn't k, or not a permutation of 1..k"
 pub not-permutation : (k : ℕ) (p : List ℕ) → (isPermutation k p ≡ false) ↔ (IsPermutation k p → ⊥)
-not-permutation k p = (λ e perm. false≢true (sym e ∙ is-permutation k p .1 perm), λ other. on-test (isPermutation k p) (λ e. absurd (other (is-permutation k p .0 e))) (λ e. e))
+not-permutation k p = (
+  λ e perm. false≢true (sym e ∙ is-permutation k p .1 perm),
+  λ other. on-test (isPermutation k p) (λ e. absurd (other (is-permutation k p .0 e))) (λ e. e),
+)

@@ -1,4 +1,5 @@
 pub mod Counts
+pub mod Sets
 pub mod Smaller
 pub mod Inverse
 pub mod Vectors
@@ -7,5 +8,6 @@ pub mod Raised
 pub mod Serials
 pub mod Turns
 pub mod ByInversions
+pub mod Mahonian
 pub mod Tables
 pub mod RoundTrips

@@ -125,7 +125,9 @@ module _ (g h : List ℕ) (gain loss : ℕ) (size : length g ≡ length h) (near
   gain-lt = omega (arith, in-list h gain (getD g gain 0) (near .gained))
 
   g-raised : raised common loss ≡ g
-  g-raised = rw (getD-set-same g loss (getD h loss 0) 0 loss-lt, set-set g loss (getD h loss 0) (suc (getD h loss 0)), ← (near .lost)) (set-getD g loss 0)
+  g-raised =
+      let v : ℕ = getD h loss 0 in
+      rw (getD-set-same g loss v 0 loss-lt, set-set g loss v (suc v), ← (near .lost)) (set-getD g loss 0)
 
   h-raised : raised common gain ≡ h
   h-raised =

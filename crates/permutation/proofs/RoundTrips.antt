@@ -9,7 +9,8 @@ use Rattle.bounds.specs.declared.Refusal.{Refusal}
 use Rattle.bounds.proofs.Filling.{filling-accepted}
 use Rattle.permutation.specs.Reading.{Reading, PermutationWith, Faithful}
 use Rattle.permutation.specs.Conversions.{toPermutation, toComposition, toPermutationChecks, toCompositionChecks}
-use Rattle.permutation.proofs.Tables.{to-permutation-passed, to-permutation-passes, to-composition-numbered, to-composition-passed, to-composition-passes}
+use Rattle.permutation.proofs.Tables.{to-permutation-passed, to-permutation-passes}
+use Rattle.permutation.proofs.Tables.{to-composition-numbered, to-composition-passed, to-composition-passes}
 
 module _ {reading : Reading} (faithful : Faithful reading) (ms : List ℕ) (r : ℕ) where
   -- mix to order and back
@@ -40,7 +41,12 @@ module _ {reading : Reading} (faithful : Faithful reading) (ms : List ℕ) (r : 
       let g : List ℕ = reading .composition p in
       ap
       (λ (x : Refusal × List ℕ). toPermutation reading ms r (x .1) out′)
-      (filling-accepted (toCompositionChecks reading ms r p (length out)) g out (to-composition-numbered reading (faithful .refuses) ms r p (length out)) (unfold filling in e))
+      (filling-accepted
+      (toCompositionChecks reading ms r p (length out))
+      g
+      out
+      (to-composition-numbered reading (faithful .refuses) ms r p (length out))
+      (unfold filling in e))
       ∙ filling-accepted
       (toPermutationChecks ms r g (length out′))
       (reading .permutation g)

@@ -25,7 +25,8 @@ neighbouring-entries ms stairs r t h =
     let comp : Composition ms r g = complete ms r g .1 (t, omega arith, refl) in
     let comp′ : Composition ms r g′ = complete ms r g′ .1 (suc t, h, refl) in
     let step = gray ms r t h in
-    near-permutations g g′ (step .0) (step .1) (comp .size ∙ sym (comp′ .size)) (step .4) (composition-under ms stairs comp) (composition-under ms stairs comp′)
+    let same : length g ≡ length g′ = comp .size ∙ sym (comp′ .size) in
+    near-permutations g g′ (step .0) (step .1) same (step .4) (composition-under ms stairs comp) (composition-under ms stairs comp′)
 
 -- the permutation of 1..k at serial s of the total r
 abbrev pub permutationAt : ℕ → ℕ → ℕ → List ℕ

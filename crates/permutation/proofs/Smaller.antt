@@ -3,25 +3,31 @@ use mathlib.Core.Path.{_≡_, refl, ap, _∙_}
 use mathlib.Core.Bool.{cond}
 use mathlib.Core.List.{List, [], _∷_, _++_}
 use Prim.Native.Nat.{ℕ, zero, suc, _+_, _-_, _≤_, _<_}
-use native.Mathlib.Nat.{zero-add}
+use native.Mathlib.Nat.{zero-add, le-refl}
 use native.Mathlib.Omega.{arith}
 use lib.Dec.{ltb, leb·suc-suc}
-use lib.ListN.{length, getD, drop}
+use lib.ListN.{length, getD, take, drop}
+use lib.Seq.{take-suc}
 use borrow.Author.Tests.{lt-ltb, le-ltb}
 use Rattle.walsh.specs.Sums.{sum, sumTo}
 use Rattle.walsh.proofs.Lists.{sum-same, sum-front}
-use Rattle.permutation.specs.Permutation.{inverted, smallerAfter, entries, inversionVector, inversions}
+use Rattle.permutation.specs.Permutation.{inverted, smallerAfter, tabulate, inversionVector, inversions}
 use Rattle.permutation.proofs.Counts.{below}
 
--- ---- the entries of a list by their places
+-- ---- a list by its places
 
-entries-same : (f f′ : ℕ → ℕ) (n : ℕ) → ((i : ℕ) → f i ≡ f′ i) → entries f n ≡ entries f′ n
-entries-same f f′ zero same = refl
-entries-same f f′ (suc n) same = rw (entries-same f f′ n same, same n)
+tabulate-same : (f f′ : ℕ → ℕ) (n : ℕ) → ((i : ℕ) → f i ≡ f′ i) → tabulate f n ≡ tabulate f′ n
+tabulate-same f f′ zero same = refl
+tabulate-same f f′ (suc n) same = rw (tabulate-same f f′ n same, same n)
 
-entries-front : (f : ℕ → ℕ) (n : ℕ) → entries f (suc n) ≡ f 0 ∷ entries (λ i. f (suc i)) n
-entries-front f zero = refl
-entries-front f (suc n) = ap (λ (l : List ℕ). l ++ (f (suc n) ∷ [])) (entries-front f n)
+tabulate-front : (f : ℕ → ℕ) (n : ℕ) → tabulate f (suc n) ≡ f 0 ∷ tabulate (λ i. f (suc i)) n
+tabulate-front f zero = refl
+tabulate-front f (suc n) = ap (λ (l : List ℕ). l ++ (f (suc n) ∷ [])) (tabulate-front f n)
+
+pub tabulate-take : (f : ℕ → ℕ) (l : List ℕ) (n : ℕ) → n ≤ length l → ((j : ℕ) → j < n → getD l j 0 ≡ f j) → take n l ≡ tabulate f n
+tabulate-take f l zero h each = refl
+tabulate-take f l (suc n) h each =
+    take-suc l n 0 h ∙ rw (tabulate-take f l n (omega arith) (λ j b. each j (omega arith)), each n (le-refl (suc n)))
 
 -- ---- how many later entries are smaller
 
@@ -55,16 +61,16 @@ pub inversions-cons : (v : ℕ) (l : List ℕ) → 0 < length l → inversionVec
 unfolding inversionVector
 inversions-cons v l h =
     let n : length (v ∷ l) - 1 ≡ suc (length l - 1) = omega arith in
-    ap (entries (smallerAfter (v ∷ l))) n
-    ∙ entries-front (smallerAfter (v ∷ l)) (length l - 1)
-    ∙ rw (smaller-first v l, entries-same (λ i. smallerAfter (v ∷ l) (suc i)) (smallerAfter l) (length l - 1) (smaller-later v l))
+    ap (tabulate (smallerAfter (v ∷ l))) n
+    ∙ tabulate-front (smallerAfter (v ∷ l)) (length l - 1)
+    ∙ rw (smaller-first v l, tabulate-same (λ i. smallerAfter (v ∷ l) (suc i)) (smallerAfter l) (length l - 1) (smaller-later v l))
 
 -- at most one entry has no later ones
 pub inversions-short : (l : List ℕ) → length l ≤ 1 → inversionVector l ≡ []
 unfolding inversionVector
 inversions-short l h =
     let none : length l - 1 ≡ 0 = omega arith in
-    ap (entries (smallerAfter l)) none
+    ap (tabulate (smallerAfter l)) none
 
 pub inversions-more : (v : ℕ) (l : List ℕ) → inversions (v ∷ l) ≡ below v l + inversions l
 unfolding inversions

@@ -3,23 +3,33 @@ use mathlib.Core.Path.{_≡_, refl, sym, ap, _∙_}
 use mathlib.Core.Bool.{Bool, true, false}
 use mathlib.Core.List.{List, _++_}
 use Prim.Native.Nat.{ℕ, _+_, _-_, _≤_, _<_}
+use native.Mathlib.Numerals.{add-one}
 use native.Mathlib.Omega.{arith}
-use lib.ListN.{length, getD}
+use lib.ListN.{length, getD, take, length-take}
 use borrow.Author.Tests.{eqb-true, eq-eqb, lt-ltb, not-false}
 use Rattle.walsh.specs.Order.{Composition}
 use Rattle.bounds.specs.Refusal.{refused, firstRefusal}
-use Rattle.bounds.specs.Edition.{shapeChecks, editionChecks}
-use Rattle.bounds.specs.Places.{compositionChecks, lentChecks}
+use Rattle.bounds.specs.Edition.{editionChecks}
+use Rattle.bounds.specs.Places.{compositionChecks}
 use Rattle.bounds.specs.declared.Refusal.{Refusal}
 use Rattle.bounds.proofs.Refusals.{numbered, passed}
-use Rattle.bounds.proofs.Editions.{shapely}
+use Rattle.bounds.proofs.Editions.{edition-shapely}
+use Rattle.bounds.proofs.Places.{lent-passed, lent-passes}
 use Rattle.bounds.proofs.Compositions.{composition-passed, composition-passes}
 use Rattle.bounds.proofs.Chains.{Accepts, accepts-split, accepts-join}
 use Rattle.mahonian.specs.Staircase.{isStaircase}
+use Rattle.permutation.specs.Permutation.{inversionVector}
 use Rattle.permutation.specs.Reading.{Reading, PermutationWith}
 use Rattle.permutation.specs.Conversions.{staircaseChecks, permutationChecks, toPermutationChecks, toCompositionChecks}
 use Rattle.permutation.proofs.Counts.{is-permutation}
+use Rattle.permutation.proofs.Inverse.{inversions-length}
 use Rattle.permutation.proofs.Vectors.{composition-fits}
+
+pub number-of : {v w : Refusal} → v ≡ w → v .number ≡ w .number
+number-of e = ap (λ (v : Refusal). v .number) e
+
+pub refused-not : {v : Refusal} {n d : ℕ} → v ≡ refused n d → 0 < n → v .number ≡ 0 → ⊥
+refused-not {v} e some none = omega (arith, number-of e)
 
 -- ---- the bounds
 
@@ -47,19 +57,10 @@ module _ (ms : List ℕ) (r : ℕ) where
   staircase-passes e = rw e
 
   edition-few : Accepts (editionChecks ms r) → length ms ≤ 24
-  edition-few e = shapely ms r (accepts-split (shapeChecks ms r) _ refl e .0) .few
+  edition-few e = edition-shapely ms r e .few
 
   pub staircase-few : {v : Refusal} → v ≡ firstRefusal (editionChecks ms r ++ staircaseChecks ms) → v .number ≡ 0 → length ms ≤ 24
-  staircase-few {v} e none = edition-few (accepts-split (editionChecks ms r) _ refl (ap (λ (w : Refusal). w .number) (sym e) ∙ none) .0)
-
--- ---- the lent part
-
-lent-passed : (want have : ℕ) → Accepts (lentChecks want have) → have ≡ want
-lent-passed want have e = eqb-true have want (not-false _ (passed _ _ refl e .0))
-
-lent-passes : (want have : ℕ) → have ≡ want → Accepts (lentChecks want have)
-unfolding firstRefusal
-lent-passes want have e = rw (eq-eqb have want e)
+  staircase-few {v} e none = edition-few (accepts-split (editionChecks ms r) _ refl (number-of (sym e) ∙ none) .0)
 
 -- ---- mix to order
 
@@ -75,14 +76,16 @@ module _ (ms : List ℕ) (r : ℕ) (g : List ℕ) (room : ℕ) where
   to-permutation-passes s comp fits =
       accepts-join (editionChecks ms r) _ refl (s .edition)
       (accepts-join (staircaseChecks ms) _ refl (staircase-passes ms r (s .stairs))
-      (accepts-join (compositionChecks ms r g) _ refl (ap (λ (v : Refusal). v .number) (composition-passes ms r g comp)) (lent-passes (length ms + 1) room fits)))
+      (accepts-join (compositionChecks ms r g) _ refl (number-of (composition-passes ms r g comp))
+      (number-of (lent-passes (length ms + 1) room fits))))
 
   -- what `fill_permutation` asks
   pub to-permutation-ready : {v : Refusal} → v ≡ firstRefusal (toPermutationChecks ms r g room) → v .number ≡ 0
       → (length g ≤ 24) × (room ≡ length g + 1) × ((i : ℕ) → i < length g → getD g i 0 ≤ length g - i)
   to-permutation-ready {v} e none =
-      let known = to-permutation-passed (ap (λ (w : Refusal). w .number) (sym e) ∙ none) in
-      (omega (arith, known .1 .size, edition-few ms r (known .0 .edition)), omega (arith, known .1 .size, known .2), composition-fits ms (known .0 .stairs) (known .1))
+      let known = to-permutation-passed (number-of (sym e) ∙ none) in
+      let size = known .1 .size in
+      (omega (arith, size, edition-few ms r (known .0 .edition)), omega (arith, size, known .2), composition-fits ms (known .0 .stairs) (known .1))
 
 -- ---- order to mix
 
@@ -107,23 +110,26 @@ module _ (reading : Reading) (refuses : 0 < reading .number) (ms : List ℕ) (r 
     pub to-composition-numbered : numbered (toCompositionChecks reading ms r p room) ≡ true
     to-composition-numbered = rw (lt-ltb 0 (reading .number) refuses)
 
-    pub to-composition-passed : Accepts (toCompositionChecks reading ms r p room) → Staircase ms r × PermutationWith reading (length ms + 1) r p × (room ≡ length ms)
+    pub to-composition-passed : Accepts (toCompositionChecks reading ms r p room)
+        → Staircase ms r × PermutationWith reading (length ms + 1) r p × (room ≡ length ms)
     to-composition-passed e =
         let a = accepts-split (editionChecks ms r) _ refl e in
         let b = accepts-split (staircaseChecks ms) _ refl (a .1) in
         let c = accepts-split (permutationChecks reading ms r p) _ given-numbered (b .1) in
         (staircase-passed ms r (a .0) (b .0), given-passed (c .0), lent-passed (length ms) room (c .1))
 
-    pub to-composition-passes : Staircase ms r → PermutationWith reading (length ms + 1) r p → room ≡ length ms → Accepts (toCompositionChecks reading ms r p room)
+    pub to-composition-passes : Staircase ms r → PermutationWith reading (length ms + 1) r p → room ≡ length ms
+        → Accepts (toCompositionChecks reading ms r p room)
     to-composition-passes s perm fits =
         accepts-join (editionChecks ms r) _ refl (s .edition)
         (accepts-join (staircaseChecks ms) _ refl (staircase-passes ms r (s .stairs))
-        (accepts-join (permutationChecks reading ms r p) _ given-numbered (given-passes perm) (lent-passes (length ms) room fits)))
+        (accepts-join (permutationChecks reading ms r p) _ given-numbered (given-passes perm) (number-of (lent-passes (length ms) room fits))))
 
-    -- what `fill_inversions` asks
-    pub to-composition-ready : {v : Refusal} → v ≡ firstRefusal (toCompositionChecks reading ms r p room) → v .number ≡ 0
-        → (length p ≤ 25) × (length p ≡ room + 1)
-    to-composition-ready {v} e none =
-        let known = to-composition-passed (ap (λ (w : Refusal). w .number) (sym e) ∙ none) in
-        let size = known .1 .is .size in
-        (omega (arith, edition-few ms r (known .0 .edition)), omega (arith, known .2))
+    -- what `fill_composition` asks: the vector that is read has as many cells as the lent part
+    pub to-composition-ready : (vector : List ℕ) {v : Refusal} → v ≡ firstRefusal (toCompositionChecks reading ms r p room) → v .number ≡ 0
+        → take room vector ≡ inversionVector p
+        → room ≤ length vector
+    to-composition-ready vector {v} e none is =
+        let known = to-composition-passed (number-of (sym e) ∙ none) in
+        let size : length (inversionVector p) ≡ length ms = inversions-length (rw (add-one (length ms)) at (known .1 .is)) in
+        omega (arith, ap length is, length-take room vector, size, known .2)

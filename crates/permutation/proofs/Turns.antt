@@ -1,132 +1,114 @@
 -- What one turn of each loop of the code does.
 use mathlib.Core.Path.{_≡_, refl, sym, ap, _∙_}
-use mathlib.Core.Bool.{Bool, true, false, cond}
 use mathlib.Core.List.{List, [], _∷_, _++_, map, append-nil}
-use Prim.Native.Nat.{ℕ, zero, suc, _+_, _-_, _≤_, _<_}
+use Prim.Native.Nat.{ℕ, zero, suc, _+_, _-_, _*_, _%_, _^_, _≤_, _<_}
+use native.Mathlib.Nat.{le-refl}
 use native.Mathlib.Numerals.{add-one}
 use native.Mathlib.Omega.{arith}
 use native.Mathlib.Decide.{decLt, ℕ-discrete}
 use lib.ListN.{length, getD, take, drop, set, replicate, length-drop, length-set, drop-of-length-le}
-use lib.Seq.{drop-cons, drop-length, take-all, take-suc-set, drop-set-lt, append-snoc, getD-set-same, getD-set-other, getD-drop, drop-at, length-take-le}
+use lib.Seq.{drop-cons, drop-length, drop-set-lt, drop-at, take-all, take-suc-set, length-take-le}
+use lib.Seq.{append-snoc, getD-set-same, getD-set-other, getD-drop}
+use lib.Bits.{bitOr}
+use lib.Count.{ones}
 use lib.Dec.{eqb, ltb}
-use borrow.Author.Tests.{eq-eqb, ne-eqb}
-use Rattle.walsh.specs.Tests.{every}
-use Rattle.walsh.proofs.Tests.{every-not}
-use Rattle.permutation.specs.Permutation.{howMany, times, smallerAfter, isPermutation, inversions, inversionVector, lift, permutationOf}
-use Rattle.permutation.proofs.Counts.{below, many-le}
-use Rattle.permutation.proofs.Smaller.{smaller-is, inversions-cons, inversions-short, inversions-more}
+use borrow.Author.Tests.{lt-ltb}
+use Rattle.permutation.specs.Permutation.{IsPermutation, smallerAfter, inversions, inversionVector, lift, permutationOf}
+use Rattle.permutation.specs.Values.{aloneOf, HasValues}
+use Rattle.permutation.proofs.Counts.{below, many-le, many-drop, entry-le, times-le}
+use Rattle.permutation.proofs.Sets.{values-none, values-more, values-below}
+use Rattle.permutation.proofs.Smaller.{tabulate-take, smaller-is, inversions-more}
 use Rattle.permutation.proofs.Inverse.{Under, lift-low, lift-high}
 use Rattle.permutation.proofs.Vectors.{at-under}
 
--- ---- counting
+-- ---- from the last place to the first
 
-module _ (test : ℕ → Bool) (l : List ℕ) where
-  pub many-turn : (n i x b all : ℕ) → i < length l → x ≡ getD l i 0 → b ≡ cond (test x) 1 0 → n + howMany test (drop i l) ≡ all
-      → n + b + howMany test (drop (i + 1) l) ≡ all
-  many-turn n i x b all h ex eb e =
-      omega (arith, rw (drop-cons l i 0 h) at e, eb ∙ ap (λ (y : ℕ). cond (test y) 1 0) ex, ap (λ (j : ℕ). howMany test (drop j l)) (add-one i))
+drop-back : (p : List ℕ) (i : ℕ) → 0 < i → i ≤ length p → drop (i - 1) p ≡ getD p (i - 1) 0 ∷ drop i p
+drop-back p zero h l = absurd (omega arith)
+drop-back p (suc i) h l =
+    let back : suc i - 1 ≡ i = omega arith in
+    rw back (drop-cons p i 0 l)
 
-  pub many-end : (n i all : ℕ) → length l ≤ i → n + howMany test (drop i l) ≡ all → n ≡ all
-  many-end n i all h e = omega (arith, rw (drop-of-length-le l h) at e)
-
-  pub many-few : (n i from : ℕ) → length l ≤ i → n + howMany test (drop i l) ≡ howMany test (drop from l) → n ≤ length l
-  many-few n i from h e = omega (arith, many-end n i (howMany test (drop from l)) h e, many-le test (drop from l), length-drop from l)
-
--- ---- the tally
-
-pub zeros-at : (n v : ℕ) → _≡_ {A = ℕ} (getD (replicate n 0) v 0) 0
-zeros-at zero v = refl
-zeros-at (suc n) zero = refl
-zeros-at (suc n) (suc v) = zeros-at n v
-
-module _ (p counts : List ℕ) (i : ℕ) (h : i < length p) where
-  times-here : times (getD p i 0) (drop i p) ≡ suc (times (getD p i 0) (drop (suc i) p))
-  times-here = rw (drop-cons p i 0 h, eq-eqb (getD p i 0) (getD p i 0) refl) (omega arith)
-
-  -- the entry at place i is counted
-  pub tally-turn : (x : ℕ) → x ≡ getD p i 0 → x < length counts
-      → ((v : ℕ) → v < 256 → getD counts v 0 + times v (drop i p) ≡ times v p)
-      → (v : ℕ) → v < 256 → getD (set counts x (getD counts x 0 + 1)) v 0 + times v (drop (i + 1) p) ≡ times v p
-  tally-turn x ex l e v b = rw (add-one i) (go (ℕ-discrete v x))
-    where
-      go : Dec (v ≡ x) → getD (set counts x (getD counts x 0 + 1)) v 0 + times v (drop (suc i) p) ≡ times v p
-      go (yes q) =
-          rw (q, getD-set-same counts x (getD counts x 0 + 1) 0 l, ex)
-          (omega (arith, times-here, rw (q ∙ ex) at (e v b)))
-      go (no q) =
-          rw (getD-set-other counts x v (getD counts x 0 + 1) 0 q)
-          (omega (arith, rw (drop-cons p i 0 h, ne-eqb (getD p i 0) v (λ d. q (sym d ∙ sym ex))) at (e v b)))
-
-  -- and was counted fewer times before than there are entries
-  pub tally-room : (x : ℕ) → x ≡ getD p i 0 → x < 256
-      → ((v : ℕ) → v < 256 → getD counts v 0 + times v (drop i p) ≡ times v p)
-      → getD counts x 0 < length p
-  tally-room x ex b e = omega (arith, e x b, rw (← ex) at times-here, many-le (λ y. eqb y x) p)
-
--- ---- the test of a permutation
-
--- the value v + 1 stands once
-abbrev pub isOnce : List ℕ → ℕ → Bool
-isOnce p v = eqb (times (suc v) p) 1
-
-pub once-turn : (p : List ℕ) (v n : ℕ) → n ≡ times (v + 1) p → n ≡ 1 → every (isOnce p) v ≡ true → every (isOnce p) (v + 1) ≡ true
-once-turn p v n e one earlier =
-    let here : times (suc v) p ≡ 1 = rw (← (add-one v)) (sym e ∙ one) in
-    rw (add-one v, eq-eqb (times (suc v) p) 1 here) earlier
-
-module _ (k : ℕ) (p : List ℕ) where
-  pub other-size : (length p ≡ k → ⊥) → isPermutation k p ≡ false
-  unfolding isPermutation
-  other-size differs = rw (ne-eqb (length p) k differs)
-
-  pub not-once : (v n : ℕ) → length p ≡ k → v < k → n ≡ times (v + 1) p → (n ≡ 1 → ⊥) → isPermutation k p ≡ false
-  unfolding isPermutation
-  not-once v n size l e differs =
-      let other : isOnce p v ≡ false = ne-eqb (times (suc v) p) 1 (λ q. differs (e ∙ rw (add-one v) q)) in
-      rw (eq-eqb (length p) k size, every-not (isOnce p) k v l other)
-
-  pub once-end : (v : ℕ) → length p ≡ k → v ≡ k → every (isOnce p) v ≡ true → isPermutation k p ≡ true
-  unfolding isPermutation
-  once-end v size all e = rw (eq-eqb (length p) k size, ← all) e
-
--- ---- how many later entries are smaller
-
-module _ (p : List ℕ) (i : ℕ) (h : i < length p) where
-  smaller-drop : below (getD p i 0) (drop (i + 1) p) ≡ smallerAfter p i
-  smaller-drop = rw (add-one i) (sym (smaller-is p i h))
-
-  module _ (n j : ℕ) (all : length p ≤ j) (e : n + below (getD p i 0) (drop j p) ≡ below (getD p i 0) (drop (i + 1) p)) where
-    pub smaller-end : n ≡ smallerAfter p i
-    smaller-end = many-end (λ x. ltb x (getD p i 0)) p n j _ all e ∙ smaller-drop
-
-    pub smaller-few : n ≤ length p
-    smaller-few = many-few (λ x. ltb x (getD p i 0)) p n j (i + 1) all e
-
--- ---- the number of inversions
-
-pub inversions-turn : (p : List ℕ) (s i b all : ℕ) → i < length p → b ≡ smallerAfter p i
-    → s + inversions (drop i p) ≡ all
-    → s + b + inversions (drop (i + 1) p) ≡ all
-inversions-turn p s i b all h eb e =
-    let e′ : s + inversions (getD p i 0 ∷ drop (suc i) p) ≡ all = rw (drop-cons p i 0 h) at e in
-    rw (add-one i) (omega (arith, smaller-is p i h, inversions-more (getD p i 0) (drop (suc i) p)))
-
-pub inversions-end : (p : List ℕ) (s i all : ℕ) → length p ≤ i → s + inversions (drop i p) ≡ all → s ≡ all
-unfolding inversions
-inversions-end p s i all h e = omega (arith, rw (drop-of-length-le p h) at e)
+pub set-turn : (p : List ℕ) (i n x : ℕ) → 0 < i → i ≤ length p → x ≡ getD p (i - 1) 0 → HasValues n (drop i p)
+    → HasValues (bitOr n (aloneOf x)) (drop (i - 1) p)
+set-turn p i n x h l ex has = rw (drop-back p i h l, ← ex) (values-more x has)
 
 -- ---- the inversion vector
 
-pub vector-turn : (p out full : List ℕ) (i b : ℕ) → i < length out → length p ≡ length out + 1 → b ≡ smallerAfter p i
-    → take i out ++ inversionVector (drop i p) ≡ full
-    → take (i + 1) (set out i b) ++ inversionVector (drop (i + 1) p) ≡ full
-vector-turn p out full i b h k eb e =
-    rw (add-one i, take-suc-set out i b h, append-snoc (take i out) b (inversionVector (drop (suc i) p)), eb, smaller-is p i (omega arith))
-    (rw (drop-cons p i 0 (omega arith), inversions-cons (getD p i 0) (drop (suc i) p) (omega (arith, length-drop (suc i) p))) at e)
+-- what is found from place i on: the set of the values there, the inversions among them (`few`: the sum does not overflow), and their parts
+-- of the vector
+pub record FoundFrom (p : List ℕ) (i : ℕ) (vector : List ℕ) (sum behind : ℕ) : Type 0 where
+  pub place : i ≤ length p
+  pub cells : length vector ≡ 32
+  pub values : HasValues behind (drop i p)
+  pub total : sum ≡ inversions (drop i p)
+  pub few : sum + i * 25 ≤ 625
+  pub parts : (j : ℕ) → i ≤ j → j < length p → getD vector j 0 ≡ smallerAfter p j
 
-pub vector-end : (p out full : List ℕ) (i : ℕ) → length out ≤ i → length p ≡ i + 1 → take i out ++ inversionVector (drop i p) ≡ full → out ≡ full
-vector-end p out full i h k e =
-    rw (take-all i out h, inversions-short (drop i p) (omega (arith, length-drop i p)), append-nil out) at e
+module _ (p : List ℕ) (short : length p ≤ 25) where
+  pub found-start : FoundFrom p (length p) (replicate 32 0) 0 0
+  found-start =
+      let none : drop (length p) p ≡ [] = drop-length p in
+      record {
+        place = le-refl (length p);
+        cells = refl;
+        values = rw none values-none;
+        total = rw none (unfold inversions in refl);
+        few = omega arith;
+        parts = λ j l h. absurd (omega arith);
+      }
+
+  module _ (perm : IsPermutation (length p) p) {i sum behind : ℕ} {vector : List ℕ} (found : FoundFrom p i vector sum behind) where
+    module _ (first : 0 < i) (x : ℕ) (here : x ≡ getD p (i - 1) 0) where
+      entry-within : x ≤ length p
+      entry-within = omega (arith, entry-le perm (i - 1) (omega (arith, found .place)))
+
+      pub entry-small : x < 32
+      entry-small = omega (arith, entry-within)
+
+      -- the values behind that are smaller
+      behind-below : ones (behind % 2 ^ x) ≡ below x (drop i p)
+      behind-below =
+          values-below (found .values) x (omega (arith, entry-small))
+          (λ u h. omega (arith, many-drop (λ y. eqb y u) i p, times-le perm u (omega (arith, entry-within))))
+
+      pub behind-few : ones (behind % 2 ^ x) ≤ 25
+      behind-few = omega (arith, behind-below, many-le (λ y. ltb y x) (drop i p), length-drop i p)
+
+      behind-smaller : ones (behind % 2 ^ x) ≡ smallerAfter p (i - 1)
+      behind-smaller =
+          let next : suc (i - 1) ≡ i = omega arith in
+          behind-below ∙ sym (smaller-is p (i - 1) (omega (arith, found .place)) ∙ rw (← here, next))
+
+      pub found-turn : (n : ℕ) → n ≡ ones (behind % 2 ^ x) → FoundFrom p (i - 1) (set vector (i - 1) n) (sum + n) (bitOr behind (2 ^ x))
+      found-turn n en =
+          record {
+            place = omega (arith, found .place);
+            cells = length-set vector (i - 1) n ∙ found .cells;
+            values = rw (lt-ltb x 32 entry-small) at (set-turn p i behind x first (found .place) here (found .values));
+            total =
+                rw (drop-back p i first (found .place), ← here)
+                (omega (arith, en, behind-below, found .total, inversions-more x (drop i p)));
+            few = omega (arith, en, behind-few, found .few);
+            parts = parts;
+          }
+        where
+          parts : (j : ℕ) → i - 1 ≤ j → j < length p → getD (set vector (i - 1) n) j 0 ≡ smallerAfter p j
+          parts j l h = go (ℕ-discrete j (i - 1))
+            where
+              go : Dec (j ≡ i - 1) → getD (set vector (i - 1) n) j 0 ≡ smallerAfter p j
+              go (yes e) = rw e (getD-set-same vector (i - 1) n 0 (omega (arith, found .cells, found .place)) ∙ en ∙ behind-smaller)
+              go (no e) = getD-set-other vector (i - 1) j n 0 e ∙ found .parts j (omega arith) h
+
+  pub found-vector : {i sum behind : ℕ} {vector : List ℕ} → FoundFrom p i vector sum behind → i ≤ 0 → take (length p - 1) vector ≡ inversionVector p
+  unfolding inversionVector
+  found-vector {i} {sum} {behind} {vector} found none =
+      tabulate-take (smallerAfter p) vector (length p - 1) (omega (arith, found .cells)) (λ j h. found .parts j (omega arith) (omega arith))
+
+  pub found-sum : {i sum behind : ℕ} {vector : List ℕ} → FoundFrom p i vector sum behind → i ≤ 0 → sum ≡ inversions p
+  found-sum {i} found none =
+      let all : i ≡ 0 = omega arith in
+      rw all at (found .total)
 
 -- ---- the permutation
 
@@ -186,7 +168,8 @@ module _ (g : List ℕ) (fits : (i : ℕ) → i < length g → getD g i 0 ≤ le
   pub permutation-small : (out : List ℕ) (a : ℕ) → length g ≤ 24 → drop a out ≡ permutationOf (drop a g) → (j : ℕ) → a ≤ j → getD out j 0 < 255
   permutation-small out a short e j h =
       let here : a + (j - a) ≡ j = omega arith in
-      let entry : getD out j 0 ≡ getD (permutationOf (drop a g)) (j - a) 0 = ap (λ (n : ℕ). getD out n 0) (sym here) ∙ sym (getD-drop a out (j - a) 0) ∙ ap (λ (l : List ℕ). getD l (j - a) 0) e in
+      let entry : getD out j 0 ≡ getD (permutationOf (drop a g)) (j - a) 0 =
+      ap (λ (n : ℕ). getD out n 0) (sym here) ∙ sym (getD-drop a out (j - a) 0) ∙ ap (λ (l : List ℕ). getD l (j - a) 0) e in
       omega (arith, entries-le (drop a g) (under-drop g a (at-under g fits)) (j - a), length-drop a g)
 
 module _ (g : List ℕ) where
@@ -200,7 +183,8 @@ module _ (g : List ℕ) where
         drop-length g,
       )
 
-  pub permutation-turn : (out room : List ℕ) (a c : ℕ) → 0 < a → a ≤ length g → length out ≡ length g + 1 → length room ≡ length out → c ≡ getD g (a - 1) 0
+  pub permutation-turn : (out room : List ℕ) (a c : ℕ) → 0 < a → a ≤ length g → length out ≡ length g + 1 → length room ≡ length out
+      → c ≡ getD g (a - 1) 0
       → room ≡ take a out ++ map (lift c) (drop a out)
       → drop a out ≡ permutationOf (drop a g)
       → drop (a - 1) (set room (a - 1) (c + 1)) ≡ permutationOf (drop (a - 1) g)
@@ -209,7 +193,10 @@ module _ (g : List ℕ) where
   permutation-turn out room (suc i) c h l k kr ec er e =
       let back : suc i - 1 ≡ i = omega arith in
       let ec′ : c ≡ getD g i 0 = rw back at ec in
-      let later : drop (suc i) room ≡ map (lift c) (permutationOf (drop (suc i) g)) = ap (drop (suc i)) er ∙ drop-at (take (suc i) out) (map (lift c) (drop (suc i) out)) (suc i) (length-take-le (suc i) out (omega arith)) ∙ ap (map (lift c)) e in
+      let later : drop (suc i) room ≡ map (lift c) (permutationOf (drop (suc i) g)) =
+      ap (drop (suc i)) er
+      ∙ drop-at (take (suc i) out) (map (lift c) (drop (suc i) out)) (suc i) (length-take-le (suc i) out (omega arith))
+      ∙ ap (map (lift c)) e in
       rw back
       (drop-cons (set room i (c + 1)) i 0 (omega (arith, length-set room i (c + 1)))
       ∙ rw (

@@ -16,7 +16,7 @@ use Rattle.permutation.proofs.Inverse.{Under, permutation-is, inversion
 
 -- ---- the staircase
 
-length-staircase : (n : ℕ) → length (staircase (suc n)) ≡ n
+pub length-staircase : (n : ℕ) → length (staircase (suc n)) ≡ n
 unfolding staircase
 length-staircase zero = refl
 length-staircase (suc n) = ap suc (length-staircase n)
@@ -64,7 +64,9 @@ module _ (ms : List ℕ) (stairs : isStaircase ms ≡ true) where
 
   module _ {r : ℕ} {g : List ℕ} (comp : Composition ms r g) where
     pub composition-fits : (i : ℕ) → i < length g → getD g i 0 ≤ length g - i
-    composition-fits i h = omega (arith, comp .size, comp .parts .fits i (omega (arith, comp .size)), staircase-at ms stairs i (omega (arith, comp .size)))
+    composition-fits i h =
+        let l : i < length ms = omega (arith, comp .size) in
+        omega (arith, comp .size, comp .parts .fits i l, staircase-at ms stairs i l)
 
     pub composition-under : Under g
     composition-under = at-under g composition-fits

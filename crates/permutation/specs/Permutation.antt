@@ -1,6 +1,6 @@
 -- Document 01, "Sheet orders": permutations of 1..k and their inversion vectors. The document's sheet order p1..pk is a list p. Places are
--- counted from 0 here: `getD p i 0` is its p(i+1). A reader who believes this file, `Exchange`, `Reading` and `Conversions` knows what is
--- promised.
+-- counted from 0 here: `getD p i 0` is its p(i+1). A reader who believes this file, `Exchange`, `Reading`, `Numbered` and `Conversions`
+-- knows what is promised.
 use mathlib.Core.Path.{_≡_, refl}
 use mathlib.Core.Bool.{Bool, cond, true}
 use mathlib.Core.List.{List, [], _∷_, _++_, map}
@@ -33,13 +33,13 @@ abbrev pub smallerAfter : List ℕ → ℕ → ℕ
 smallerAfter p i = sum (λ j. inverted p i j) (length p)
 
 -- f 0, .. , f (n - 1)
-abbrev pub entries : (ℕ → ℕ) → ℕ → List ℕ
-entries f zero = []
-entries f (suc n) = entries f n ++ (f n ∷ [])
+abbrev pub tabulate : (ℕ → ℕ) → ℕ → List ℕ
+tabulate f zero = []
+tabulate f (suc n) = tabulate f n ++ (f n ∷ [])
 
 -- g1..g(k-1)
 unfoldable pub inversionVector : List ℕ → List ℕ
-inversionVector p = entries (smallerAfter p) (length p - 1)
+inversionVector p = tabulate (smallerAfter p) (length p - 1)
 
 -- "So its inversions number r."
 unfoldable pub inversions : List ℕ → ℕ

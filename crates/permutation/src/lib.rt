@@ -6,96 +6,87 @@ use places::composition_refusal;
 use places::lent_refusal;
 use walsh::wide;
 ghost use mathlib.Core.Path.{_≡_};
-ghost use mathlib.Core.Bool.{cond};
 ghost use mathlib.Core.List.{List, map, _++_};
-ghost use Prim.Native.Nat.{ℕ, _+_, _-_, _≤_, _<_};
+ghost use Prim.Native.Nat.{ℕ, _+_, _-_, _^_, _≤_, _<_};
 ghost use lib.ListN.{length, getD, take, drop};
 ghost use Rattle.bounds.specs.Refusal.{firstRefusal};
 ghost use Rattle.bounds.specs.Edition.{editionChecks};
 ghost use Rattle.bounds.specs.declared.Refusal.{Refusal};
 ghost use Rattle.permutation.specs.Reading.{byInversions};
-ghost use Rattle.permutation.specs.Conversions.{staircaseChecks, permutationChecks, toPermutationChecks, toCompositionChecks, toPermutation, toComposition};
-ghost use Rattle.permutation.specs.Permutation.{times, smallerAfter, isPermutation, inversions, inversionVector, lift, permutationOf};
+ghost use Rattle.permutation.specs.Conversions.{staircaseChecks, permutationChecks, toPermutationChecks, toCompositionChecks};
+ghost use Rattle.permutation.specs.Conversions.{toPermutation, toComposition};
+ghost use Rattle.permutation.specs.Permutation.{IsPermutation, isPermutation, inversions, inversionVector, lift, permutationOf};
+ghost use Rattle.permutation.specs.Values.{aloneOf, HasValues};
 
-fn one(b: bool) -> usize
-    ensures { λ r. ⌜ (r ≡ cond b 1 0) × (r ≤ 1) ⌝ }
-{
-    if b { 1 } else { 0 }
+// The inversion vector of a permutation of at most 25 entries, followed by zeros, and its sum. (A copy of 32 bytes is faster than one of 25.)
+struct Found {
+    vector: [u8; 32],
+    sum: u32,
 }
 
-// How often each byte is an entry of p.
-fn tally(p: &[u8]) -> [u8; 256]
-    requires { ⌜ length (now p) ≤ 255 ⌝ }
-    ensures { λ r. ⌜ ((v : ℕ) → v < 256 → getD r v 0 ≡ times v (now (p .entry))) ⌝ }
+// The refusal of a permutation; where it is none, the inversion vector.
+struct Vectored {
+    refusal: Refusal,
+    vector: [u8; 32],
+}
+
+// The bit of the value v in a set.
+fn power(v: usize) -> u32
+    requires { ⌜ v < 32 ⌝ }
+    ensures { λ r. ⌜ r ≡ 2 ^ v ⌝ }
 {
-    let mut counts = [0u8; 256];
-    let mut i = 0;
-    while i < p.len() {
-        let v = wide(p[i]);
-        counts[v] = counts[v] + 1;
-        i += 1;
+    1u32 << v
+}
+
+// The set of the value v alone, or of none where v is over 31.
+fn alone(v: usize) -> u32
+    ensures { λ r. ⌜ r ≡ aloneOf v ⌝ }
+{
+    if v < 32 { power(v) } else { 0 }
+}
+
+// The set of the values below 32 that are entries of p.
+fn value_set(p: &[u8]) -> u32
+    ensures { λ r. ⌜ HasValues r (now (p .entry)) ⌝ }
+{
+    let mut set = 0;
+    let mut i = p.len();
+    while 0 < i {
+        i -= 1;
+        set = set | alone(wide(p[i]));
     }
-    counts
+    set
 }
 
-// How many entries behind place i are smaller than the entry there.
-fn smaller_after(p: &[u8], i: usize) -> usize
-    requires { ⌜ i < length (now p) ⌝ }
-    ensures { λ r. ⌜ (r ≡ smallerAfter (now (p .entry)) i) × (r ≤ length (now (p .entry))) ⌝ }
-{
-    let v = p[i];
-    let mut n = 0;
-    let mut j = i + 1;
-    while j < p.len() {
-        n += one(p[j] < v);
-        j += 1;
-    }
-    n
-}
-
-// p is a permutation of 1..k.
+// p is a permutation of 1..k: it has k entries, and as many of the values 1..k are among them.
 fn is_permutation(p: &[u8], k: usize) -> bool
-    requires { ⌜ k ≤ 255 ⌝ }
+    requires { ⌜ k ≤ 25 ⌝ }
     ensures { λ r. ⌜ r ≡ isPermutation k (now (p .entry)) ⌝ }
 {
     if p.len() != k {
         return false;
     }
-    let counts = tally(p);
-    let mut v = 0;
-    while v < k {
-        v += 1;
-        if counts[v] != 1 {
-            return false;
-        }
-    }
-    true
+    u32::count_ones(value_set(p) / 2 % power(k)) as usize == k
 }
 
-// The number of inversions.
-fn count_inversions(p: &[u8]) -> usize
-    requires { ⌜ length (now p) ≤ 25 ⌝ }
-    ensures { λ r. ⌜ r ≡ inversions (now (p .entry)) ⌝ }
+// The inversion vector, from the last place to the first: the values below the entry are counted in the set of those behind it.
+fn find_inversions(p: &[u8]) -> Found
+    requires { ⌜ (length (now p) ≤ 25) × IsPermutation (length (now p)) (now p) ⌝ }
+    ensures { λ r. ⌜ (take (length (now (p .entry)) - 1) (r .vector) ≡ inversionVector (now (p .entry))) × (r .sum ≡ inversions (now (p .entry))) ⌝ }
 {
-    let mut sum = 0;
-    let mut i = 0;
-    while i < p.len() {
-        sum += smaller_after(p, i);
-        i += 1;
+    let mut vector = [0u8; 32];
+    let mut sum = 0u32;
+    let mut behind = 0u32;
+    let mut i = p.len();
+    while 0 < i {
+        i -= 1;
+        let here = power(wide(p[i]));
+        let smaller = u32::count_ones(behind % here);
+        vector[i] = smaller as u8;
+        sum += smaller;
+        behind = behind | here;
     }
-    sum
-}
-
-// Fills out with the inversion vector of p.
-fn fill_inversions(p: &[u8], out: &mut [u8])
-    requires { ⌜ (length (now p) ≤ 25) × (length (now p) ≡ length (now out) + 1) ⌝ }
-    ensures { λ _. ⌜ now (out .exit) ≡ inversionVector (now (p .entry)) ⌝ }
-{
-    let mut i = 0;
-    while i < out.len() {
-        out[i] = smaller_after(p, i) as u8;
-        i += 1;
-    }
+    Found { vector, sum }
 }
 
 fn lifted(c: u8, x: u8) -> u8
@@ -119,7 +110,8 @@ fn make_room(out: &mut [u8], from: usize, c: u8)
 
 // Fills out with the permutation whose inversion vector is g, from the last place to the first.
 fn fill_permutation(g: &[u8], out: &mut [u8])
-    requires { ⌜ (length (now g) ≤ 24) × (length (now out) ≡ length (now g) + 1) × ((i : ℕ) → i < length (now g) → getD (now g) i 0 ≤ length (now g) - i) ⌝ }
+    requires { ⌜ (length (now g) ≤ 24) × (length (now out) ≡ length (now g) + 1)
+        × ((i : ℕ) → i < length (now g) → getD (now g) i 0 ≤ length (now g) - i) ⌝ }
     ensures { λ _. ⌜ now (out .exit) ≡ permutationOf (now (g .entry)) ⌝ }
 {
     let mut i = g.len();
@@ -137,9 +129,9 @@ fn fill_permutation(g: &[u8], out: &mut [u8])
 fn staircase_refusal(upper: &[u8], total: u32) -> Refusal
     ensures { λ r. ⌜ r ≡ firstRefusal (editionChecks (now (upper .entry)) total ++ staircaseChecks (now (upper .entry))) ⌝ }
 {
-    let edition = count::edition_refusal(upper, total);
-    if edition.number != 0 {
-        return edition;
+    let limits = count::edition_refusal(upper, total);
+    if limits.number != 0 {
+        return limits;
     }
     if is_staircase(upper) {
         return refused(0, 0);
@@ -147,18 +139,34 @@ fn staircase_refusal(upper: &[u8], total: u32) -> Refusal
     refused(10, 0)
 }
 
-// The place 'sheet orders' from 11 on.
-fn permutation_refusal(upper: &[u8], total: u32, p: &[u8]) -> Refusal
+// A refusal, and no vector.
+fn unread(refusal: Refusal) -> Vectored
+    ensures { λ r. ⌜ r .refusal ≡ refusal ⌝ }
+{
+    Vectored {
+        refusal,
+        vector: [0u8; 32],
+    }
+}
+
+// The place 'sheet orders' from 11 on, with the vector that it needs.
+fn read_permutation(upper: &[u8], total: u32, p: &[u8]) -> Vectored
     requires { ⌜ length (now upper) ≤ 24 ⌝ }
-    ensures { λ r. ⌜ r ≡ firstRefusal (permutationChecks byInversions (now (upper .entry)) total (now (p .entry))) ⌝ }
+    ensures { λ r. ⌜ (r .refusal ≡ firstRefusal (permutationChecks byInversions (now (upper .entry)) total (now (p .entry))))
+        × (r .refusal .number ≡ 0 → take (length (now (upper .entry))) (r .vector) ≡ inversionVector (now (p .entry))) ⌝ }
 {
     if !is_permutation(p, upper.len() + 1) {
-        return refused(11, 0);
+        return unread(refused(11, 0));
     }
-    if count_inversions(p) != total as usize {
-        return refused(12, 0);
+    let found = find_inversions(p);
+    if found.sum != total {
+        return unread(refused(12, 0));
     }
-    refused(0, 0)
+    let vector = found.vector;
+    Vectored {
+        refusal: refused(0, 0),
+        vector,
+    }
 }
 
 // All that can refuse a composition and a lent part of `room` bytes.
@@ -176,19 +184,24 @@ fn to_permutation_refusal(upper: &[u8], total: u32, g: &[u8], room: usize) -> Re
     lent_refusal(upper.len() + 1, room)
 }
 
-// All that can refuse a permutation and a lent part of `room` bytes.
-fn to_composition_refusal(upper: &[u8], total: u32, p: &[u8], room: usize) -> Refusal
-    ensures { λ r. ⌜ r ≡ firstRefusal (toCompositionChecks byInversions (now (upper .entry)) total (now (p .entry)) room) ⌝ }
+// All that can refuse a permutation and a lent part of `room` bytes; where nothing does, the inversion vector.
+fn to_composition(upper: &[u8], total: u32, p: &[u8], room: usize) -> Vectored
+    ensures { λ r. ⌜ (r .refusal ≡ firstRefusal (toCompositionChecks byInversions (now (upper .entry)) total (now (p .entry)) room))
+        × (r .refusal .number ≡ 0 → take room (r .vector) ≡ inversionVector (now (p .entry))) ⌝ }
 {
     let stairs = staircase_refusal(upper, total);
     if stairs.number != 0 {
-        return stairs;
+        return unread(stairs);
     }
-    let given = permutation_refusal(upper, total, p);
-    if given.number != 0 {
+    let given = read_permutation(upper, total, p);
+    if given.refusal.number != 0 {
         return given;
     }
-    lent_refusal(upper.len(), room)
+    let vector = given.vector;
+    Vectored {
+        refusal: lent_refusal(upper.len(), room),
+        vector,
+    }
 }
 
 // document 01: mix to order. Fills the lent part with the permutation whose inversion vector is the composition.
@@ -207,10 +220,11 @@ pub fn permutation(upper: &[u8], total: u32, composition: &[u8], out: &mut [u8])
 pub fn inversions(upper: &[u8], total: u32, permutation: &[u8], out: &mut [u8]) -> Refusal
     ensures { λ r. ⌜ _≡_ {A = Refusal × List ℕ} (r, now (out .exit)) (toComposition byInversions (now (upper .entry)) total (now (permutation .entry)) (now (out .entry))) ⌝ }
 {
-    let refused = to_composition_refusal(upper, total, permutation, out.len());
-    if refused.number != 0 {
-        return refused;
+    let found = to_composition(upper, total, permutation, out.len());
+    if found.refusal.number != 0 {
+        return found.refusal;
     }
-    fill_inversions(permutation, out);
-    refused
+    let vector = found.vector;
+    bounds::copy(&vector, out);
+    found.refusal
 }

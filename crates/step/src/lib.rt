@@ -180,9 +180,9 @@ fn shift(upper: &[u8], total: usize, parts: &[u8]) -> Stepped
 fn step(upper: &[u8], total: u32, composition: &[u8], back: bool) -> Stepped
     ensures { λ r. ⌜ r ≡ stepOf back (now (upper .entry)) total (now (composition .entry)) ⌝ }
 {
-    let edition = edition_refusal(upper, total);
-    if 0 < edition.number {
-        return stopped(edition.number, edition.detail);
+    let limits = edition_refusal(upper, total);
+    if 0 < limits.number {
+        return stopped(limits.number, limits.detail);
     }
     let given = composition_refusal(upper, total, composition);
     if 0 < given.number {

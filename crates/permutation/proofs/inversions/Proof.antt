@@ -1,6 +1,8 @@
 -- `permutation::inversions` meets its contract.
+use mathlib.Core.Path.{_∙_}
 use native.Mathlib.Omega.{arith}
 use borrow.Author.Needs.{needs}
+use Rattle.bounds.proofs.Cells.{copied-over}
 use Rattle.bounds.proofs.Filling.{filling-refused, filling-done}
 use Rattle.permutation.specs.Reading.{byInversions}
 use Rattle.permutation.specs.Conversions.{toComposition}
@@ -10,19 +12,22 @@ use Rattle.permutation.proofs.inversions.Tie as tie
 
 returns : tie.Need-returns
 unfolding toComposition
-returns c = filling-refused _ _ _ (c .before .before .to-composition-refusal .ensures) (c .if1 .taken)
-
-fill-inversions-requires : tie.Need-fill-inversions-requires
-fill-inversions-requires c κs = let checked = c .before .before .before in
-    let args = checked .before .before .before .before .args in
-    to-composition-ready byInversions (omega arith) (args .upper .now) (args .total) (args .permutation .now) _ (checked .to-composition-refusal .ensures) (c .before .if1 .left)
+returns c = let test = c .before in
+    filling-refused _ _ _ (test .before .before .to-composition .ensures .0) (test .if1 .taken)
 
 returns-2 : tie.Need-returns-2
 unfolding toComposition
-returns-2 c = let filled = c .before .before in
-    let checked = filled .before .before .before .before in
-    filling-done _ _ _ (checked .to-composition-refusal .ensures) (filled .before .before .if1 .left) (filled .fill-inversions .ensures)
+returns-2 c =
+    let copied = c .before .before .before in
+    let test = copied .before .before .before .before in
+    let checked = test .before .before in
+    let args = checked .before .before .before .before .args in
+    let is = checked .to-composition .ensures in
+    let none = test .if1 .left in
+    let room = to-composition-ready byInversions (omega arith) (args .upper .now) (args .total) (args .permutation .now) _ _ (is .0) none (is .1 none) in
+    filling-done _ _ _ (is .0) none (copied .copy .ensures ∙ copied-over _ _ room ∙ is .1 none)
 
 pub inversions-spec : {M : Type 1} → statement M
 inversions-spec =
-    tie.close (tie.spec (λ c κs. search needs) returns fill-inversions-requires (λ c. search needs) returns-2)
+    tie.close
+    (tie.spec (λ c κs. search needs) returns (λ c. search needs) (λ c κs. search needs) (λ c. search needs) returns-2)

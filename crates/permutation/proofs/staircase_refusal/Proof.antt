@@ -12,12 +12,14 @@ returns c = answer-first _ _ (c .before .before .edition-refusal .ensures) (c .i
 returns-2 : tie.Need-returns-2
 returns-2 c = let test = c .before .before in
     let edition = test .before .before .before in
-    answer-later _ _ (edition .edition-refusal .ensures) refl (test .before .if1 .left) (staircase-yes _ (test .is-staircase .ensures) (c .before .if2 .taken) (c .refused .ensures))
+    answer-later _ _ (edition .edition-refusal .ensures) refl (test .before .if1 .left)
+    (staircase-yes _ (test .is-staircase .ensures) (c .before .if2 .taken) (c .refused .ensures))
 
 returns-3 : tie.Need-returns-3
 returns-3 c = let test = c .before .before in
     let edition = test .before .before .before in
-    answer-later _ _ (edition .edition-refusal .ensures) refl (test .before .if1 .left) (staircase-no _ (test .is-staircase .ensures) (c .before .if2 .left) (c .refused2 .ensures))
+    answer-later _ _ (edition .edition-refusal .ensures) refl (test .before .if1 .left)
+    (staircase-no _ (test .is-staircase .ensures) (c .before .if2 .left) (c .refused2 .ensures))
 
 pub staircase-refusal-spec : {M : Type 1} → statement M
 staircase-refusal-spec =

@@ -13,7 +13,8 @@ returns c = answer-first _ _ (c .before .before .staircase-refusal .ensures) (c 
 returns-2 : tie.Need-returns-2
 returns-2 c = let given = c .before .before in
     let stairs = given .before .before .before in
-    answer-later _ _ (stairs .staircase-refusal .ensures) refl (given .before .if1 .left) (answer-first _ _ (given .composition-refusal .ensures) (c .if2 .taken))
+    answer-later _ _ (stairs .staircase-refusal .ensures) refl (given .before .if1 .left)
+    (answer-first _ _ (given .composition-refusal .ensures) (c .if2 .taken))
 
 add-lent-refusal : tie.Need-add-lent-refusal
 add-lent-refusal c = let stairs = c .before .before .before .before .before in
@@ -23,7 +24,8 @@ add-lent-refusal c = let stairs = c .before .before .before .before .before in
 returns-3 : tie.Need-returns-3
 returns-3 c = let given = c .before .before .before in
     let stairs = given .before .before .before in
-    answer-later _ _ (stairs .staircase-refusal .ensures) refl (given .before .if1 .left) (answer-later _ _ (given .composition-refusal .ensures) refl (c .before .if2 .left) (c .lent-refusal .ensures))
+    answer-later _ _ (stairs .staircase-refusal .ensures) refl (given .before .if1 .left)
+    (answer-later _ _ (given .composition-refusal .ensures) refl (c .before .if2 .left) (c .lent-refusal .ensures))
 
 pub to-permutation-refusal-spec : {M : Type 1} → statement M
 to-permutation-refusal-spec =
