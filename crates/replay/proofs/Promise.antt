@@ -24,10 +24,10 @@ use Rattle.replay.proofs.Traces.{cellsIn, read-back, run-calls}
 observed : (r : Ledger) (cs : List Call) (b b′ : Buffers) (l : Ledger) → Ran r cs b b′ l → seen cs l b′ ≡ run r (b .column) cs
 observed r cs b b′ l w =
     let t = run r (b .column) cs .trace in
-    let p : shown cs (b′ .numbers) (b′ .details) (b′ .given) (b′ .compositions) ≡ t =
-    rw (w .numbers, w .details, w .given, w .compositions)
+    let p : shown cs (b′ .numbers) (b′ .details) (b′ .granted) (b′ .compositions) ≡ t =
+    rw (w .numbers, w .details, w .granted, w .compositions)
     (ap (λ (c : List Call). shown c (over (b .numbers) (map (λ x. x .reply .number) t)) (over (b .details) (map (λ x. x .reply .detail) t))
-    (over (b .given) (map (λ x. x .reply .serial) t)) (over (b .compositions) (cellsIn t))) (sym (run-calls r (b .column) cs))
+    (over (b .granted) (map (λ x. x .reply .serial) t)) (over (b .compositions) (cellsIn t))) (sym (run-calls r (b .column) cs))
     ∙ read-back t _ _ _ _ (w .full)) in
     λ i. record { trace = p i; ledger = w .ledger i; column = w .column i }
 
