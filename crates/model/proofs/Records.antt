@@ -12,7 +12,7 @@ use Rattle.walsh.specs.Serial.{same}
 use Rattle.walsh.specs.Tests.{both}
 use Rattle.walsh.proofs.Cases.{on-test}
 use Rattle.walsh.proofs.Serials.{same-eq}
-use Rattle.bounds.specs.Refusal.{check, firstRefusal}
+use Rattle.bounds.specs.Refusal.{firstRefusal}
 use Rattle.bounds.specs.Edition.{recordChecks, cellsOf}
 use Rattle.bounds.specs.declared.Refusal.{Refusal}
 use Rattle.bounds.proofs.Refusals.{passed, refusal-here, refusal-next}
@@ -21,7 +21,8 @@ use Rattle.model.specs.declared.Claimed.{Claimed}
 use Rattle.model.specs.declared.Ledger.{Ledger}
 use Rattle.model.specs.Basics.{zeros, nonzeros, all}
 use Rattle.model.specs.Model.{Call, blank, granted, answerBy, answer, accepted}
-use Rattle.model.specs.Record.{upperOf, compositionsOf, nextComposition, written, tests, consistent, answered, counted, entered, recordAfter, columnAfter, calling, entriesOf}
+use Rattle.model.specs.Record.{upperOf, compositionsOf, nextComposition, written, tests, consistent}
+use Rattle.model.specs.Record.{notTogether, answered, counted, entered, recordAfter, columnAfter, calling, entriesOf}
 use Rattle.model.proofs.Lists.{zeros-or-not}
 
 -- ---- number 16
@@ -129,13 +130,13 @@ module _ (r : Ledger) (col : List ℕ) where
     pub answered-16 : consistent r col ≡ false → answered r col c ≡ refusedWith 16 0
     unfolding answered
     answered-16 f =
-        ap (λ (v : Refusal). answerBy v gs (granted gs (written r col) c)) (refusal-here (check 16 (not (consistent r col)) 0) _ (ap not f))
+        ap (λ (v : Refusal). answerBy v gs (granted gs (written r col) c)) (refusal-here (notTogether r col) _ (ap not f))
 
     -- where a record and a column belong together, the answer is the model's over the lines written
     pub answered-by : consistent r col ≡ true → answered r col c ≡ answer gs (written r col) c
     unfolding answered answer
     answered-by t =
-        ap (λ (v : Refusal). answerBy v gs (granted gs (written r col) c)) (refusal-next (check 16 (not (consistent r col)) 0) _ (ap not t))
+        ap (λ (v : Refusal). answerBy v gs (granted gs (written r col) c)) (refusal-next (notTogether r col) _ (ap not t))
 
     module _ (a : Answer) (e : a ≡ answered r col c) where
       pub calling-refused : a .number ≢ 0 → _≡_ {A = Claimed × List ℕ} (record { answer = a; ledger = r }, col) (calling r col c)
@@ -148,7 +149,8 @@ module _ (r : Ledger) (col : List ℕ) where
       calling-accepted r′ x n p q = rw (← e, eq-eqb (a .number) 0 n, p, q)
 
   -- a peek leaves all as it was
-  pub calling-peek : (a : Answer) → a ≡ answered r col Call.peek → _≡_ {A = Claimed × List ℕ} (record { answer = a; ledger = r }, col) (calling r col Call.peek)
+  pub calling-peek : (a : Answer) → a ≡ answered r col Call.peek
+      → _≡_ {A = Claimed × List ℕ} (record { answer = a; ledger = r }, col) (calling r col Call.peek)
   unfolding calling recordAfter columnAfter
   calling-peek a e = on-test (accepted (answered r col Call.peek)) (λ t. rw (e, t)) (λ t. rw (e, t))
 

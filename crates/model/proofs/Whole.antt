@@ -51,7 +51,8 @@ module _ (ms : List ℕ) (r : ℕ) where
       there : length (compositions ms r) < k + 1 → (g : List ℕ) → Composition ms r g → Once blank (cellsOf g) (take k (compositions ms r))
       there p g c =
           let q = composition-place ms r g c in
-          rw (take-all k (compositions ms r) (omega arith)) (once-at blank (compositions ms r) (compositions-distinct ms r) (cellsOf g) (q .0) (q .1) (q .2))
+          rw (take-all k (compositions ms r) (omega arith))
+          (once-at blank (compositions ms r) (compositions-distinct ms r) (cellsOf g) (q .0) (q .1) (q .2))
 
       go : ((g : List ℕ) → Composition ms r g → Once blank (cellsOf g) (take k (compositions ms r)))
           → (k ≡ length (compositions ms r)) ⊎ (k < length (compositions ms r))
@@ -71,9 +72,9 @@ claimed-once gs cs before rest s o a p n17 n6 =
     let st = stood gs before cs [] (record { call = claim s o; reply = a }) rest p in
     let w = already-written gs (st .entries) s o (rw (st .reply) at n17) (rw (st .reply) at n6) in
     let k = length (writers before) in
-    rw (st .reply, st .serial) (
-      (λ q. let b = w .0 q in count-mem 1 k (b .0) (omega (arith, b .1, st .size))),
-      λ q. let b = mem-count 1 k q in w .1 (b .0, omega (arith, b .1, st .size)),
+    rw (st .reply, st .grown .serial) (
+      (λ q. let b = w .0 q in count-mem 1 k (b .0) (omega (arith, b .1, st .grown .size))),
+      λ q. let b = mem-count 1 k q in w .1 (b .0, omega (arith, b .1, st .grown .size)),
     )
 
 pub whole : (ms : List ℕ) (r : ℕ) (col : List ℕ) → Opens ms r col → (cs : List Call)
@@ -86,7 +87,7 @@ whole ms r col o cs =
     let m = book ms r cs .entries in
     let t = book ms r cs .trace in
     let again = simulates ms r col o (peeked (writers t)) [] (omega arith) in
-    let count : length m ≡ length (writers t) = f .size ∙ zero-add (length (writers t)) in
+    let count : length m ≡ length (writers t) = f .grown .size ∙ zero-add (length (writers t)) in
     record {
       answers = sim .trace;
       never-16 = rw (sim .trace) (never-16 gs cs []);
@@ -101,7 +102,7 @@ whole ms r col o cs =
       second-answers = rw (sim .trace, again .trace) (f .again-trace);
       second-peeks = rw (sim .trace, again .trace) (f .again-peeks);
       written = rw (sim .trace, sim .ledger) (count ∙ claims-and-voids (kept t));
-      in-turn = rw (sim .trace, sim .ledger, count) (f .serial);
+      in-turn = rw (sim .trace, sim .ledger, count) (f .grown .serial);
       first-compositions = rw (sim .trace, sim .ledger, count) (f .composition);
       no-repeat = rw (sim .trace, f .composition) (distinct-take blank (length (writers t)) gs (compositions-distinct ms r));
       neighbours = rw (sim .trace, sim .ledger, f .composition, ← count) (λ i. near ms r (length m) i (sim .fits));
