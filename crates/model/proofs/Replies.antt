@@ -70,8 +70,8 @@ module _ (gs : List (List ℕ)) (l : List ℕ) where
       pub claim-refused : placed gs l s .number ≢ 0 → answer gs l (claim s o) ≡ placed gs l s
       unfolding answer
       claim-refused f =
-          ap (λ (v : Refusal). answerBy v gs s)
-          (ordered ∙ refusal-first (placeChecks gs l s) (standsEarlier l o ∷ []) (λ z. f (answer-number (firstRefusal (placeChecks gs l s)) gs s ∙ z)))
+          let number = answer-number (firstRefusal (placeChecks gs l s)) gs s in
+          ap (λ (v : Refusal). answerBy v gs s) (ordered ∙ refusal-first (placeChecks gs l s) (standsEarlier l o ∷ []) (λ z. f (number ∙ z)))
 
       module _ (z : placed gs l s .number ≡ 0) where
         zero-number : firstRefusal (placeChecks gs l s) .number ≡ 0

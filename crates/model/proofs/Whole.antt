@@ -1,5 +1,5 @@
 -- The statement about a whole list of calls holds of every list, from an accepted opening over any column.
-use mathlib.Core.Path.{_≡_, sym, ap, _∙_}
+use mathlib.Core.Path.{_≡_, refl, sym, ap, _∙_}
 use mathlib.Core.Logic.{_≢_, _↔_, _⊎_, inl, inr}
 use mathlib.Core.List.{List, [], _∷_, _++_, List·Memᴰ, List·Memᴰ·cases-cons, List·Memᴰ·not-nil}
 use Prim.Native.Nat.{ℕ, suc, _+_, _≤_, _<_}
@@ -18,7 +18,7 @@ use Rattle.model.specs.Record.{compositions, opened, opening, run}
 use Rattle.model.specs.Trace.{kept, writers, serials, peeked}
 use Rattle.model.specs.Whole.{ran, book, secondList, Whole}
 use Rattle.model.proofs.Compositions.{compositions-distinct, compositions-near, composition-place, place-composition}
-use Rattle.model.proofs.Opening.{Opens, opens}
+use Rattle.model.proofs.Opening.{Opens, opens, opening-accepted}
 use Rattle.model.proofs.Calls.{not-16, peek-21, already-written}
 use Rattle.model.proofs.Books.{facts, stood, claims-and-voids}
 use Rattle.model.proofs.Places.{once-at, distinct-take, not-among, mem-count, count-mem}
@@ -121,4 +121,4 @@ whole ms r col o cs =
 pub from-opening : (ms : List ℕ) (r : ℕ) (col : List ℕ) (cs : List Call) → opening ms r col .number ≡ 0
     → Whole ms r col cs (run (opening ms r col .ledger) col cs)
     (run (opening ms r col .ledger) col (secondList (run (opening ms r col .ledger) col cs)))
-from-opening ms r col cs z = let o = opens ms r col z in rw (o .1) (whole ms r col (o .0) cs)
+from-opening ms r col cs z = let o = opening-accepted ms r col _ refl z in rw (o .1) (whole ms r col (opens ms r col (o .0)) cs)

@@ -80,8 +80,11 @@ sizes x b =
     sizesOf (length (x .calls)) (length (x .serials)) (length (x .orders)) (length (b .numbers)) (length (b .details)) (length (b .granted))
     (length (b .compositions))
 
+abbrev pub sizeChecks : Script → Buffers → List Check
+sizeChecks x b = check 13 (not (all (sizes x b))) 0 ∷ []
+
 abbrev pub replayChecks : List ℕ → ℕ → Script → Buffers → List Check
-replayChecks ms r x b = openingChecks ms r (length (b .column)) ++ (check 13 (not (all (sizes x b))) 0 ∷ [])
+replayChecks ms r x b = openingChecks ms r (length (b .column)) ++ sizeChecks x b
 
 -- ---- the promise: with b lent, o is answered and b′ left
 
