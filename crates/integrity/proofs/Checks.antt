@@ -1,12 +1,12 @@
 -- The tests of number 16, one law for each way out of them.
-use mathlib.Core.Path.{_≡_, refl, sym, ap, _∙_}
+use mathlib.Core.Path.{_≡_, sym, ap, _∙_}
 use mathlib.Core.Logic.{_≢_}
 use mathlib.Core.Bool.{true, false, false≢true}
 use mathlib.Core.List.{List, []}
 use Prim.Native.Nat.{ℕ, _+_, _-_, _≤_, _<_, min, max}
 use native.Mathlib.Omega.{arith}
 use lib.ListN.{length, getD}
-use borrow.Author.Tests.{lt-leb, ne-eqb, ltb-false}
+use borrow.Author.Tests.{lt-leb, ne-eqb}
 use Rattle.walsh.specs.Order.{order, countOf}
 use Rattle.walsh.specs.Serial.{same, compositionOf}
 use Rattle.walsh.proofs.Cases.{on-less}
@@ -14,7 +14,6 @@ use Rattle.bounds.specs.Refusal.{firstRefusal}
 use Rattle.bounds.specs.Edition.{recordChecks, cellsOf}
 use Rattle.bounds.specs.declared.Bounds.{Bounds}
 use Rattle.bounds.specs.declared.Refusal.{Refusal}
-use Rattle.bounds.proofs.Refusals.{passed}
 use Rattle.rank.specs.Locate.{nearest, locateRecordOf}
 use Rattle.rank.specs.declared.Located.{Located}
 use Rattle.rank.proofs.Locations.{record-refused, record-accepted}
@@ -22,7 +21,7 @@ use Rattle.model.specs.Basics.{zeros, nonzeros}
 use Rattle.model.specs.Record.{upperOf, compositions, compositionsOf, nextComposition, written, consistent}
 use Rattle.model.specs.declared.Ledger.{Ledger}
 use Rattle.model.proofs.Compositions.{compositions-size, compositions-at}
-use Rattle.model.proofs.Records.{together, fails, sold-of}
+use Rattle.model.proofs.Records.{few-parts, together, fails, sold-of}
 use Rattle.integrity.specs.Examine.{Scanned, Sees}
 use Rattle.integrity.specs.declared.Seen.{Seen}
 
@@ -48,7 +47,7 @@ asked b e at is z =
       sound = p .0;
       count = p .1 .count ∙ sym (compositions-size (upperOf b) (b .total));
       next = p .1 .cells ∙ nearest-next (upperOf b) (b .total) e;
-      few = ltb-false 24 (b .parts) (passed _ _ refl (p .0) .0);
+      few = few-parts b (p .0);
     }
 
 module _ (r : Ledger) (col : List ℕ) (x : ℕ) where

@@ -34,7 +34,7 @@ fn one(a: u32, b: u32) -> u32
     if a == b { 1 } else { 0 }
 }
 
-// The first n entries.
+// One pass over the first n entries.
 fn scan(orders: &[u32], n: usize, order: u32) -> Counts
     requires { ⌜ (n ≤ length (now orders)) × (n ≤ 1000000) ⌝ }
     ensures { λ r. ⌜ Scanned (take n (now (orders .entry))) order (r .zeros) (r .hits) ⌝ }
@@ -67,7 +67,7 @@ fn equal(a: [u8; 24], b: [u8; 24]) -> bool
     true
 }
 
-// The cells past n are 0.
+// Whether the cells past n are 0.
 fn packed(bounds: Bounds) -> bool
     requires { ⌜ bounds .parts ≤ 24 ⌝ }
     ensures { λ r. ⌜ r ≡ same (bounds .upper) (cellsOf (upperOf bounds)) ⌝ }

@@ -14,7 +14,7 @@ ghost use Rattle.ledger.specs.Entering.{entering};
 
 // ---- opening
 
-// A refused opening: a record of zeros.
+// What a refused opening answers: its refusal and a record of zeros.
 pub fn unopened(number: u32, detail: u64) -> Opened
     ensures { λ r. ⌜ r ≡ record { number = number; detail = detail; ledger = blankLedger } ⌝ }
 {

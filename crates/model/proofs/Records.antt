@@ -14,6 +14,7 @@ use Rattle.walsh.proofs.Cases.{on-test}
 use Rattle.walsh.proofs.Serials.{same-eq}
 use Rattle.bounds.specs.Refusal.{firstRefusal}
 use Rattle.bounds.specs.Edition.{recordChecks, cellsOf}
+use Rattle.bounds.specs.declared.Bounds.{Bounds}
 use Rattle.bounds.specs.declared.Refusal.{Refusal}
 use Rattle.bounds.proofs.Refusals.{passed, refusal-here, refusal-next}
 use Rattle.model.specs.declared.Answer.{Answer}
@@ -41,6 +42,10 @@ one-fails i [] e = absurd (false≢true (sym e))
 one-fails zero (b ∷ bs) e = rw e
 one-fails (suc i) (true ∷ bs) e = one-fails i bs e
 one-fails (suc i) (false ∷ bs) e = refl
+
+-- an accepted record of bounds has at most 24 parts
+pub few-parts : (b : Bounds) → firstRefusal (recordChecks b) .number ≡ 0 → b .parts ≤ 24
+few-parts b e = ltb-false 24 (b .parts) (passed _ _ refl e .0)
 
 -- what a record and a column meet that belong together
 pub record Consistent (r : Ledger) (col : List ℕ) : Type 0 where
@@ -86,7 +91,7 @@ module _ (r : Ledger) (col : List ℕ) where
         voided = h6;
         next = same-eq (r .next) (nextComposition gs (r .entries)) (p .1 .1 .1 .1 .1 .1 .0);
         spare = same-eq (r .bounds .upper) (cellsOf (upperOf (r .bounds))) (p .1 .1 .1 .1 .1 .1 .1 .0);
-        few = ltb-false 24 (r .bounds .parts) (passed _ _ refl h1 .0);
+        few = few-parts (r .bounds) h1;
         length-written = n;
         few-sold = omega arith;
         few-voided = omega arith;

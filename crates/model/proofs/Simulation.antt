@@ -4,16 +4,14 @@ use mathlib.Core.Bool.{Bool, true, false, cond}
 use mathlib.Core.List.{List, [], _∷_, _++_}
 use Prim.Native.Nat.{ℕ, _+_, _-_, _≤_}
 use native.Mathlib.Omega.{arith}
-use lib.Dec.{ltb}
 use lib.ListN.{length, drop, set}
 use lib.Seq.{take-append-seam}
-use borrow.Author.Tests.{le-ltb}
 use Rattle.walsh.proofs.Serials.{same-refl}
-use Rattle.bounds.specs.Refusal.{check, firstRefusal}
+use Rattle.bounds.specs.Refusal.{firstRefusal}
 use Rattle.bounds.specs.Edition.{recordChecks, cellsOf, boundsOf}
 use Rattle.bounds.specs.declared.Refusal.{Refusal}
+use Rattle.bounds.proofs.Answers.{record-few}
 use Rattle.bounds.proofs.Cells.{cells-back}
-use Rattle.bounds.proofs.Refusals.{refusal-next}
 use Rattle.model.specs.declared.Ledger.{Ledger}
 use Rattle.model.specs.Basics.{zeros, nonzeros, over}
 use Rattle.model.specs.Model.{Call, peek, claim, void, next, accepted, answer, appended, after, bookFrom}
@@ -41,8 +39,7 @@ module _ (ms : List ℕ) (r : ℕ) (col : List ℕ) (o : Opens ms r col) where
 
   sound : firstRefusal (recordChecks (boundsOf ms r)) .number ≡ 0
   sound =
-      ap (λ (v : Refusal). v .number) (refusal-next (check 1 (ltb 24 (length ms)) 0) _ (le-ltb 24 (length ms) (o .few)))
-      ∙ rw (cells-back ms) (o .sound)
+      ap (λ (v : Refusal). v .number) (sym (record-few (boundsOf ms r) (o .few))) ∙ rw (cells-back ms) (o .sound)
 
   belongs : (l : List ℕ) → length l ≤ length gs → consistent (ledgerOf ms r l) (over col l) ≡ true
   belongs l h =

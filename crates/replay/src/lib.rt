@@ -84,7 +84,7 @@ fn run(
     l
 }
 
-// Whether the slices have one entry for each call, `compositions` 24, by their lengths.
+// Whether slices of these lengths have one entry for each call; the last has 24.
 fn fits(
     calls: usize,
     serials: usize,
