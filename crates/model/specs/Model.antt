@@ -24,35 +24,36 @@ pub data Call : Type 0 where
 abbrev pub next : List ℕ → ℕ
 next l = length l + 1
 
--- ---- the rows of the table of refusals, in its order
+-- ---- the rows of the table of refusals, in its words and order; behind them the words of the paper register
 
--- take: "order 0"
+-- take: "order 0"; "o is 0"
 abbrev pub noOrder : ℕ → Check
 noOrder o = check 17 (eqb o 0) 0
 
--- serial given: "0 or over N"
+-- serial given: "0 or over N"; "s is 0 or over N"
 abbrev pub noSerial : List (List ℕ) → ℕ → Check
 noSerial gs s = check 6 (either (eqb s 0) (ltb (length gs) s)) 0
 
--- take, spoil: "already written; detail: the number on its line"
+-- take, spoil: "already written; detail: the number on its line"; "s is below the next serial, detail the order number of its entry"
 abbrev pub alreadyWritten : List ℕ → ℕ → Check
 alreadyWritten l s = check 18 (ltb s (next l)) (getD l (s - 1) 0)
 
--- "above the next serial; detail: the next"
+-- "above the next serial; detail: the next"; "s is above the next serial, detail the next"
 abbrev pub aboveNext : List ℕ → ℕ → Check
 aboveNext l s = check 19 (ltb (next l) s) (next l)
 
--- take: "this order stands in an earlier line; detail: the lowest such serial"
+-- take: "this order stands in an earlier line; detail: the lowest such serial"; "o stands in the list, detail the lowest serial it stands at"
 abbrev pub standsEarlier : List ℕ → ℕ → Check
 standsEarlier l o = check 20 (ltb (indexOf o l) (length l)) (indexOf o l + 1)
 
--- look: "lines = N", which is "if the next serial is above N"
+-- look: "lines = N"; "if the next serial is above N"
 abbrev pub allWritten : List (List ℕ) → List ℕ → Check
 allWritten gs l = check 21 (ltb (length gs) (next l)) 0
 
 -- ---- a call
 
 module _ (gs : List (List ℕ)) (l : List ℕ) where
+  -- those of a serial
   abbrev pub placeChecks : ℕ → List Check
   placeChecks s = noSerial gs s ∷ alreadyWritten l s ∷ aboveNext l s ∷ []
 

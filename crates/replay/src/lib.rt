@@ -8,7 +8,6 @@ ghost use mathlib.Core.Path.{_≡_};
 ghost use mathlib.Core.Bool.{true};
 ghost use Prim.Native.Nat.{_+_, _*_, _≤_, _<_};
 ghost use lib.ListN.{length};
-ghost use lib.Seq.{paste};
 ghost use Rattle.model.specs.Basics.{all};
 ghost use Rattle.model.specs.Record.{calling};
 ghost use Rattle.replay.specs.Replay.{script, buffers, callOf, callsOf, sizesOf, sizes, Replays};
