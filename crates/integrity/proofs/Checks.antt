@@ -1,26 +1,27 @@
 -- The tests of number 16, one law for each way out of them.
-use mathlib.Core.Path.{_≡_, refl, sym, ap, _∙_}
+use mathlib.Core.Path.{_≡_, sym, ap, _∙_}
 use mathlib.Core.Logic.{_≢_}
 use mathlib.Core.Bool.{true, false, false≢true}
 use mathlib.Core.List.{List, []}
 use Prim.Native.Nat.{ℕ, _+_, _-_, _≤_, _<_, min, max}
 use native.Mathlib.Omega.{arith}
 use lib.ListN.{length, getD}
-use borrow.Author.Tests.{lt-leb, ne-eqb, ltb-false}
+use borrow.Author.Tests.{lt-leb, ne-eqb}
 use Rattle.walsh.specs.Order.{order, countOf}
 use Rattle.walsh.specs.Serial.{same, compositionOf}
 use Rattle.walsh.proofs.Cases.{on-less}
 use Rattle.bounds.specs.Refusal.{firstRefusal}
 use Rattle.bounds.specs.Edition.{recordChecks, cellsOf}
 use Rattle.bounds.specs.declared.Bounds.{Bounds}
-use Rattle.bounds.proofs.Refusals.{passed, is-refused, is-accepted}
+use Rattle.bounds.specs.declared.Refusal.{Refusal}
 use Rattle.rank.specs.Locate.{nearest, locateRecordOf}
 use Rattle.rank.specs.declared.Located.{Located}
+use Rattle.rank.proofs.Locations.{record-refused, record-accepted}
 use Rattle.model.specs.Basics.{zeros, nonzeros}
 use Rattle.model.specs.Record.{upperOf, compositions, compositionsOf, nextComposition, written, consistent}
 use Rattle.model.specs.declared.Ledger.{Ledger}
 use Rattle.model.proofs.Compositions.{compositions-size, compositions-at}
-use Rattle.model.proofs.Records.{together, fails, sold-of}
+use Rattle.model.proofs.Records.{few-parts, together, fails, sold-of}
 use Rattle.integrity.specs.Examine.{Scanned, Sees}
 use Rattle.integrity.specs.declared.Seen.{Seen}
 
@@ -40,15 +41,13 @@ pub record Asked (b : Bounds) (e : ℕ) (at : Located) : Type 0 where
   pub few : b .parts ≤ 24
 
 pub asked : (b : Bounds) (e : ℕ) (at : Located) → at ≡ locateRecordOf b (e + 1) → at .number ≡ 0 → Asked b e at
-unfolding locateRecordOf
 asked b e at is z =
-    let v = firstRefusal (recordChecks b) in
-    let p = is-accepted v _ _ (λ (x : Located). x .number) (λ (x : Located). x .detail) refl refl refl at is z in
+    let p = record-accepted b (e + 1) at is z in
     record {
       sound = p .0;
-      count = ap (λ (x : Located). x .count) (p .1) ∙ sym (compositions-size (upperOf b) (b .total));
-      next = ap (λ (x : Located). x .composition) (p .1) ∙ nearest-next (upperOf b) (b .total) e;
-      few = ltb-false 24 (b .parts) (passed _ _ refl (p .0) .0);
+      count = p .1 .count ∙ sym (compositions-size (upperOf b) (b .total));
+      next = p .1 .cells ∙ nearest-next (upperOf b) (b .total) e;
+      few = few-parts b (p .0);
     }
 
 module _ (r : Ledger) (col : List ℕ) (x : ℕ) where
@@ -75,11 +74,9 @@ module _ (r : Ledger) (col : List ℕ) (x : ℕ) where
         (λ m t. apart (fails r col 3 (lt-leb (r .entries) (length gs) (omega arith))))
 
     pub no-edition : {at : Located} → at ≡ locateRecordOf (r .bounds) (r .entries + 1) → 0 < at .number → Sees r col x s
-    unfolding locateRecordOf
     no-edition {at} is l =
-        let v = firstRefusal (recordChecks (r .bounds)) in
-        let e = is-refused v _ _ (λ (y : Located). y .number) (λ (y : Located). y .detail) refl refl refl at is l in
-        apart (fails r col 0 (ne-eqb (v .number) 0 (λ z. let q : at .number ≡ 0 = sym (ap (λ y. y .number) e) ∙ z in omega arith)))
+        let e = ap (λ (v : Refusal). v .number) (record-refused (r .bounds) (r .entries + 1) at is l) in
+        apart (fails r col 0 (ne-eqb (firstRefusal (recordChecks (r .bounds)) .number) 0 (λ z. omega (arith, e, z))))
 
     module _ {at : Located} (a : Asked (r .bounds) (r .entries) at) where
       pub too-many : 1000000 < at .count → Sees r col x s

@@ -1,10 +1,9 @@
 -- Laws for the loops over the entries and over the cells.
-use mathlib.Core.Path.{_≡_, refl, sym, _∙_}
+use mathlib.Core.Path.{_≡_, refl, sym}
 use mathlib.Core.Logic.{_≢_}
 use mathlib.Core.Bool.{false, cond}
 use mathlib.Core.List.{List, [], _∷_, _++_}
-use Prim.Native.Nat.{ℕ, zero, suc, _+_, _≤_, _<_, suc-le-suc}
-use native.Mathlib.Nat.{add-zero}
+use Prim.Native.Nat.{ℕ, _+_, _≤_, _<_, suc-le-suc}
 use native.Mathlib.Numerals.{add-one}
 use native.Mathlib.Omega.{arith}
 use lib.Dec.{eqb}
@@ -13,8 +12,8 @@ use lib.Seq.{take-suc, drop-cons}
 use borrow.Author.Tests.{eq-eqb, ne-eqb}
 use Rattle.walsh.specs.Serial.{same}
 use Rattle.walsh.proofs.Cases.{on-test}
-use Rattle.model.specs.Basics.{zeros, indexOf}
-use Rattle.model.proofs.Lists.{zeros-or-not, zeros-snoc, nonzeros-snoc}
+use Rattle.model.specs.Basics.{indexOf}
+use Rattle.model.proofs.Lists.{howMany-snoc, zeros-or-not}
 use Rattle.walsh.specs.Tests.{times}
 use Rattle.integrity.specs.Examine.{Scanned}
 
@@ -34,21 +33,20 @@ often-some x (y ∷ l) h =
     (λ t. rw t (omega arith))
     (λ t. let rest : 0 < 0 + times x l = rw t at h in rw t (suc-le-suc (often-some x l (omega arith))))
 
-often-more : (x : ℕ) (l : List ℕ) (y : ℕ) → times x (l ++ (y ∷ [])) ≡ times x l + cond (eqb y x) 1 0
-often-more x [] y = omega arith
-often-more x (z ∷ l) y = omega (arith, often-more x l y)
-
 -- ---- one entry more
-
-zeros-more : (l : List ℕ) (y : ℕ) → zeros (l ++ (y ∷ [])) ≡ zeros l + cond (eqb y 0) 1 0
-zeros-more l zero = zeros-snoc l .1
-zeros-more l (suc y) = rw (ne-eqb (suc y) 0 (λ e. omega arith)) (nonzeros-snoc l (suc y) (λ e. omega arith) .1 ∙ sym (add-zero (zeros l)))
 
 pub scanned-none : (x : ℕ) → Scanned [] x 0 0
 scanned-none x = record { zeros-are = refl; hits-are = refl }
 
-more : (l : List ℕ) (x y z h a b : ℕ) → Scanned l x z h → a ≡ cond (eqb y 0) 1 0 → b ≡ cond (eqb y x) 1 0 → Scanned (l ++ (y ∷ [])) x (z + a) (h + b)
-more l x y z h a b s ea eb = record { zeros-are = rw (ea, s .zeros-are) (sym (zeros-more l y)); hits-are = rw (eb, s .hits-are) (sym (often-more x l y)) }
+more : (l : List ℕ) (x y z h a b : ℕ) → Scanned l x z h
+    → a ≡ cond (eqb y 0) 1 0
+    → b ≡ cond (eqb y x) 1 0
+    → Scanned (l ++ (y ∷ [])) x (z + a) (h + b)
+more l x y z h a b s ea eb =
+    record {
+      zeros-are = rw (ea, s .zeros-are) (sym (howMany-snoc (λ v. eqb v 0) l y));
+      hits-are = rw (eb, s .hits-are) (sym (howMany-snoc (λ v. eqb v x) l y));
+    }
 
 pub scanned-more : (col : List ℕ) (i x z h a b : ℕ) → i < length col → Scanned (take i col) x z h
     → a ≡ cond (eqb (getD col i 0) 0) 1 0

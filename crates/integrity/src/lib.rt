@@ -4,7 +4,7 @@ use bounds::Bounds;
 use model::Ledger;
 use rank::Located;
 ghost use mathlib.Core.Path.{_≡_};
-ghost use mathlib.Core.Bool.{cond};
+ghost use mathlib.Core.Bool.{false, cond};
 ghost use Prim.Native.Nat.{_+_, _≤_};
 ghost use lib.Dec.{eqb};
 ghost use lib.ListN.{length, take};
@@ -34,7 +34,7 @@ fn one(a: u32, b: u32) -> u32
     if a == b { 1 } else { 0 }
 }
 
-// The first n entries.
+// One pass over the first n entries.
 fn scan(orders: &[u32], n: usize, order: u32) -> Counts
     requires { ⌜ (n ≤ length (now orders)) × (n ≤ 1000000) ⌝ }
     ensures { λ r. ⌜ Scanned (take n (now (orders .entry))) order (r .zeros) (r .hits) ⌝ }
@@ -67,7 +67,7 @@ fn equal(a: [u8; 24], b: [u8; 24]) -> bool
     true
 }
 
-// The cells past n are 0.
+// Whether the cells past n are 0.
 fn packed(bounds: Bounds) -> bool
     requires { ⌜ bounds .parts ≤ 24 ⌝ }
     ensures { λ r. ⌜ r ≡ same (bounds .upper) (cellsOf (upperOf bounds)) ⌝ }
@@ -79,7 +79,7 @@ fn packed(bounds: Bounds) -> bool
 }
 
 fn unseen() -> Seen
-    ensures { λ r. ⌜ r ≡ record { fits = mathlib.Core.Bool.false; count = 0; hits = 0 } ⌝ }
+    ensures { λ r. ⌜ r ≡ record { fits = false; count = 0; hits = 0 } ⌝ }
 {
     Seen {
         fits: false,
@@ -97,7 +97,7 @@ fn test(ledger: Ledger, orders: &[u32], order: u32, at: Located) -> Seen
         return unseen();
     }
     let count = at.count;
-    if 1000000 < count {
+    if bounds::MOST_ENTRIES < count {
         return unseen();
     }
     if orders.len() < count as usize {
@@ -135,7 +135,7 @@ pub fn examine(ledger: Ledger, orders: &[u32], order: u32) -> Seen
     ensures { λ r. ⌜ Sees ledger (now (orders .entry)) order r ⌝ }
 {
     let entries = ledger.entries;
-    if 1000000 < entries {
+    if bounds::MOST_ENTRIES < entries {
         return unseen();
     }
     let bounds = ledger.bounds;

@@ -1,6 +1,5 @@
 // The ledger (document 01, "The register"): open, peek, claim and void, on a record by value and an order column that the caller lends. What a
 // list of such calls guarantees is `from-opening` in crate `model`, proofs/Whole.antt; crate `replay` runs a whole list under it.
-use bounds::Bounds;
 use model::Answer;
 use model::Claimed;
 use model::Ledger;
@@ -15,17 +14,12 @@ ghost use Rattle.ledger.specs.Entering.{entering};
 
 // ---- opening
 
-// A refused opening: a record of zeros.
+// What a refused opening answers: its refusal and a record of zeros.
 pub fn unopened(number: u32, detail: u64) -> Opened
     ensures { λ r. ⌜ r ≡ record { number = number; detail = detail; ledger = blankLedger } ⌝ }
 {
-    let bounds = Bounds {
-        parts: 0,
-        upper: [0; 24],
-        total: 0,
-    };
     let ledger = Ledger {
-        bounds,
+        bounds: bounds::blank(),
         entries: 0,
         sold: 0,
         voided: 0,
@@ -46,20 +40,15 @@ pub fn open(upper: &[u8], total: u32, orders: &[u32]) -> Opened
     if 0 < first.number {
         return unopened(first.number, first.detail);
     }
-    if 1000000 < first.count {
+    if bounds::MOST_ENTRIES < first.count {
         return unopened(14, 0);
     }
     if orders.len() < first.count as usize {
         return unopened(15, 0);
     }
-    let bounds = Bounds {
-        parts: upper.len(),
-        upper: bounds::pack(upper),
-        total,
-    };
     let next = first.composition;
     let ledger = Ledger {
-        bounds,
+        bounds: bounds::record(upper, total),
         entries: 0,
         sold: 0,
         voided: 0,

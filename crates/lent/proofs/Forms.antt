@@ -52,7 +52,8 @@ unfolding run calling
 runs-run [] x w p = p
 runs-run (s ∷ ss) x w (a, y, v, d, p, e) =
     e
-    ∙ ap (λ (u : Run). record { trace = record { call = callOf s; reply = a } ∷ u .trace; ledger = u .ledger; column = u .column }) (runs-run ss y v p)
+    ∙ ap (λ (u : Run). record { trace = record { call = callOf s; reply = a } ∷ u .trace; ledger = u .ledger; column = u .column })
+    (runs-run ss y v p)
     ∙ ap (onward (callOf s) (map callOf ss)) (does-call s x a y d)
 
 -- every list has such a run

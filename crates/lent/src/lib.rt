@@ -1,5 +1,5 @@
 // Claim and void on a record that is lent (document 01, "The register": "the record is also lent to take and spoil, which update it there with the
-// same answers"). Each takes the record, calls the by-value core, and writes the record back that comes from it.
+// same answers"). Each copies the record, calls the by-value core, and writes back the record that it answers.
 use model::Answer;
 use model::Ledger;
 ghost use mathlib.Core.Path.{_≡_};

@@ -40,10 +40,27 @@ module _ (gs : List (List ℕ)) where
       go true = refl
       go false = refl
 
+  -- from the entries l, by the writers ws, to the entries m: one entry for each, and they took the serials in turn
+  pub record Grown (l : List ℕ) (ws : List Event) (m : List ℕ) : Type 0 where
+    pub size : length m ≡ length l + length ws
+    pub serial : serials ws ≡ countFrom (next l) (length ws)
+
+  grown-none : (l : List ℕ) → Grown l [] l
+  grown-none l = record { size = sym (add-zero (length l)); serial = refl }
+
+  grown-wrote :
+      (l : List ℕ) (c : Call) (ws : List Event) (m : List ℕ)
+      → accepted (answer gs l c) ≡ true
+      → writes c ≡ true
+      → length (after gs l c) ≡ next l
+      → Grown (after gs l c) ws m
+      → Grown l (event l c ∷ ws) m
+  grown-wrote l c ws m a w n f =
+      record { size = omega (arith, f .size); serial = rw (grant gs l c a .serial w, f .serial, n, add-one (next l)) }
+
   -- from the entries l, by the trace t, to the entries m
   pub record Facts (l : List ℕ) (t : List Event) (m : List ℕ) : Type 0 where
-    pub size : length m ≡ length l + length (writers t)
-    pub serial : serials (writers t) ≡ countFrom (next l) (length (writers t))
+    pub grown : Grown l (writers t) m
     pub composition : answeredCompositions (writers t) ≡ take (length (writers t)) (drop (length l) gs)
     pub again-entries : bookFrom gs l (peeked (writers t)) .entries ≡ m
     pub again-trace : those writes (bookFrom gs l (peeked (writers t)) .trace) ≡ writers t
@@ -62,8 +79,7 @@ module _ (gs : List (List ℕ)) where
       let in-range : length l < length gs = omega (arith, g .room) in
       let place : next l - 1 ≡ length l = omega arith in
       record {
-        size = rw (a, w) (omega (arith, f .size));
-        serial = rw (a, w, g .serial w, f .serial, n, add-one (next l));
+        grown = rw (a, w) (grown-wrote l c (writers t) m a w n (f .grown));
         composition = rw (a, w, g .reply, f .composition, n, drop-cons gs (length l) blank in-range, place, add-one);
         again-entries = rw (a, w, peek-keeps l) (f .again-entries);
         again-trace = rw (a, w, peek-keeps l, w, f .again-trace);
@@ -78,8 +94,7 @@ module _ (gs : List (List ℕ)) where
       → Facts l (x ∷ t) m
   still-facts l x t m e f =
       record {
-        size = rw e (f .size);
-        serial = rw e (f .serial);
+        grown = rw e (f .grown);
         composition = rw e (f .composition);
         again-entries = rw e (f .again-entries);
         again-trace = rw e (f .again-trace);
@@ -90,8 +105,7 @@ module _ (gs : List (List ℕ)) where
   unfolding bookFrom
   facts [] l =
       record {
-        size = sym (add-zero (length l));
-        serial = refl;
+        grown = grown-none l;
         composition = refl;
         again-entries = refl;
         again-trace = refl;
@@ -111,24 +125,7 @@ module _ (gs : List (List ℕ)) where
   pub record Stood (l : List ℕ) (before : List Event) (x : Event) : Type 0 where
     pub entries : List ℕ
     pub reply : x .reply ≡ answer gs entries (x .call)
-    pub size : length entries ≡ length l + length (writers before)
-    pub serial : serials (writers before) ≡ countFrom (next l) (length (writers before))
-
-  wrote-before :
-      (l : List ℕ) (c : Call) (t : List Event) (x : Event)
-      → accepted (answer gs l c) ≡ true
-      → writes c ≡ true
-      → length (after gs l c) ≡ next l
-      → Stood (after gs l c) t x
-      → Stood l (event l c ∷ t) x
-  wrote-before l c t x a w n f =
-      let g = grant gs l c a in
-      record {
-        entries = f .entries;
-        reply = f .reply;
-        size = rw (a, w) (omega (arith, f .size));
-        serial = rw (a, w, g .serial w, f .serial, n, add-one (next l));
-      }
+    pub grown : Grown l (writers before) entries
 
   pub stood :
       (before : List Event) (cs : List Call) (l : List ℕ) (x : Event) (rest : List Event)
@@ -138,7 +135,7 @@ module _ (gs : List (List ℕ)) where
   stood [] [] l x rest p = absurd (nil≢cons p)
   stood [] (c ∷ cs) l x rest p =
       let h : event l c ≡ x = head-eq-of-cons-eq p in
-      rw (← h) (record { entries = l; reply = refl; size = sym (add-zero (length l)); serial = refl })
+      rw (← h) (record { entries = l; reply = refl; grown = grown-none l })
   stood (y ∷ before) [] l x rest p = absurd (nil≢cons p)
   stood (y ∷ before) (c ∷ cs) l x rest p =
       let h : event l c ≡ y = head-eq-of-cons-eq p in
@@ -146,15 +143,11 @@ module _ (gs : List (List ℕ)) where
       rw (← h) (go (effect l c) (stood before cs (after gs l c) x rest q))
     where
       go : Effect l c → Stood (after gs l c) before x → Stood l (event l c ∷ before) x
-      go (wrote a w n) f = wrote-before l c before x a w n f
+      go (wrote a w n) f =
+          record { entries = f .entries; reply = f .reply; grown = rw (a, w) (grown-wrote l c (writers before) (f .entries) a w n (f .grown)) }
       go (still k e) f =
           let f′ : Stood l before x = rw e at f in
-          record {
-            entries = f′ .entries;
-            reply = f′ .reply;
-            size = rw (k before) (f′ .size);
-            serial = rw (k before) (f′ .serial);
-          }
+          record { entries = f′ .entries; reply = f′ .reply; grown = rw (k before) (f′ .grown) }
 
 -- each writer is a claim or a void
 pub claims-and-voids : (u : List Event) → length (those writes u) ≡ length (those isClaim u) + length (those isVoid u)

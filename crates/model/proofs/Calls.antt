@@ -3,21 +3,20 @@ use mathlib.Core.Path.{_≡_, refl, sym, ap, _∙_}
 use mathlib.Core.Logic.{_≢_, _↔_}
 use mathlib.Core.Bool.{true, false}
 use mathlib.Core.List.{List, [], _∷_, _++_}
-use Prim.Native.Nat.{ℕ, _+_, _-_, _≤_, _<_}
+use Prim.Native.Nat.{ℕ, _≤_, _<_}
 use native.Mathlib.Omega.{arith}
 use lib.Dec.{eqb, ltb}
-use lib.ListN.{length, getD}
+use lib.ListN.{length}
 use borrow.Author.Tests.{ltb-false, lt-ltb, le-ltb, eqb-true, eqb-false}
-use Rattle.walsh.specs.Tests.{either}
 use Rattle.walsh.proofs.Cases.{on-test, on-less}
-use Rattle.bounds.specs.Refusal.{Check, check, firstRefusal}
+use Rattle.bounds.specs.Refusal.{Check, firstRefusal}
 use Rattle.bounds.specs.declared.Refusal.{Refusal}
 use Rattle.bounds.proofs.Editions.{neither}
 use Rattle.bounds.proofs.Refusals.{numbered, passed, refusal-here, refusal-next, is-accepted}
 use Rattle.bounds.proofs.Tables.{refusal-lacks, not-here}
 use Rattle.model.specs.declared.Answer.{Answer}
-use Rattle.model.specs.Basics.{indexOf}
-use Rattle.model.specs.Model.{Call, peek, claim, void, next, compositionAt, placeChecks, callChecks, granted, answerBy, answer, accepted}
+use Rattle.model.specs.Model.{Call, peek, claim, void, next, noOrder, noSerial, alreadyWritten, aboveNext, standsEarlier, allWritten}
+use Rattle.model.specs.Model.{compositionAt, placeChecks, callChecks, granted, answerBy, answer, accepted}
 use Rattle.model.specs.Trace.{writes, named}
 
 -- the accepted answer with serial s
@@ -71,7 +70,7 @@ module _ (gs : List (List ℕ)) (l : List ℕ) where
       record { reply = a .1; room = ltb-false _ _ (passed _ _ refl (a .0) .0); serial = λ w. cc }
   grant (claim s o) t =
       let a = accepting (claim s o) t in
-      let p = in-turn s (check 20 (ltb (indexOf o l) (length l)) (indexOf o l + 1) ∷ []) refl (passed _ _ refl (a .0) .2) in
+      let p = in-turn s (standsEarlier l o ∷ []) refl (passed _ _ refl (a .0) .2) in
       record { reply = a .1 ∙ ap (given gs) (p .serial); room = p .room; serial = λ w. p .serial }
   grant (void s) t =
       let a = accepting (void s) t in
@@ -101,7 +100,7 @@ module _ (gs : List (List ℕ)) (l : List ℕ) where
   -- a peek answers 21 where every composition is written
   pub peek-21 : (answer gs l peek .number ≡ 21) ↔ (length gs < next l)
   peek-21 =
-      let c = check 21 (ltb (length gs) (next l)) 0 in
+      let c = allWritten gs l in
       rw (number-of peek) (
         (λ e.
             on-less (length gs) (next l) (λ h t. h)
@@ -116,19 +115,17 @@ module _ (gs : List (List ℕ)) (l : List ℕ) where
       → (answer gs l (claim s o) .number ≡ 18) ↔ ((1 ≤ s) × (s < next l))
   already-written s o n17 n6 =
       let e = number-of (claim s o) in
-      let h17 = not-here (check 17 (eqb o 0) 0) _ (rw e at n17) in
-      let e17 = e ∙ (number-next (check 17 (eqb o 0) 0) _ h17) in
-      let h6 = not-here (check 6 (either (eqb s 0) (ltb (length gs) s)) 0) _ (rw e17 at n6) in
-      let e6 = e17 ∙ (number-next (check 6 (either (eqb s 0) (ltb (length gs) s)) 0) _ h6) in
+      let h17 = not-here (noOrder o) _ (rw e at n17) in
+      let e17 = e ∙ (number-next (noOrder o) _ h17) in
+      let h6 = not-here (noSerial gs s) _ (rw e17 at n6) in
+      let e6 = e17 ∙ (number-next (noSerial gs s) _ h6) in
       let positive : 1 ≤ s = omega (arith, eqb-false s 0 (neither (eqb s 0) (ltb (length gs) s) h6 .0)) in
       rw e6 (decided s o positive)
     where
       decided : (s o : ℕ) → 1 ≤ s
-          → (firstRefusal (check 18 (ltb s (next l)) (getD l (s - 1) 0) ∷ check 19 (ltb (next l) s) (next l)
-          ∷ check 20 (ltb (indexOf o l) (length l)) (indexOf o l + 1) ∷ []) .number ≡ 18)
-          ↔ ((1 ≤ s) × (s < next l))
+          → (firstRefusal (alreadyWritten l s ∷ aboveNext l s ∷ standsEarlier l o ∷ []) .number ≡ 18) ↔ ((1 ≤ s) × (s < next l))
       decided s o h =
-          let c = check 18 (ltb s (next l)) (getD l (s - 1) 0) in (
+          let c = alreadyWritten l s in (
             (λ e. (
               h,
               on-less s (next l) (λ b t. b)

@@ -48,13 +48,15 @@ module _ (ms : List ℕ) (r : ℕ) where
       (p .0, p .1, p .2, p .3, rw (compositions-at i, compositions-at (suc i)) (cells-neighbours (p .4)))
 
   -- every composition stands somewhere, and what stands somewhere is a composition
-  pub composition-place : (g : List ℕ) → Composition ms r g → (i : ℕ) × (i < length (compositions ms r)) × (getD (compositions ms r) i blank ≡ cellsOf g)
+  pub composition-place : (g : List ℕ) → Composition ms r g
+      → (i : ℕ) × (i < length (compositions ms r)) × (getD (compositions ms r) i blank ≡ cellsOf g)
   composition-place g c =
       let p = complete ms r g .0 c in
       let n = order-size in
       (p .0, omega (arith, p .1), compositions-at (p .0) ∙ ap cellsOf (p .2))
 
-  pub place-composition : (i : ℕ) → i < length (compositions ms r) → (g : List ℕ) × Composition ms r g × (getD (compositions ms r) i blank ≡ cellsOf g)
+  pub place-composition : (i : ℕ) → i < length (compositions ms r)
+      → (g : List ℕ) × Composition ms r g × (getD (compositions ms r) i blank ≡ cellsOf g)
   place-composition i h =
       let n = order-size in
       (getD (order ms r) i [], complete ms r (getD (order ms r) i []) .1 (i, omega arith, refl), compositions-at i)

@@ -12,8 +12,9 @@ use Rattle.walsh.specs.Serial.{same}
 use Rattle.walsh.specs.Tests.{both}
 use Rattle.walsh.proofs.Cases.{on-test}
 use Rattle.walsh.proofs.Serials.{same-eq}
-use Rattle.bounds.specs.Refusal.{check, firstRefusal}
+use Rattle.bounds.specs.Refusal.{firstRefusal}
 use Rattle.bounds.specs.Edition.{recordChecks, cellsOf}
+use Rattle.bounds.specs.declared.Bounds.{Bounds}
 use Rattle.bounds.specs.declared.Refusal.{Refusal}
 use Rattle.bounds.proofs.Refusals.{passed, refusal-here, refusal-next}
 use Rattle.model.specs.declared.Answer.{Answer}
@@ -21,7 +22,8 @@ use Rattle.model.specs.declared.Claimed.{Claimed}
 use Rattle.model.specs.declared.Ledger.{Ledger}
 use Rattle.model.specs.Basics.{zeros, nonzeros, all}
 use Rattle.model.specs.Model.{Call, blank, granted, answerBy, answer, accepted}
-use Rattle.model.specs.Record.{upperOf, compositionsOf, nextComposition, written, tests, consistent, answered, counted, entered, recordAfter, columnAfter, calling, entriesOf}
+use Rattle.model.specs.Record.{upperOf, compositionsOf, nextComposition, written, tests, consistent}
+use Rattle.model.specs.Record.{notTogether, answered, counted, entered, recordAfter, columnAfter, calling, entriesOf}
 use Rattle.model.proofs.Lists.{zeros-or-not}
 
 -- ---- number 16
@@ -40,6 +42,10 @@ one-fails i [] e = absurd (false≢true (sym e))
 one-fails zero (b ∷ bs) e = rw e
 one-fails (suc i) (true ∷ bs) e = one-fails i bs e
 one-fails (suc i) (false ∷ bs) e = refl
+
+-- an accepted record of bounds has at most 24 parts
+pub few-parts : (b : Bounds) → firstRefusal (recordChecks b) .number ≡ 0 → b .parts ≤ 24
+few-parts b e = ltb-false 24 (b .parts) (passed _ _ refl e .0)
 
 -- what a record and a column meet that belong together
 pub record Consistent (r : Ledger) (col : List ℕ) : Type 0 where
@@ -85,7 +91,7 @@ module _ (r : Ledger) (col : List ℕ) where
         voided = h6;
         next = same-eq (r .next) (nextComposition gs (r .entries)) (p .1 .1 .1 .1 .1 .1 .0);
         spare = same-eq (r .bounds .upper) (cellsOf (upperOf (r .bounds))) (p .1 .1 .1 .1 .1 .1 .1 .0);
-        few = ltb-false 24 (r .bounds .parts) (passed _ _ refl h1 .0);
+        few = few-parts (r .bounds) h1;
         length-written = n;
         few-sold = omega arith;
         few-voided = omega arith;
@@ -129,13 +135,13 @@ module _ (r : Ledger) (col : List ℕ) where
     pub answered-16 : consistent r col ≡ false → answered r col c ≡ refusedWith 16 0
     unfolding answered
     answered-16 f =
-        ap (λ (v : Refusal). answerBy v gs (granted gs (written r col) c)) (refusal-here (check 16 (not (consistent r col)) 0) _ (ap not f))
+        ap (λ (v : Refusal). answerBy v gs (granted gs (written r col) c)) (refusal-here (notTogether r col) _ (ap not f))
 
     -- where a record and a column belong together, the answer is the model's over the lines written
     pub answered-by : consistent r col ≡ true → answered r col c ≡ answer gs (written r col) c
     unfolding answered answer
     answered-by t =
-        ap (λ (v : Refusal). answerBy v gs (granted gs (written r col) c)) (refusal-next (check 16 (not (consistent r col)) 0) _ (ap not t))
+        ap (λ (v : Refusal). answerBy v gs (granted gs (written r col) c)) (refusal-next (notTogether r col) _ (ap not t))
 
     module _ (a : Answer) (e : a ≡ answered r col c) where
       pub calling-refused : a .number ≢ 0 → _≡_ {A = Claimed × List ℕ} (record { answer = a; ledger = r }, col) (calling r col c)
@@ -148,7 +154,8 @@ module _ (r : Ledger) (col : List ℕ) where
       calling-accepted r′ x n p q = rw (← e, eq-eqb (a .number) 0 n, p, q)
 
   -- a peek leaves all as it was
-  pub calling-peek : (a : Answer) → a ≡ answered r col Call.peek → _≡_ {A = Claimed × List ℕ} (record { answer = a; ledger = r }, col) (calling r col Call.peek)
+  pub calling-peek : (a : Answer) → a ≡ answered r col Call.peek
+      → _≡_ {A = Claimed × List ℕ} (record { answer = a; ledger = r }, col) (calling r col Call.peek)
   unfolding calling recordAfter columnAfter
   calling-peek a e = on-test (accepted (answered r col Call.peek)) (λ t. rw (e, t)) (λ t. rw (e, t))
 

@@ -11,13 +11,14 @@ use lib.Seq.{getD-take}
 use borrow.Author.Tests.{lt-ltb, le-ltb, eq-eqb, ne-eqb}
 use Rattle.walsh.specs.Tests.{either}
 use Rattle.walsh.proofs.Cases.{on-test}
-use Rattle.bounds.specs.Refusal.{Check, check, refused, firstRefusal}
+use Rattle.bounds.specs.Refusal.{refused, firstRefusal}
 use Rattle.bounds.specs.declared.Refusal.{Refusal}
 use Rattle.bounds.proofs.Refusals.{refusal-here, refusal-next, refusal-first, refusal-later, by-acceptance}
 use Rattle.model.specs.declared.Answer.{Answer}
 use Rattle.model.specs.declared.Ledger.{Ledger}
 use Rattle.model.specs.Basics.{indexOf}
-use Rattle.model.specs.Model.{Call, peek, claim, void, next, placeChecks, callChecks, answerBy, answer}
+use Rattle.model.specs.Model.{Call, peek, claim, void, next, noOrder, noSerial, alreadyWritten, aboveNext, standsEarlier}
+use Rattle.model.specs.Model.{placeChecks, callChecks, answerBy, answer}
 use Rattle.model.specs.Record.{compositionsOf, written, consistent, answered}
 use Rattle.model.specs.Trace.{writes, named}
 use Rattle.model.proofs.Calls.{given, answer-number, peek-open, grant}
@@ -32,10 +33,10 @@ module _ (gs : List (List ℕ)) (l : List ℕ) where
 
   pub placed-outside : (s : ℕ) → either (eqb s 0) (ltb (length gs) s) ≡ true → placed gs l s ≡ refusedWith 6 0
   unfolding answer
-  placed-outside s t = ap (λ (v : Refusal). answerBy v gs s) (refusal-here (check 6 (either (eqb s 0) (ltb (length gs) s)) 0) _ t)
+  placed-outside s t = ap (λ (v : Refusal). answerBy v gs s) (refusal-here (noSerial gs s) _ t)
 
   module _ (s : ℕ) (h : 1 ≤ s) (k : s ≤ length gs) where
-    inside : firstRefusal (placeChecks gs l s) ≡ firstRefusal (check 18 (ltb s (next l)) (getD l (s - 1) 0) ∷ check 19 (ltb (next l) s) (next l) ∷ [])
+    inside : firstRefusal (placeChecks gs l s) ≡ firstRefusal (alreadyWritten l s ∷ aboveNext l s ∷ [])
     inside = refusal-next _ _ (rw (ne-eqb s 0 (omega arith)) (le-ltb (length gs) s k))
 
     pub placed-below : s < next l → placed gs l s ≡ refusedWith 18 (getD l (s - 1) 0)
@@ -51,49 +52,43 @@ module _ (gs : List (List ℕ)) (l : List ℕ) where
     pub placed-next : s ≡ next l → placed gs l s ≡ given gs s
     unfolding answer firstRefusal
     placed-next q =
-        let none : firstRefusal (check 18 (ltb s (next l)) (getD l (s - 1) 0) ∷ check 19 (ltb (next l) s) (next l) ∷ []) ≡ refused 0 0 =
+        let none : firstRefusal (alreadyWritten l s ∷ aboveNext l s ∷ []) ≡ refused 0 0 =
         rw (le-ltb s (next l) (omega arith), le-ltb (next l) s (omega arith)) in
         ap (λ (v : Refusal). answerBy v gs s) (inside ∙ none)
 
   -- ---- the checks of a claim
 
   module _ (s o : ℕ) where
-    again : Check
-    again = check 20 (ltb (indexOf o l) (length l)) (indexOf o l + 1)
-
     pub claim-none : o ≡ 0 → answer gs l (claim s o) ≡ refusedWith 17 0
     unfolding answer
-    claim-none e = ap (λ (v : Refusal). answerBy v gs s) (refusal-here (check 17 (eqb o 0) 0) _ (eq-eqb o 0 e))
+    claim-none e = ap (λ (v : Refusal). answerBy v gs s) (refusal-here (noOrder o) _ (eq-eqb o 0 e))
 
     module _ (n : o ≢ 0) where
-      ordered : firstRefusal (callChecks gs l (claim s o)) ≡ firstRefusal (placeChecks gs l s ++ (again ∷ []))
-      unfolding again
-      ordered = refusal-next (check 17 (eqb o 0) 0) _ (ne-eqb o 0 n)
+      ordered : firstRefusal (callChecks gs l (claim s o)) ≡ firstRefusal (placeChecks gs l s ++ (standsEarlier l o ∷ []))
+      ordered = refusal-next (noOrder o) _ (ne-eqb o 0 n)
 
       pub claim-refused : placed gs l s .number ≢ 0 → answer gs l (claim s o) ≡ placed gs l s
       unfolding answer
       claim-refused f =
-          ap (λ (v : Refusal). answerBy v gs s)
-          (ordered ∙ refusal-first (placeChecks gs l s) (again ∷ []) (λ z. f (answer-number (firstRefusal (placeChecks gs l s)) gs s ∙ z)))
+          let number = answer-number (firstRefusal (placeChecks gs l s)) gs s in
+          ap (λ (v : Refusal). answerBy v gs s) (ordered ∙ refusal-first (placeChecks gs l s) (standsEarlier l o ∷ []) (λ z. f (number ∙ z)))
 
       module _ (z : placed gs l s .number ≡ 0) where
         zero-number : firstRefusal (placeChecks gs l s) .number ≡ 0
         unfolding answer
         zero-number = sym (answer-number (firstRefusal (placeChecks gs l s)) gs s) ∙ z
 
-        later : firstRefusal (callChecks gs l (claim s o)) ≡ firstRefusal (again ∷ [])
-        later =
-            ordered
-            ∙ refusal-later (placeChecks gs l s) (again ∷ []) refl zero-number
+        later : firstRefusal (callChecks gs l (claim s o)) ≡ firstRefusal (standsEarlier l o ∷ [])
+        later = ordered ∙ refusal-later (placeChecks gs l s) (standsEarlier l o ∷ []) refl zero-number
 
         pub claim-again : indexOf o l < length l → answer gs l (claim s o) ≡ refusedWith 20 (indexOf o l + 1)
-        unfolding answer again
+        unfolding answer
         claim-again p = ap (λ (v : Refusal). answerBy v gs s) (later ∙ refusal-here _ [] (lt-ltb (indexOf o l) (length l) p))
 
         pub claim-good : length l ≤ indexOf o l → answer gs l (claim s o) ≡ placed gs l s
-        unfolding answer again firstRefusal
+        unfolding answer firstRefusal
         claim-good p =
-            let none : firstRefusal (again ∷ []) ≡ refused 0 0 = rw (le-ltb (indexOf o l) (length l) p) in
+            let none : firstRefusal (standsEarlier l o ∷ []) ≡ refused 0 0 = rw (le-ltb (indexOf o l) (length l) p) in
             ap (λ (v : Refusal). answerBy v gs s) (later ∙ none) ∙ sym (by-acceptance (firstRefusal (placeChecks gs l s)) _ _ zero-number)
 
 -- ---- the same by the record's own numbers
@@ -157,7 +152,8 @@ pub writing : (r : Ledger) (col : List ℕ) (c : Call) (a : Answer) → a ≡ an
 writing r col c a e z w =
     on-test (consistent r col)
     (λ t.
-    let g = grant (compositionsOf (r .bounds)) (written r col) c (eq-eqb _ 0 (ap (λ (x : Answer). x .number) (sym (answered-by r col c t) ∙ sym e) ∙ z)) in
+    let none = ap (λ (x : Answer). x .number) (sym (answered-by r col c t) ∙ sym e) ∙ z in
+    let g = grant (compositionsOf (r .bounds)) (written r col) c (eq-eqb _ 0 none) in
     let n = parts r col t .length-written in
     record { belongs = t; serial = g .serial w ∙ ap (λ (k : ℕ). k + 1) n; room = omega (arith, g .room) })
     (λ f. let x : 16 ≡ 0 = ap (λ (x : Answer). x .number) (sym (e ∙ answered-16 r col c f)) ∙ z in absurd (omega arith))

@@ -4,21 +4,20 @@ use mathlib.Core.Bool.{Bool, true, false, cond}
 use mathlib.Core.List.{List, [], _∷_, _++_}
 use Prim.Native.Nat.{ℕ, _+_, _-_, _≤_}
 use native.Mathlib.Omega.{arith}
-use lib.Dec.{ltb}
 use lib.ListN.{length, drop, set}
 use lib.Seq.{take-append-seam}
-use borrow.Author.Tests.{le-ltb}
 use Rattle.walsh.proofs.Serials.{same-refl}
-use Rattle.bounds.specs.Refusal.{check, firstRefusal}
+use Rattle.bounds.specs.Refusal.{firstRefusal}
 use Rattle.bounds.specs.Edition.{recordChecks, cellsOf, boundsOf}
 use Rattle.bounds.specs.declared.Refusal.{Refusal}
-use Rattle.bounds.proofs.Refusals.{refusal-next}
+use Rattle.bounds.proofs.Answers.{record-few}
+use Rattle.bounds.proofs.Cells.{cells-back}
 use Rattle.model.specs.declared.Ledger.{Ledger}
 use Rattle.model.specs.Basics.{zeros, nonzeros, over}
 use Rattle.model.specs.Model.{Call, peek, claim, void, next, accepted, answer, appended, after, bookFrom}
-use Rattle.model.specs.Record.{compositions, written, nextComposition, consistent, answered, advanced, counted, entered, recordAfter, columnAfter, Run, run}
+use Rattle.model.specs.Record.{compositions, written, nextComposition, consistent, answered}
+use Rattle.model.specs.Record.{advanced, counted, entered, recordAfter, columnAfter, Run, run}
 use Rattle.model.proofs.Lists.{length-snoc, length-over, set-over, nonzeros-snoc, zeros-snoc}
-use Rattle.model.proofs.Cells.{take-cells}
 use Rattle.model.proofs.Calls.{grant, for-an-order}
 use Rattle.model.proofs.Opening.{Opens}
 use Rattle.model.proofs.Records.{together, answered-by}
@@ -40,30 +39,29 @@ module _ (ms : List ℕ) (r : ℕ) (col : List ℕ) (o : Opens ms r col) where
 
   sound : firstRefusal (recordChecks (boundsOf ms r)) .number ≡ 0
   sound =
-      ap (λ (v : Refusal). v .number) (refusal-next (check 1 (ltb 24 (length ms)) 0) _ (le-ltb 24 (length ms) (o .few)))
-      ∙ rw (take-cells ms) (o .sound)
+      ap (λ (v : Refusal). v .number) (sym (record-few (boundsOf ms r) (o .few))) ∙ rw (cells-back ms) (o .sound)
 
   belongs : (l : List ℕ) → length l ≤ length gs → consistent (ledgerOf ms r l) (over col l) ≡ true
   belongs l h =
-      together (ledgerOf ms r l) (over col l) sound (rw (take-cells ms) (o .small))
-      (rw (take-cells ms, length-over col l (omega (arith, o .room))) (o .room))
-      (rw (take-cells ms) h)
+      together (ledgerOf ms r l) (over col l) sound (rw (cells-back ms) (o .small))
+      (rw (cells-back ms, length-over col l (omega (arith, o .room))) (o .room))
+      (rw (cells-back ms) h)
       (rw (take-append-seam l (drop (length l) col)))
       (rw (take-append-seam l (drop (length l) col)))
-      (rw (take-cells ms) (same-refl (nextComposition gs (length l))))
-      (rw (take-cells ms) (same-refl (cellsOf ms)))
+      (rw (cells-back ms) (same-refl (nextComposition gs (length l))))
+      (rw (cells-back ms) (same-refl (cellsOf ms)))
 
   -- one call: the answer is the model's, and the record and the column are those of the model's list after it
   pub answers : (l : List ℕ) → length l ≤ length gs → (c : Call) → answered (ledgerOf ms r l) (over col l) c ≡ answer gs l c
   answers l h c =
       answered-by (ledgerOf ms r l) (over col l) c (belongs l h)
-      ∙ ap (λ (m : List ℕ). answer (compositions m r) (written (ledgerOf ms r l) (over col l)) c) (take-cells ms)
+      ∙ ap (λ (m : List ℕ). answer (compositions m r) (written (ledgerOf ms r l) (over col l)) c) (cells-back ms)
       ∙ ap (λ (m : List ℕ). answer gs m c) (take-append-seam l (drop (length l) col))
 
   -- after an accepted call that writes x: the record counts up, the column has x at the next place
   grown : (l : List ℕ) (x sold voided : ℕ) → sold ≡ nonzeros (l ++ (x ∷ [])) → voided ≡ zeros (l ++ (x ∷ []))
       → advanced (ledgerOf ms r l) sold voided ≡ ledgerOf ms r (l ++ (x ∷ []))
-  grown l x sold voided p q = rw (p, q, length-snoc l x, take-cells ms)
+  grown l x sold voided p q = rw (p, q, length-snoc l x, cells-back ms)
 
   entered-at : (l : List ℕ) (s x : ℕ) → s ≡ next l → next l ≤ length gs → set (over col l) (s - 1) x ≡ over col (l ++ (x ∷ []))
   entered-at l s x p h =

@@ -1,5 +1,5 @@
 -- The statement about a whole list of calls holds of every list, from an accepted opening over any column.
-use mathlib.Core.Path.{_≡_, sym, ap, _∙_}
+use mathlib.Core.Path.{_≡_, refl, sym, ap, _∙_}
 use mathlib.Core.Logic.{_≢_, _↔_, _⊎_, inl, inr}
 use mathlib.Core.List.{List, [], _∷_, _++_, List·Memᴰ, List·Memᴰ·cases-cons, List·Memᴰ·not-nil}
 use Prim.Native.Nat.{ℕ, suc, _+_, _≤_, _<_}
@@ -18,7 +18,7 @@ use Rattle.model.specs.Record.{compositions, opened, opening, run}
 use Rattle.model.specs.Trace.{kept, writers, serials, peeked}
 use Rattle.model.specs.Whole.{ran, book, secondList, Whole}
 use Rattle.model.proofs.Compositions.{compositions-distinct, compositions-near, composition-place, place-composition}
-use Rattle.model.proofs.Opening.{Opens, opens}
+use Rattle.model.proofs.Opening.{Opens, opens, opening-accepted}
 use Rattle.model.proofs.Calls.{not-16, peek-21, already-written}
 use Rattle.model.proofs.Books.{facts, stood, claims-and-voids}
 use Rattle.model.proofs.Places.{once-at, distinct-take, not-among, mem-count, count-mem}
@@ -50,7 +50,8 @@ module _ (ms : List ℕ) (r : ℕ) where
       there : length (compositions ms r) < k + 1 → (g : List ℕ) → Composition ms r g → Once blank (cellsOf g) (take k (compositions ms r))
       there p g c =
           let q = composition-place ms r g c in
-          rw (take-all k (compositions ms r) (omega arith)) (once-at blank (compositions ms r) (compositions-distinct ms r) (cellsOf g) (q .0) (q .1) (q .2))
+          rw (take-all k (compositions ms r) (omega arith))
+          (once-at blank (compositions ms r) (compositions-distinct ms r) (cellsOf g) (q .0) (q .1) (q .2))
 
       go : ((g : List ℕ) → Composition ms r g → Once blank (cellsOf g) (take k (compositions ms r)))
           → (k ≡ length (compositions ms r)) ⊎ (k < length (compositions ms r))
@@ -70,9 +71,9 @@ claimed-once gs cs before rest s o a p n17 n6 =
     let st = stood gs before cs [] (record { call = claim s o; reply = a }) rest p in
     let w = already-written gs (st .entries) s o (rw (st .reply) at n17) (rw (st .reply) at n6) in
     let k = length (writers before) in
-    rw (st .reply, st .serial) (
-      (λ q. let b = w .0 q in count-mem 1 k (b .0) (omega (arith, b .1, st .size))),
-      λ q. let b = mem-count 1 k q in w .1 (b .0, omega (arith, b .1, st .size)),
+    rw (st .reply, st .grown .serial) (
+      (λ q. let b = w .0 q in count-mem 1 k (b .0) (omega (arith, b .1, st .grown .size))),
+      λ q. let b = mem-count 1 k q in w .1 (b .0, omega (arith, b .1, st .grown .size)),
     )
 
 pub whole : (ms : List ℕ) (r : ℕ) (col : List ℕ) → Opens ms r col → (cs : List Call)
@@ -85,7 +86,7 @@ whole ms r col o cs =
     let m = book ms r cs .entries in
     let t = book ms r cs .trace in
     let again = simulates ms r col o (peeked (writers t)) [] (omega arith) in
-    let count : length m ≡ length (writers t) = f .size ∙ zero-add (length (writers t)) in
+    let count : length m ≡ length (writers t) = f .grown .size ∙ zero-add (length (writers t)) in
     record {
       answers = sim .trace;
       never-16 = rw (sim .trace) (never-16 gs cs []);
@@ -100,7 +101,7 @@ whole ms r col o cs =
       second-answers = rw (sim .trace, again .trace) (f .again-trace);
       second-peeks = rw (sim .trace, again .trace) (f .again-peeks);
       written = rw (sim .trace, sim .ledger) (count ∙ claims-and-voids (kept t));
-      in-turn = rw (sim .trace, sim .ledger, count) (f .serial);
+      in-turn = rw (sim .trace, sim .ledger, count) (f .grown .serial);
       first-compositions = rw (sim .trace, sim .ledger, count) (f .composition);
       no-repeat = rw (sim .trace, f .composition) (distinct-take blank (length (writers t)) gs (compositions-distinct ms r));
       neighbours = rw (sim .trace, sim .ledger, f .composition, ← count) (λ i. near ms r (length m) i (sim .fits));
@@ -119,4 +120,4 @@ whole ms r col o cs =
 pub from-opening : (ms : List ℕ) (r : ℕ) (col : List ℕ) (cs : List Call) → opening ms r col .number ≡ 0
     → Whole ms r col cs (run (opening ms r col .ledger) col cs)
     (run (opening ms r col .ledger) col (secondList (run (opening ms r col .ledger) col cs)))
-from-opening ms r col cs z = let o = opens ms r col z in rw (o .1) (whole ms r col (o .0) cs)
+from-opening ms r col cs z = let o = opening-accepted ms r col _ refl z in rw (o .1) (whole ms r col (opens ms r col (o .0)) cs)

@@ -1,23 +1,19 @@
 -- Counts and places in lists, which the ledger's definitions are made of.
 use mathlib.Core.Path.{_≡_, refl}
-use mathlib.Core.Bool.{Bool, true, cond}
+use mathlib.Core.Bool.{Bool, true, cond, not}
 use mathlib.Core.List.{List, [], _∷_, _++_}
-use Prim.Native.Nat.{ℕ, zero, suc, _<_}
+use Prim.Native.Nat.{ℕ, suc, _<_}
 use lib.Dec.{eqb}
 use lib.ListN.{length, getD, drop}
-use Rattle.walsh.specs.Tests.{both}
+use Rattle.walsh.specs.Tests.{both, howMany, times}
 
 -- how many entries are 0
 abbrev pub zeros : List ℕ → ℕ
-zeros [] = 0
-zeros (zero ∷ l) = suc (zeros l)
-zeros (suc n ∷ l) = zeros l
+zeros l = times 0 l
 
 -- how many are not
 abbrev pub nonzeros : List ℕ → ℕ
-nonzeros [] = 0
-nonzeros (zero ∷ l) = nonzeros l
-nonzeros (suc n ∷ l) = suc (nonzeros l)
+nonzeros l = howMany (λ x. not (eqb x 0)) l
 
 -- the first place of x, from 0; the length where x does not stand in the list
 abbrev pub indexOf : ℕ → List ℕ → ℕ

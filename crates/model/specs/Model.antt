@@ -6,9 +6,10 @@ use mathlib.Core.Bool.{Bool, cond}
 use mathlib.Core.List.{List, [], _∷_, _++_}
 use Prim.Native.Nat.{ℕ, _+_, _-_}
 use lib.Dec.{ltb, eqb}
-use lib.ListN.{length, getD, replicate}
+use lib.ListN.{length, getD}
 use Rattle.walsh.specs.Tests.{either}
 use Rattle.bounds.specs.Refusal.{Check, check, firstRefusal, decided}
+pub use Rattle.bounds.specs.Edition.{blank}
 use Rattle.bounds.specs.declared.Refusal.{Refusal}
 use Rattle.model.specs.declared.Answer.{Answer}
 use Rattle.model.specs.Basics.{indexOf}
@@ -23,26 +24,43 @@ pub data Call : Type 0 where
 abbrev pub next : List ℕ → ℕ
 next l = length l + 1
 
--- a composition of zeros
-abbrev pub blank : List ℕ
-blank = replicate 24 0
+-- ---- the rows of the table of refusals, in its words and order; behind them the words of the paper register
+
+-- take: "order 0"; "o is 0"
+abbrev pub noOrder : ℕ → Check
+noOrder o = check 17 (eqb o 0) 0
+
+-- serial given: "0 or over N"; "s is 0 or over N"
+abbrev pub noSerial : List (List ℕ) → ℕ → Check
+noSerial gs s = check 6 (either (eqb s 0) (ltb (length gs) s)) 0
+
+-- take, spoil: "already written; detail: the number on its line"; "s is below the next serial, detail the order number of its entry"
+abbrev pub alreadyWritten : List ℕ → ℕ → Check
+alreadyWritten l s = check 18 (ltb s (next l)) (getD l (s - 1) 0)
+
+-- "above the next serial; detail: the next"; "s is above the next serial, detail the next"
+abbrev pub aboveNext : List ℕ → ℕ → Check
+aboveNext l s = check 19 (ltb (next l) s) (next l)
+
+-- take: "this order stands in an earlier line; detail: the lowest such serial"; "o stands in the list, detail the lowest serial it stands at"
+abbrev pub standsEarlier : List ℕ → ℕ → Check
+standsEarlier l o = check 20 (ltb (indexOf o l) (length l)) (indexOf o l + 1)
+
+-- look: "lines = N"; "if the next serial is above N"
+abbrev pub allWritten : List (List ℕ) → List ℕ → Check
+allWritten gs l = check 21 (ltb (length gs) (next l)) 0
+
+-- ---- a call
 
 module _ (gs : List (List ℕ)) (l : List ℕ) where
-  -- 6, s is 0 or over N; 18, s is below the next serial, detail the order number of its entry; 19, s is above the next serial, detail the next
+  -- those of a serial
   abbrev pub placeChecks : ℕ → List Check
-  placeChecks s =
-      check 6 (either (eqb s 0) (ltb (length gs) s)) 0
-      ∷ check 18 (ltb s (next l)) (getD l (s - 1) 0)
-      ∷ check 19 (ltb (next l) s) (next l)
-      ∷ []
+  placeChecks s = noSerial gs s ∷ alreadyWritten l s ∷ aboveNext l s ∷ []
 
-  -- "Look: if the next serial is above N, 21". "Take (serial s, order o) is refused by the first of these that holds": 17, o is 0; those of the
-  -- serial; 20, o stands in the list, detail the lowest serial it stands at. "Spoil (s): the same without o and its checks".
+  -- "Take (serial s, order o) is refused by the first of these that holds"; "Spoil (s): the same without o and its checks"
   abbrev pub callChecks : Call → List Check
-  callChecks peek = check 21 (ltb (length gs) (next l)) 0 ∷ []
-  callChecks (claim s o) =
-      check 17 (eqb o 0) 0
-      ∷ (placeChecks s ++ (check 20 (ltb (indexOf o l) (length l)) (indexOf o l + 1) ∷ []))
+  callChecks peek = allWritten gs l ∷ []
+  callChecks (claim s o) = noOrder o ∷ (placeChecks s ++ (standsEarlier l o ∷ []))
   callChecks (void s) = placeChecks s
 
   -- the serial that an accepted call answers: "the next serial"; "s"

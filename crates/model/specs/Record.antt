@@ -8,7 +8,8 @@ use lib.ListN.{length, take, set}
 use Rattle.walsh.specs.Order.{order, countOf}
 use Rattle.walsh.specs.Serial.{same}
 use Rattle.bounds.specs.Refusal.{Check, check, firstRefusal, decided}
-use Rattle.bounds.specs.Edition.{editionChecks, recordChecks, cellsOf, boundsOf}
+use Rattle.bounds.specs.Edition.{editionChecks, recordChecks, cellsOf, boundsOf, blankBounds}
+use Rattle.bounds.specs.Places.{manyChecks}
 use Rattle.bounds.specs.declared.Bounds.{Bounds}
 use Rattle.bounds.specs.declared.Refusal.{Refusal}
 use Rattle.model.specs.declared.Answer.{Answer}
@@ -37,20 +38,20 @@ nextComposition gs entries = compositionAt gs (min (entries + 1) (length gs))
 
 -- ---- opening
 
--- the places 'edition' and 'opening', over a column of so many entries
+-- "column shorter than N", of a column of so many entries
+abbrev pub shortColumn : List ℕ → ℕ → ℕ → Check
+shortColumn ms r size = check 15 (ltb size (countOf ms r)) 0
+
+-- the places 'edition' and 'opening'
 abbrev pub openingChecks : List ℕ → ℕ → ℕ → List Check
-openingChecks ms r size =
-    editionChecks ms r
-    ++ (check 14 (ltb 1000000 (countOf ms r)) 0
-    ∷ check 15 (ltb size (countOf ms r)) 0
-    ∷ [])
+openingChecks ms r size = editionChecks ms r ++ (manyChecks ms r ++ (shortColumn ms r size ∷ []))
 
 -- "its record has no lines and the mix of serial 1"
 unfoldable pub opened : List ℕ → ℕ → Ledger
 opened ms r = record { bounds = boundsOf ms r; entries = 0; sold = 0; voided = 0; next = nextComposition (compositions ms r) 0 }
 
 abbrev pub blankLedger : Ledger
-blankLedger = record { bounds = record { parts = 0; upper = blank; total = 0 }; entries = 0; sold = 0; voided = 0; next = blank }
+blankLedger = record { bounds = blankBounds; entries = 0; sold = 0; voided = 0; next = blank }
 
 -- "a refused opening, a record all zeros"
 abbrev pub openedBy : Refusal → List ℕ → ℕ → Opened
@@ -88,9 +89,13 @@ consistent r col = all (tests r col)
 
 -- ---- the calls
 
--- the place 'register calls', then those of the call over the lines written
+-- the place 'register calls'
+abbrev pub notTogether : Ledger → List ℕ → Check
+notTogether r col = check 16 (not (consistent r col)) 0
+
+-- then those of the call over the lines written
 abbrev pub ledgerChecks : Ledger → List ℕ → Call → List Check
-ledgerChecks r col c = check 16 (not (consistent r col)) 0 ∷ callChecks (compositionsOf (r .bounds)) (written r col) c
+ledgerChecks r col c = notTogether r col ∷ callChecks (compositionsOf (r .bounds)) (written r col) c
 
 unfoldable pub answered : Ledger → List ℕ → Call → Answer
 answered r col c =

@@ -44,6 +44,10 @@ module _ (b : Bounds) (s : ℕ) (x : Located) (e : x ≡ locateRecordOf b s) whe
   unfolding locateRecordOf
   record-refused l = refused-by (firstRefusal (recordChecks b)) (take (b .parts) (b .upper)) (b .total) s x e l
 
+  pub record-accepted : x .number ≡ 0 → Accepts (recordChecks b) × Locates (take (b .parts) (b .upper)) (b .total) s x
+  unfolding locateRecordOf
+  record-accepted z = accepted-by (firstRefusal (recordChecks b)) (take (b .parts) (b .upper)) (b .total) s x e z
+
 -- ---- a record that nobody has checked: more than 24 parts have no cells
 
 module _ (b : Bounds) (s : ℕ) where

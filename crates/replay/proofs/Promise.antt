@@ -2,70 +2,63 @@
 use mathlib.Core.Path.{_≡_, refl, sym, ap, _∙_, subst⁻¹}
 use mathlib.Core.Logic.{_≢_}
 use mathlib.Core.Bool.{true, false, not}
-use mathlib.Core.List.{List, [], _∷_, map}
-use Prim.Native.Nat.{ℕ, _<_}
+use mathlib.Core.List.{List, [], map}
+use Prim.Native.Nat.{ℕ}
 use native.Mathlib.Omega.{arith}
 use lib.ListN.{length}
-use Rattle.bounds.specs.Refusal.{Check, check, refused, firstRefusal}
+use Rattle.bounds.specs.Refusal.{Check, refused, firstRefusal}
 use Rattle.bounds.specs.declared.Refusal.{Refusal}
-use Rattle.bounds.proofs.Refusals.{refusal-here, refusal-first, refusal-later, by-refusal, is-refused, is-accepted}
+use Rattle.bounds.proofs.Refusals.{refusal-here, refusal-first, refusal-later}
+use Rattle.bounds.proofs.Chains.{Accepts}
 use Rattle.model.specs.Basics.{over, all}
 use Rattle.model.specs.Model.{Call}
 use Rattle.model.specs.Record.{openingChecks, opening, opened, blankLedger, Run, run}
 use Rattle.model.specs.Whole.{ran, secondList, Whole}
 use Rattle.model.specs.declared.Ledger.{Ledger}
 use Rattle.model.specs.declared.Opened.{Opened}
-use Rattle.model.proofs.Opening.{opens}
+use Rattle.model.proofs.Opening.{opens, opening-refused, opening-accepted}
 use Rattle.model.proofs.Whole.{whole}
-use Rattle.replay.specs.Replay.{Script, Buffers, callsOf, shown, seen, sizes, replayChecks, Replayed, Replays}
+use Rattle.replay.specs.Replay.{Script, Buffers, callsOf, shown, seen, sizes, sizeChecks, replayChecks, Replayed, Replays}
 use Rattle.replay.specs.Progress.{Ran}
 use Rattle.replay.proofs.Traces.{cellsIn, read-back, run-calls}
 
 observed : (r : Ledger) (cs : List Call) (b b′ : Buffers) (l : Ledger) → Ran r cs b b′ l → seen cs l b′ ≡ run r (b .column) cs
 observed r cs b b′ l w =
     let t = run r (b .column) cs .trace in
-    let p : shown cs (b′ .numbers) (b′ .details) (b′ .given) (b′ .compositions) ≡ t =
-    rw (w .numbers, w .details, w .given, w .compositions)
+    let p : shown cs (b′ .numbers) (b′ .details) (b′ .granted) (b′ .compositions) ≡ t =
+    rw (w .numbers, w .details, w .granted, w .compositions)
     (ap (λ (c : List Call). shown c (over (b .numbers) (map (λ x. x .reply .number) t)) (over (b .details) (map (λ x. x .reply .detail) t))
-    (over (b .given) (map (λ x. x .reply .serial) t)) (over (b .compositions) (cellsIn t))) (sym (run-calls r (b .column) cs))
+    (over (b .granted) (map (λ x. x .reply .serial) t)) (over (b .compositions) (cellsIn t))) (sym (run-calls r (b .column) cs))
     ∙ read-back t _ _ _ _ (w .full)) in
     λ i. record { trace = p i; ledger = w .ledger i; column = w .column i }
 
 module _ (ms : List ℕ) (r : ℕ) (x : Script) (b : Buffers) (o : Opened) (e : o ≡ opening ms r (b .column)) where
-  abbrev checks : Refusal
-  checks = firstRefusal (openingChecks ms r (length (b .column)))
-
-  abbrev lent : List Check
-  lent = check 13 (not (all (sizes x b))) 0 ∷ []
+  abbrev table : List Check
+  table = openingChecks ms r (length (b .column))
 
   -- the opening's own refusal
   pub replay-unopened : o .number ≢ 0 → Replays ms r x b b o
-  unfolding opening
   replay-unopened n =
-      let some : 0 < o .number = omega (arith, n) in
-      let v = is-refused checks _ _ (λ (y : Opened). y .number) (λ (y : Opened). y .detail) refl refl refl o e some in
-      let first = refusal-first (openingChecks ms r (length (b .column))) lent (λ z. n (ap (λ (y : Refusal). y .number) (sym v) ∙ z)) ∙ v in
+      let v = opening-refused ms r (b .column) o e (omega (arith, n)) in
+      let first = refusal-first table (sizeChecks x b) (λ z. n (ap (λ (y : Refusal). y .number) (sym (v .0)) ∙ z)) ∙ v .0 in
       record {
         number = ap (λ (y : Refusal). y .number) (sym first);
         detail = ap (λ (y : Refusal). y .detail) (sym first);
-        refused = λ _. (ap (λ (y : Opened). y .ledger) (e ∙ by-refusal checks _ _ (o .number) (o .detail) v some), refl);
+        refused = λ _. (v .1, refl);
         accepted = λ z. absurd (n z);
       }
 
   module _ (z : o .number ≡ 0) where
-    opening-accepted : opening ms r (b .column) .number ≡ 0
-    opening-accepted = ap (λ (y : Opened). y .number) (sym e) ∙ z
+    accepted-opening : Accepts table × (o .ledger ≡ opened ms r)
+    accepted-opening = opening-accepted ms r (b .column) o e z
 
-    fitting : firstRefusal (replayChecks ms r x b) ≡ firstRefusal lent
-    unfolding opening
-    fitting =
-        let a = is-accepted checks _ _ (λ (y : Opened). y .number) (λ (y : Opened). y .detail) refl refl refl o e z in
-        refusal-later (openingChecks ms r (length (b .column))) lent refl (a .0)
+    fitting : firstRefusal (replayChecks ms r x b) ≡ firstRefusal (sizeChecks x b)
+    fitting = refusal-later table (sizeChecks x b) refl (accepted-opening .0)
 
     -- slices that do not fit together
     pub replay-unfit : all (sizes x b) ≡ false → (o′ : Opened) → o′ ≡ record { number = 13; detail = 0; ledger = blankLedger } → Replays ms r x b b o′
     replay-unfit f o′ is =
-        let first = fitting ∙ refusal-here (check 13 (not (all (sizes x b))) 0) [] (ap not f) in
+        let first = fitting ∙ refusal-here _ [] (ap not f) in
         rw is
         (record {
           number = ap (λ (y : Refusal). y .number) (sym first);
@@ -79,10 +72,8 @@ module _ (ms : List ℕ) (r : ℕ) (x : Script) (b : Buffers) (o : Opened) (e : 
     unfolding firstRefusal
     replay-done b′ l t w =
         let first : firstRefusal (replayChecks ms r x b) ≡ refused 0 0 = fitting ∙ rw t in
-        let q = opens ms r (b .column) opening-accepted in
-        let start : o .ledger ≡ opened ms r = ap (λ (y : Opened). y .ledger) e ∙ q .1 in
         let p : seen (callsOf x) l b′ ≡ ran ms r (b .column) (callsOf x) =
-        observed (o .ledger) (callsOf x) b b′ l w ∙ ap (λ (y : Ledger). run y (b .column) (callsOf x)) start in
+        observed (o .ledger) (callsOf x) b b′ l w ∙ ap (λ (y : Ledger). run y (b .column) (callsOf x)) (accepted-opening .1) in
         record {
           number = ap (λ (y : Refusal). y .number) (sym first);
           detail = ap (λ (y : Refusal). y .detail) (sym first);
@@ -92,7 +83,7 @@ module _ (ms : List ℕ) (r : ℕ) (x : Script) (b : Buffers) (o : Opened) (e : 
                 run = p;
                 whole =
                     subst⁻¹ (λ (y : Run). Whole ms r (b .column) (callsOf x) y (ran ms r (b .column) (secondList y))) p
-                    (whole ms r (b .column) (q .0) (callsOf x));
+                    (whole ms r (b .column) (opens ms r (b .column) (accepted-opening .0)) (callsOf x));
               };
         }
 

@@ -35,7 +35,7 @@ pub record Fit (x : Script) (b : Buffers) : Type 0 where
   pub for-orders : length (x .orders) ≡ length (x .calls)
   pub for-numbers : length (b .numbers) ≡ length (x .calls)
   pub for-details : length (b .details) ≡ length (x .calls)
-  pub for-given : length (b .given) ≡ length (x .calls)
+  pub for-granted : length (b .granted) ≡ length (x .calls)
   pub for-compositions : length (b .compositions) ≡ length (x .calls) * 24
   pub count : length (callsIn (x .calls) (x .serials) (x .orders)) ≡ length (x .calls)
   pub call-at : (i : ℕ) → i < length (x .calls)
@@ -52,7 +52,7 @@ fit-of x b t =
       for-orders = orders;
       for-numbers = eqb-true (length (b .numbers)) k (p .1 .1 .0);
       for-details = eqb-true (length (b .details)) k (p .1 .1 .1 .0);
-      for-given = eqb-true (length (b .given)) k (p .1 .1 .1 .1 .0);
+      for-granted = eqb-true (length (b .granted)) k (p .1 .1 .1 .1 .0);
       for-compositions = eqb-true (length (b .compositions)) (k * 24) (p .1 .1 .1 .1 .1 .0);
       count = calls-length (x .calls) (x .serials) (x .orders) serials orders;
       call-at = λ i h. calls-at (x .calls) (x .serials) (x .orders) i serials orders h;

@@ -23,7 +23,9 @@ pub record Did (r : Ledger) (col : List ℕ) (c : Call) (t : Claimed) (col′ : 
   pub ledger : t .ledger ≡ recordAfter r col c
   pub column : col′ ≡ columnAfter r col c
 
-pub did : (r : Ledger) (col : List ℕ) (c : Call) (t : Claimed) (col′ : List ℕ) → _≡_ {A = Claimed × List ℕ} (t, col′) (calling r col c) → Did r col c t col′
+pub did : (r : Ledger) (col : List ℕ) (c : Call) (t : Claimed) (col′ : List ℕ)
+    → _≡_ {A = Claimed × List ℕ} (t, col′) (calling r col c)
+    → Did r col c t col′
 unfolding calling
 did r col c t col′ e =
     record {
@@ -31,6 +33,11 @@ did r col c t col′ e =
       ledger = ap (λ (p : Claimed × List ℕ). p .0 .ledger) e;
       column = ap (λ (p : Claimed × List ℕ). p .1) e;
     }
+
+-- an answer at place i of the buffers b, which then are b′
+abbrev pub PutIn : Answer → ℕ → Buffers → Buffers → Type 0
+PutIn a i b b′ =
+    Put a i (b .numbers) (b′ .numbers) (b .details) (b′ .details) (b .granted) (b′ .granted) (b .compositions) (b′ .compositions)
 
 -- one call more, of which the code did a step and put the answer into the buffers
 module _ (r : Ledger) (cs : List Call) (c : Call) (b b′ b″ : Buffers) (l : Ledger) (t : Claimed) where
@@ -56,10 +63,10 @@ module _ (r : Ledger) (cs : List Call) (c : Call) (b b′ b″ : Buffers) (l : L
         ∙ ap (λ (y : List Event). over d (map (λ x. f (x .reply)) y)) (sym trace-grown)
 
     pub one-more :
-        Put (t .answer) (length cs) (b′ .numbers) (b″ .numbers) (b′ .details) (b″ .details) (b′ .given) (b″ .given) (b′ .compositions) (b″ .compositions)
+        PutIn (t .answer) (length cs) b′ b″
         → length cs < length (b .numbers)
         → length cs < length (b .details)
-        → length cs < length (b .given)
+        → length cs < length (b .granted)
         → Ran r (cs ++ (c ∷ [])) b b″ (t .ledger)
     one-more p hn hd hs =
         let q = snoc r (b .column) cs c in
@@ -69,7 +76,7 @@ module _ (r : Ledger) (cs : List Call) (c : Call) (b b′ b″ : Buffers) (l : L
           column = g .column ∙ rw (w .ledger, w .column) (sym (q .column));
           numbers = grown (λ a. a .number) (b .numbers) (b′ .numbers) (b″ .numbers) hn (w .numbers) (p .number);
           details = grown (λ a. a .detail) (b .details) (b′ .details) (b″ .details) hd (w .details) (p .detail);
-          given = grown (λ a. a .serial) (b .given) (b′ .given) (b″ .given) hs (w .given) (p .serial);
+          granted = grown (λ a. a .serial) (b .granted) (b′ .granted) (b″ .granted) hs (w .granted) (p .serial);
           compositions = p .composition ∙ rw (w .compositions, ← k, trace-grown) (cells-more (b .compositions) before last (w .full) (p .cells));
           full = rw trace-grown (full-snoc before last (w .full) (p .cells));
         }
@@ -81,7 +88,7 @@ pub record Progress (r : Ledger) (cs : List Call) (b b′ : Buffers) (l : Ledger
   pub for-column : length (b′ .column) ≡ length (b .column)
   pub for-numbers : length (b′ .numbers) ≡ length (b .numbers)
   pub for-details : length (b′ .details) ≡ length (b .details)
-  pub for-given : length (b′ .given) ≡ length (b .given)
+  pub for-granted : length (b′ .granted) ≡ length (b .granted)
   pub for-compositions : length (b′ .compositions) ≡ length (b .compositions)
 
 pub start : (r : Ledger) (cs : List Call) (b : Buffers) → Progress r cs b b r 0
@@ -89,11 +96,11 @@ unfolding run
 start r cs b =
     record {
       at-most = omega arith;
-      so-far = record { ledger = refl; column = refl; numbers = refl; details = refl; given = refl; compositions = refl; full = tt };
+      so-far = record { ledger = refl; column = refl; numbers = refl; details = refl; granted = refl; compositions = refl; full = tt };
       for-column = refl;
       for-numbers = refl;
       for-details = refl;
-      for-given = refl;
+      for-granted = refl;
       for-compositions = refl;
     }
 
@@ -103,7 +110,7 @@ pub onward : (r : Ledger) (x : Script) (b b′ b″ : Buffers) (l : Ledger) (i :
     → Progress r (callsOf x) b b′ l i
     → Did l (b′ .column) (getD (callsOf x) i peek) t (b″ .column)
     → length (b″ .column) ≡ length (b′ .column)
-    → Put (t .answer) i (b′ .numbers) (b″ .numbers) (b′ .details) (b″ .details) (b′ .given) (b″ .given) (b′ .compositions) (b″ .compositions)
+    → PutIn (t .answer) i b′ b″
     → Progress r (callsOf x) b b″ (t .ledger) (i + 1)
 onward r x b b′ b″ l i t fit h w g k p =
     let cs = callsOf x in
@@ -111,18 +118,17 @@ onward r x b b′ b″ l i t fit h w g k p =
     let n = fit .count in
     let q : length (take i cs) ≡ i = length-take-le i cs (omega arith) in
     let more : take (i + 1) cs ≡ take i cs ++ (c ∷ []) = rw (add-one i) (take-suc cs i peek (omega arith)) in
-    let p′ : Put (t .answer) (length (take i cs)) (b′ .numbers) (b″ .numbers) (b′ .details) (b″ .details) (b′ .given) (b″ .given)
-    (b′ .compositions) (b″ .compositions) = rw q p in
+    let p′ : PutIn (t .answer) (length (take i cs)) b′ b″ = rw q p in
     record {
       at-most = omega arith;
       so-far =
           rw more
           (one-more r (take i cs) c b b′ b″ l t (w .so-far) g p′ (omega (arith, fit .for-numbers)) (omega (arith, fit .for-details))
-          (omega (arith, fit .for-given)));
+          (omega (arith, fit .for-granted)));
       for-column = k ∙ w .for-column;
       for-numbers = ap length (p .number) ∙ simp length-set (w .for-numbers);
       for-details = ap length (p .detail) ∙ simp length-set (w .for-details);
-      for-given = ap length (p .serial) ∙ simp length-set (w .for-given);
+      for-granted = ap length (p .serial) ∙ simp length-set (w .for-granted);
       for-compositions =
           ap length (p .composition)
           ∙ length-paste (b′ .compositions) (i * 24) (t .answer .composition) 24 (omega (arith, w .for-compositions, fit .for-compositions))

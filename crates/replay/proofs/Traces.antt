@@ -1,10 +1,12 @@
 -- A list of calls one call longer, and a trace read back from the buffers that hold it.
 use mathlib.Core.Path.{_≡_, refl, sym, ap, _∙_}
 use mathlib.Core.List.{List, [], _∷_, _++_, map, map-append, append-assoc, append-nil}
-use Prim.Native.Nat.{ℕ, suc, _*_, _<_}
+use Prim.Native.Nat.{ℕ, suc, _+_, _-_, _*_, _≤_, _<_}
 use native.Mathlib.Omega.{arith}
-use lib.ListN.{length, drop, set, length-append, length-map}
-use lib.Seq.{paste, take-append-seam, drop-append-add, drop-drop, take-length, take-at, drop-at}
+use lib.ListN.{length, take, drop, set, length-append, length-drop, length-map}
+use lib.Seq.{paste, take-append-seam, drop-append-add, drop-drop, take-all, take-length, length-take-le, take-at, drop-at}
+use Rattle.bounds.specs.Places.{copied}
+use Rattle.bounds.proofs.Cells.{copied-same}
 use Rattle.model.specs.Basics.{over}
 use Rattle.model.specs.Model.{Call, Event}
 use Rattle.model.specs.Record.{answered, recordAfter, columnAfter, run}
@@ -64,6 +66,17 @@ paste-over d l m =
       drop-drop (length m) (length l) d,
       length-append l m,
     )
+
+-- a composition copied into the part from `at` on
+pub copied-paste : (d m : List ℕ) (at : ℕ) → length m ≡ 24 → at + 24 ≤ length d
+    → {part : List ℕ}
+    → part ≡ copied m (take (at + 24 - at) (drop at d))
+    → take at d ++ (part ++ drop (at + 24 - at) (drop at d)) ≡ paste d at m 24
+copied-paste d m at long room e =
+    let size : at + 24 - at ≡ 24 = omega arith in
+    let lent : length (take 24 (drop at d)) ≡ length m = length-take-le 24 (drop at d) (omega (arith, length-drop at d)) ∙ sym long in
+    rw (e, size, copied-same m (take 24 (drop at d)) lent, drop-drop 24 at d, take-all 24 m (omega arith))
+    (sym (append-assoc (take at d) m (drop (at + 24) d)))
 
 full-length : (t : List Event) → Full t → length (cellsIn t) ≡ length t * 24
 full-length [] f = refl

@@ -35,6 +35,6 @@ pub record Ran (r : Ledger) (cs : List Call) (b b′ : Buffers) (l : Ledger) : T
   pub column : b′ .column ≡ run r (b .column) cs .column
   pub numbers : b′ .numbers ≡ over (b .numbers) (map (λ x. x .reply .number) (run r (b .column) cs .trace))
   pub details : b′ .details ≡ over (b .details) (map (λ x. x .reply .detail) (run r (b .column) cs .trace))
-  pub given : b′ .given ≡ over (b .given) (map (λ x. x .reply .serial) (run r (b .column) cs .trace))
+  pub granted : b′ .granted ≡ over (b .granted) (map (λ x. x .reply .serial) (run r (b .column) cs .trace))
   pub compositions : b′ .compositions ≡ over (b .compositions) (joined (map (λ x. x .reply .composition) (run r (b .column) cs .trace)))
   pub full : Full (run r (b .column) cs .trace)

@@ -23,13 +23,20 @@ pub record Script : Type 0 where
   pub serials : List ℕ
   pub orders : List ℕ
 
--- the column, and the buffers for the answers, a composition in 24 places of the last
+abbrev pub script : (calls serials orders : List ℕ) → Script
+script calls serials orders = record { calls = calls; serials = serials; orders = orders }
+
+-- the column, and the buffers for the answers: numbers, details, the serials granted, and compositions, 24 cells each
 pub record Buffers : Type 0 where
   pub column : List ℕ
   pub numbers : List ℕ
   pub details : List ℕ
-  pub given : List ℕ
+  pub granted : List ℕ
   pub compositions : List ℕ
+
+abbrev pub buffers : (column numbers details granted compositions : List ℕ) → Buffers
+buffers column numbers details granted compositions =
+    record { column = column; numbers = numbers; details = details; granted = granted; compositions = compositions }
 
 -- a call as three numbers: 0 is a peek, 1 a claim, any other a void
 abbrev pub callOf : ℕ → ℕ → ℕ → Call
@@ -53,28 +60,31 @@ shown (c ∷ cs) n d s m =
 
 -- a run as the record, the column and the buffers show it
 abbrev pub seen : List Call → Ledger → Buffers → Run
-seen cs l b = record { trace = shown cs (b .numbers) (b .details) (b .given) (b .compositions); ledger = l; column = b .column }
+seen cs l b = record { trace = shown cs (b .numbers) (b .details) (b .granted) (b .compositions); ledger = l; column = b .column }
 
 -- ---- refusals: those of the opening, then the place 'lent part'
 
--- slices of these lengths have an entry for each of k calls, the last 24
-abbrev pub sizesOf : (k serials orders numbers details given compositions : ℕ) → List Bool
-sizesOf k serials orders numbers details given compositions =
+-- slices of these lengths have one entry for each of k calls; the last has 24
+abbrev pub sizesOf : (k serials orders numbers details granted compositions : ℕ) → List Bool
+sizesOf k serials orders numbers details granted compositions =
     eqb serials k
     ∷ eqb orders k
     ∷ eqb numbers k
     ∷ eqb details k
-    ∷ eqb given k
+    ∷ eqb granted k
     ∷ eqb compositions (k * 24)
     ∷ []
 
 abbrev pub sizes : Script → Buffers → List Bool
 sizes x b =
-    sizesOf (length (x .calls)) (length (x .serials)) (length (x .orders)) (length (b .numbers)) (length (b .details)) (length (b .given))
+    sizesOf (length (x .calls)) (length (x .serials)) (length (x .orders)) (length (b .numbers)) (length (b .details)) (length (b .granted))
     (length (b .compositions))
 
+abbrev pub sizeChecks : Script → Buffers → List Check
+sizeChecks x b = check 13 (not (all (sizes x b))) 0 ∷ []
+
 abbrev pub replayChecks : List ℕ → ℕ → Script → Buffers → List Check
-replayChecks ms r x b = openingChecks ms r (length (b .column)) ++ (check 13 (not (all (sizes x b))) 0 ∷ [])
+replayChecks ms r x b = openingChecks ms r (length (b .column)) ++ sizeChecks x b
 
 -- ---- the promise: with b lent, o is answered and b′ left
 
@@ -84,7 +94,8 @@ pub record Replayed (ms : List ℕ) (r : ℕ) (cs : List Call) (b b′ : Buffers
   pub run : seen cs l b′ ≡ ran ms r (b .column) cs
   pub whole : Whole ms r (b .column) cs (seen cs l b′) (ran ms r (b .column) (secondList (seen cs l b′)))
 
--- "A refusal answers its number and a detail [..] and changes no lent byte"; "a refused opening, a record all zeros", also where the lengths do not fit
+-- "A refusal answers its number and a detail [..] and changes no lent byte"; "a refused opening, a record all zeros", also where the lengths do
+-- not fit
 pub record Replays (ms : List ℕ) (r : ℕ) (x : Script) (b b′ : Buffers) (o : Opened) : Type 0 where
   pub number : o .number ≡ firstRefusal (replayChecks ms r x b) .number
   pub detail : o .detail ≡ firstRefusal (replayChecks ms r x b) .detail

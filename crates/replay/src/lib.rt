@@ -8,14 +8,13 @@ ghost use mathlib.Core.Path.{_≡_};
 ghost use mathlib.Core.Bool.{true};
 ghost use Prim.Native.Nat.{_+_, _*_, _≤_, _<_};
 ghost use lib.ListN.{length};
-ghost use lib.Seq.{paste};
 ghost use Rattle.model.specs.Basics.{all};
 ghost use Rattle.model.specs.Record.{calling};
-ghost use Rattle.replay.specs.Replay.{callOf, callsOf, sizesOf, sizes, Replays};
+ghost use Rattle.replay.specs.Replay.{script, buffers, callOf, callsOf, sizesOf, sizes, Replays};
 ghost use Rattle.replay.specs.Progress.{Put, Ran};
 
 // One call: 0 is a peek, 1 a claim, any other a void.
-pub fn call(ledger: Ledger, column: &mut [u32], which: u8, serial: u64, order: u32) -> Claimed
+fn call(ledger: Ledger, column: &mut [u32], which: u8, serial: u64, order: u32) -> Claimed
     ensures { λ r. ⌜ (r, now (column .exit)) ≡ calling ledger (now (column .entry)) (callOf which serial order) ⌝ }
 {
     if which == 0 {
@@ -28,37 +27,27 @@ pub fn call(ledger: Ledger, column: &mut [u32], which: u8, serial: u64, order: u
     ledger::void(ledger, column, serial)
 }
 
-// A composition, written from place `at` on.
-fn put_cells(compositions: &mut [u8], at: usize, cells: [u8; 24])
-    requires { ⌜ at + 24 ≤ length (now compositions) ⌝ }
-    ensures { λ _. ⌜ (now (compositions .exit) ≡ paste (now (compositions .entry)) at cells 24) × (length cells ≡ 24) ⌝ }
-{
-    let mut j: usize = 0;
-    while j < 24 {
-        compositions[at + j] = cells[j];
-        j += 1;
-    }
-}
-
 // An answer, written at place i of the buffers.
 fn put(
     answer: Answer,
     i: usize,
     numbers: &mut [u32],
     details: &mut [u64],
-    given: &mut [u64],
+    granted: &mut [u64],
     compositions: &mut [u8],
 )
-    requires { ⌜ (i < length (now numbers)) × (i < length (now details)) × (i < length (now given)) × (i * 24 + 24 ≤ length (now compositions)) ⌝ }
+    requires { ⌜ (i < length (now numbers)) × (i < length (now details)) × (i < length (now granted)) × (i * 24 + 24 ≤ length (now compositions)) ⌝ }
     ensures { λ _.
-        ⌜ Put answer i (now (numbers .entry)) (now (numbers .exit)) (now (details .entry)) (now (details .exit)) (now (given .entry))
-        (now (given .exit)) (now (compositions .entry)) (now (compositions .exit)) ⌝ }
+        ⌜ Put answer i (now (numbers .entry)) (now (numbers .exit)) (now (details .entry)) (now (details .exit)) (now (granted .entry))
+        (now (granted .exit)) (now (compositions .entry)) (now (compositions .exit)) ⌝ }
 {
     numbers[i] = answer.number;
     details[i] = answer.detail;
-    given[i] = answer.serial;
+    granted[i] = answer.serial;
     let cells = answer.composition;
-    put_cells(compositions, i * 24, cells);
+    let at = i * 24;
+    let end = at + 24;
+    bounds::copy(&cells, &mut compositions[at..end]);
 }
 
 // The calls in turn, each on the record and the column as the one before it left them.
@@ -70,29 +59,16 @@ fn run(
     column: &mut [u32],
     numbers: &mut [u32],
     details: &mut [u64],
-    given: &mut [u64],
+    granted: &mut [u64],
     compositions: &mut [u8],
 ) -> Ledger
-    requires { ⌜ all (sizes (record { calls = now calls; serials = now serials; orders = now orders })
-        (record { column = now column; numbers = now numbers; details = now details; given = now given; compositions = now compositions }))
-        ≡ true ⌝ }
+    requires { ⌜ all (sizes (script (now calls) (now serials) (now orders))
+        (buffers (now column) (now numbers) (now details) (now granted) (now compositions))) ≡ true ⌝ }
     ensures { λ l.
         ⌜ Ran ledger
-        (callsOf (record { calls = now (calls .entry); serials = now (serials .entry); orders = now (orders .entry) }))
-        (record {
-          column = now (column .entry);
-          numbers = now (numbers .entry);
-          details = now (details .entry);
-          given = now (given .entry);
-          compositions = now (compositions .entry);
-        })
-        (record {
-          column = now (column .exit);
-          numbers = now (numbers .exit);
-          details = now (details .exit);
-          given = now (given .exit);
-          compositions = now (compositions .exit);
-        })
+        (callsOf (script (now (calls .entry)) (now (serials .entry)) (now (orders .entry))))
+        (buffers (now (column .entry)) (now (numbers .entry)) (now (details .entry)) (now (granted .entry)) (now (compositions .entry)))
+        (buffers (now (column .exit)) (now (numbers .exit)) (now (details .exit)) (now (granted .exit)) (now (compositions .exit)))
         l ⌝ }
 {
     let mut l = ledger;
@@ -100,24 +76,24 @@ fn run(
     while i < calls.len() {
         let done = call(l, column, calls[i], serials[i], orders[i]);
         let answer = done.answer;
-        put(answer, i, numbers, details, given, compositions);
+        put(answer, i, numbers, details, granted, compositions);
         l = done.ledger;
         i += 1;
     }
     l
 }
 
-// Whether the slices have an entry for each call, by their lengths.
+// Whether slices of these lengths have one entry for each call; the last has 24.
 fn fits(
     calls: usize,
     serials: usize,
     orders: usize,
     numbers: usize,
     details: usize,
-    given: usize,
+    granted: usize,
     compositions: usize,
 ) -> bool
-    ensures { λ r. ⌜ r ≡ all (sizesOf calls serials orders numbers details given compositions) ⌝ }
+    ensures { λ r. ⌜ r ≡ all (sizesOf calls serials orders numbers details granted compositions) ⌝ }
 {
     if serials != calls {
         return false;
@@ -131,7 +107,7 @@ fn fits(
     if details != calls {
         return false;
     }
-    if given != calls {
+    if granted != calls {
         return false;
     }
     if compositions % 24 != 0 {
@@ -140,8 +116,8 @@ fn fits(
     compositions / 24 == calls
 }
 
-// A list of calls on a newly opened ledger over `column`: which call, its serial and its order. The answers go into the lent buffers, which have an
-// entry for each call, the last 24. A refusal writes nothing.
+// A list of calls on a newly opened ledger over `column`: which call, its serial and its order. The answers go into the lent buffers, which have
+// one entry for each call; the last buffer has 24. A refusal writes nothing.
 pub fn replay(
     upper: &[u8],
     total: u32,
@@ -151,26 +127,14 @@ pub fn replay(
     column: &mut [u32],
     numbers: &mut [u32],
     details: &mut [u64],
-    given: &mut [u64],
+    granted: &mut [u64],
     compositions: &mut [u8],
 ) -> Opened
     ensures { λ r.
         ⌜ Replays (now (upper .entry)) total
-        (record { calls = now (calls .entry); serials = now (serials .entry); orders = now (orders .entry) })
-        (record {
-          column = now (column .entry);
-          numbers = now (numbers .entry);
-          details = now (details .entry);
-          given = now (given .entry);
-          compositions = now (compositions .entry);
-        })
-        (record {
-          column = now (column .exit);
-          numbers = now (numbers .exit);
-          details = now (details .exit);
-          given = now (given .exit);
-          compositions = now (compositions .exit);
-        })
+        (script (now (calls .entry)) (now (serials .entry)) (now (orders .entry)))
+        (buffers (now (column .entry)) (now (numbers .entry)) (now (details .entry)) (now (granted .entry)) (now (compositions .entry)))
+        (buffers (now (column .exit)) (now (numbers .exit)) (now (details .exit)) (now (granted .exit)) (now (compositions .exit)))
         r ⌝ }
 {
     let opened = ledger::open(upper, total, column);
@@ -183,7 +147,7 @@ pub fn replay(
         orders.len(),
         numbers.len(),
         details.len(),
-        given.len(),
+        granted.len(),
         compositions.len(),
     ) {
         return ledger::unopened(13, 0);
@@ -197,7 +161,7 @@ pub fn replay(
         column,
         numbers,
         details,
-        given,
+        granted,
         compositions,
     );
     Opened {

@@ -115,12 +115,12 @@ fn script(
 }
 
 // A line for each answer, with n parts of its composition.
-fn answers(numbers: &[u32], details: &[u64], given: &[u64], compositions: &[u8], n: usize) {
+fn answers(numbers: &[u32], details: &[u64], granted: &[u64], compositions: &[u8], n: usize) {
     let mut i: usize = 0;
-    while i < shortest(numbers.len(), details.len(), given.len()) {
+    while i < shortest(numbers.len(), details.len(), granted.len()) {
         show::first(wide(numbers[i]));
         show::next(details[i]);
-        show::next(given[i]);
+        show::next(granted[i]);
         show::bytes(read::part(cells(compositions, i), n));
         show::end();
         i += 1;
@@ -143,13 +143,13 @@ fn replayed(upper: &[u8], total: u32, size: u64, calls: &[u8], serials: &[u64], 
     let mut column = words();
     let mut numbers = words();
     let mut details = longs();
-    let mut given = longs();
+    let mut granted = longs();
     let mut compositions = io::large_buffer();
     let n = calls.len() as u64;
     let lent = lent_32(&mut column, size);
     let ns = lent_32(&mut numbers, n);
     let ds = lent_64(&mut details, n);
-    let gs = lent_64(&mut given, n);
+    let gs = lent_64(&mut granted, n);
     let cs = read::lent(&mut compositions, cells_of(n));
     let opened = replay::replay(upper, total, calls, serials, orders, lent, ns, ds, gs, cs);
     show::first(opened.number as u64);

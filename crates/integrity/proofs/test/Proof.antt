@@ -8,13 +8,14 @@ use denote.Ref.{now}
 use borrow.Author.Needs.{needs}
 use borrow.Author.Tests.{not-true, not-false}
 use Rattle.integrity.proofs.Scans.{scanned-few}
-use Rattle.integrity.proofs.Checks.{Asked, asked, no-edition, too-many, no-room, past-end, other-voided, other-sold, other-next, no-spare, belongs}
+use Rattle.integrity.proofs.Checks.{Asked, asked, no-edition, too-many, no-room, past-end}
+use Rattle.integrity.proofs.Checks.{other-voided, other-sold, other-next, no-spare, belongs}
 use Rattle.integrity.proofs.test.Statement.{statement}
 use Rattle.integrity.proofs.test.Tie as tie
 
 -- the edition is accepted
 known : (c : tie.Else1) → let s = c .before .before .before in Asked (s .args .ledger .bounds) (s .args .ledger .entries) (s .args .at)
-known c = let s = c .before .before .before in asked (s .args .ledger .bounds) (s .args .ledger .entries) (s .args .at) (s .pre .1) (le-zero (c .if1 .left))
+known c = asked _ _ _ (c .before .before .before .pre .1) (le-zero (c .if1 .left))
 
 returns : tie.Need-returns
 returns c = no-edition _ _ _ (c .unseen .ensures) (c .before .before .before .before .pre .1) (c .before .if1 .taken)
@@ -35,14 +36,15 @@ within : (c : tie.Else4) → let a = c .before .before .before .before .before .
 within c = omega (arith, c .if4 .left, c .before .if3 .left)
 
 returns-6 : tie.Need-returns-6
-returns-6 c = other-sold _ _ _ (c .unseen6 .ensures) (c .before .before .before .before .before .before .before .scan .ensures) (within
-    (c .before .before .before .before .before .before .before .before)) (c .before .if6 .taken)
+returns-6 c =
+    let scanned = c .before .before .before .before .before .before .before in
+    other-sold _ _ _ (c .unseen6 .ensures) (scanned .scan .ensures) (within (scanned .before)) (c .before .if6 .taken)
 
 returns-7 : tie.Need-returns-7
 returns-7 c =
-    other-next _ _ _ (c .unseen7 .ensures) (known
-    (c .before .before .before .before .before .before .before .before .before .before .before .before .before .before .before)) (sym
-    (c .before .before .equal .ensures) ∙ not-true _ (c .before .if7 .taken))
+    let sold = c .before .before .before .before .before in
+    let edition = sold .before .before .before .before .before .before .before .before .before .before in
+    other-next _ _ _ (c .unseen7 .ensures) (known edition) (sym (c .before .before .equal .ensures) ∙ not-true _ (c .before .if7 .taken))
 
 returns-8 : tie.Need-returns-8
 returns-8 c = no-spare _ _ _ (c .unseen8 .ensures) (sym (c .before .before .packed .ensures) ∙ not-true _ (c .before .if8 .taken))

@@ -24,7 +24,7 @@ returns-4 : tie.Need-returns-4
 returns-4 c =
     let e = c .before .before .before .before .before in
     opening-good _ _ _ (e .before .before .locate .ensures) (le-zero (e .if1 .left)) (c .before .before .before .if2 .left) _
-    (c .before .before .if3 .left) (c .before .pack .ensures)
+    (c .before .before .if3 .left) (c .«record» .ensures)
 
 pub open-spec : {M : Type 1} → statement M
 open-spec =

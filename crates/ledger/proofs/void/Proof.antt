@@ -14,7 +14,9 @@ use Rattle.ledger.proofs.void.Tie as tie
 returns : tie.Need-returns
 returns c = calling-refused _ _ _ _ (c .before .before .void .ensures) (c .if1 .taken)
 
-wrote : (c : tie.Else1) → let a = c .before .before .before .before .before .args in Writing (a .ledger) (now (a .orders)) (Call.void (a .serial))
+wrote : (c : tie.Else1)
+    → let a = c .before .before .before .before .before .args in
+    Writing (a .ledger) (now (a .orders)) (Call.void (a .serial))
 wrote c = writing _ _ _ _ (c .before .before .void .ensures) (c .if1 .left) refl
 
 returns-2 : tie.Need-returns-2

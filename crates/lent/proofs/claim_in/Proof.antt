@@ -1,6 +1,6 @@
--- `lent::claim_in` keeps its promise, shown statement by statement of its MIR, since the prover's own walk has no `&mut` of a struct. The lent record is
--- opened and copied; the column is given to `ledger::claim` for good; the record that comes back is stored, and the loan is closed at it. Of
--- `ledger::claim` only the contract is used. Each comment in brackets is the context at that place, from position 0.
+-- `lent::claim_in` keeps its promise, shown statement by statement of its MIR, since the prover's own walk has no `&mut` of a struct. The lent
+-- record is opened and copied; the column is given to `ledger::claim` for good; the record that comes back is stored, and the loan is closed at
+-- it. Of `ledger::claim` only the contract is used. Each comment in brackets is the context at that place, from position 0.
 use mathlib.Core.Path.{_≡_, refl, ap}
 use Prim.Native.Nat.{ℕ, _<_, _^_}
 use mathlib.Core.List.{[], _∷_, List}
@@ -17,7 +17,8 @@ use prog.Wp.{Heap, Calls, Loops, WpFn, Tables}
 use ghost.Atoms.{Atoms, sem}
 use contract.Monad.{Fun, fact}
 use contract.Running.{givenOf, tables, tablesOf}
-use types.Kit.{Given, ‵, raw, some, later, _⊛_, ⋆, _$_, _∵_, !, qed, by, move, keep, drop, use1, use2, split, join, pick, rewrite, suffices, frame, await, done}
+use types.Kit.{Given, ‵, raw, some, later, _⊛_, ⋆, _$_, _∵_, !, qed, by, move, keep, drop, use1, use2}
+use types.Kit.{split, join, pick, rewrite, suffices, frame, await, done}
 use types.Kit.{fsplit, fsplit3, fjoin, fjoin3, feqL, feqI}
 use types.Run.{look, look-raw, init, store-raw, forget, stop, hop, fld, from, load, addr, of-opd, and-then, no-more, assigns, land, returns}
 use types.Run.{enter, alloc1, alloc0, params1, pass1, pass0, free1, free0}
@@ -41,7 +42,8 @@ use denote.Triple.Statement.{Contract, Triple}
 use denote.Triple.Call.{calls-at}
 use denote.Triple.Clauses.{ensured, lasts}
 use denote.Triple.Table.{entered, cited}
-use denote.Triple.Walked.{says, Stays, stay-ref, gave-slice, stay-none, walkOf, goes-ref, goes-gave-slice, goes-none, Walks, ends-at, walked, walk-meets}
+use denote.Triple.Walked.{says, Stays, stay-ref, gave-slice, stay-none, walkOf, goes-ref, goes-gave-slice, goes-none}
+use denote.Triple.Walked.{Walks, ends-at, walked, walk-meets}
 use denote.Exit.{yes}
 use Rattle.model.specs.declared.Claimed.{Claimed}
 use Rattle.model.specs.declared.Ledger.{Ledger}
@@ -120,7 +122,8 @@ module _ {M : Type 1} (𝓤 : URA M) (H : Heap 𝓤) (A : Atoms 𝓤) (W : Given
   to-core = (((κ′, tt), (q′, tt), tt, asks, (valsL h, (s ∷ [], (vint w64 asked ∷ [], (vint w32 v ∷ [], tt))))), tt)
 
   goes : Is L.the-row h (valsL h)
-      → ent 𝓤 (sep 𝓤 (sep 𝓤 (A .lft κ′ q′) (sem 𝓤 H A ftrue)) (sem 𝓤 H A (MutSlice (named 1) κ′ u32 .own x (s ∷ [])))) (Core 𝓤 H A at-mem run .pre to-core)
+      → ent 𝓤 (sep 𝓤 (sep 𝓤 (A .lft κ′ q′) (sem 𝓤 H A ftrue)) (sem 𝓤 H A (MutSlice (named 1) κ′ u32 .own x (s ∷ []))))
+      (Core 𝓤 H A at-mem run .pre to-core)
   goes is =
       qed W ((‵ (flft κ′ q′) ⊛ ‵ ftrue) ∷ ‵ (MutSlice (named 1) κ′ u32 .own x (s ∷ [])) ∷ []) ∵
       nothing ! $ owned ! u32 (Is u32) (uint-makes 𝓤 H A W w32) v _ (refl, v-fits) $ fjoin ! $
@@ -170,7 +173,8 @@ module _ {M : Type 1} (𝓤 : URA M) (H : Heap 𝓤) (A : Atoms 𝓤) (W : Given
         qed W ((‵ (flft κ q) ⊛ ‵ (flft κ′ q′) ⊛ ‵ ftrue)
         ∷ ‵ (owns (MutRef (named 0) κ L.the-row ∷ MutSlice (named 1) κ′ u32 ∷ u64 ∷ u32 ∷ []) a vals) ∷ []) ∵
         enter ! C Λ code.function (vptr b o ∷ s ∷ vint w64 n ∷ vint w32 v ∷ []) _ $
-        alloc1 ! (λ l₀. alloc1 ! (λ l₁. alloc1 ! (λ l₂. alloc1 ! (λ l₃. alloc1 ! (λ l₄. alloc1 ! (λ l₅. alloc1 ! (λ l₆. alloc1 ! (λ l₇. alloc1 ! (λ l₈.
+        alloc1 ! (λ l₀. alloc1 ! (λ l₁. alloc1 ! (λ l₂. alloc1 ! (λ l₃. alloc1 ! (λ l₄. alloc1 ! (λ l₅. alloc1 ! (λ l₆.
+        alloc1 ! (λ l₇. alloc1 ! (λ l₈.
         alloc0 ! $ params1 ! $ pass1 ! (init ! 14 refl (tt, tt)) $ pass1 ! (init ! 12 refl (tt, (tt, (record { fits = room .0 }, tt)))) $
         pass1 ! (init ! 10 refl (tt, record { fits = n-fits })) $ pass1 ! (init ! 8 refl (tt, record { fits = v-fits })) $ pass0 ! $
         -- the record's borrow is opened

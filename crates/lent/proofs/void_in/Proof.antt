@@ -1,6 +1,6 @@
--- `lent::void_in` keeps its promise, shown statement by statement of its MIR, since the prover's own walk has no `&mut` of a struct. The lent record is
--- opened and copied; the column is given to `ledger::void` for good; the record that comes back is stored, and the loan is closed at it. Of
--- `ledger::void` only the contract is used. Each comment in brackets is the context at that place, from position 0.
+-- `lent::void_in` keeps its promise, shown statement by statement of its MIR, since the prover's own walk has no `&mut` of a struct. The lent
+-- record is opened and copied; the column is given to `ledger::void` for good; the record that comes back is stored, and the loan is closed at
+-- it. Of `ledger::void` only the contract is used. Each comment in brackets is the context at that place, from position 0.
 use mathlib.Core.Path.{_≡_, refl, ap}
 use Prim.Native.Nat.{ℕ, _<_, _^_}
 use mathlib.Core.List.{[], _∷_, List}
@@ -17,7 +17,8 @@ use prog.Wp.{Heap, Calls, Loops, WpFn, Tables}
 use ghost.Atoms.{Atoms, sem}
 use contract.Monad.{Fun, fact}
 use contract.Running.{givenOf, tables, tablesOf}
-use types.Kit.{Given, ‵, raw, some, later, _⊛_, ⋆, _$_, _∵_, !, qed, by, move, keep, drop, use1, use2, split, join, pick, rewrite, suffices, frame, await, done}
+use types.Kit.{Given, ‵, raw, some, later, _⊛_, ⋆, _$_, _∵_, !, qed, by, move, keep, drop, use1, use2}
+use types.Kit.{split, join, pick, rewrite, suffices, frame, await, done}
 use types.Kit.{fsplit, fsplit3, fjoin, fjoin3, feqL, feqI}
 use types.Run.{look, look-raw, init, store-raw, forget, stop, hop, fld, from, load, addr, of-opd, and-then, no-more, assigns, land, returns}
 use types.Run.{enter, alloc1, alloc0, params1, pass1, pass0, free1, free0}
@@ -41,7 +42,8 @@ use denote.Triple.Statement.{Contract, Triple}
 use denote.Triple.Call.{calls-at}
 use denote.Triple.Clauses.{ensured, lasts}
 use denote.Triple.Table.{entered, cited}
-use denote.Triple.Walked.{says, Stays, stay-ref, gave-slice, stay-none, walkOf, goes-ref, goes-gave-slice, goes-none, Walks, ends-at, walked, walk-meets}
+use denote.Triple.Walked.{says, Stays, stay-ref, gave-slice, stay-none, walkOf, goes-ref, goes-gave-slice, goes-none}
+use denote.Triple.Walked.{Walks, ends-at, walked, walk-meets}
 use denote.Exit.{yes}
 use Rattle.model.specs.declared.Claimed.{Claimed}
 use Rattle.model.specs.declared.Ledger.{Ledger}
@@ -119,7 +121,8 @@ module _ {M : Type 1} (𝓤 : URA M) (H : Heap 𝓤) (A : Atoms 𝓤) (W : Given
   to-core = (((κ′, tt), (q′, tt), tt, asks, (valsL h, (s ∷ [], (vint w64 asked ∷ [], tt)))), tt)
 
   goes : Is L.the-row h (valsL h)
-      → ent 𝓤 (sep 𝓤 (sep 𝓤 (A .lft κ′ q′) (sem 𝓤 H A ftrue)) (sem 𝓤 H A (MutSlice (named 1) κ′ u32 .own x (s ∷ [])))) (Core 𝓤 H A at-mem run .pre to-core)
+      → ent 𝓤 (sep 𝓤 (sep 𝓤 (A .lft κ′ q′) (sem 𝓤 H A ftrue)) (sem 𝓤 H A (MutSlice (named 1) κ′ u32 .own x (s ∷ []))))
+      (Core 𝓤 H A at-mem run .pre to-core)
   goes is =
       qed W ((‵ (flft κ′ q′) ⊛ ‵ ftrue) ∷ ‵ (MutSlice (named 1) κ′ u32 .own x (s ∷ [])) ∷ []) ∵
       nothing ! $ owned ! u64 (Is u64) (uint-makes 𝓤 H A W w64) asked _ (refl, asked-fits) $ fjoin ! $ move ! (2 ∷ 0 ∷ []) $ fjoin ! $
@@ -155,7 +158,8 @@ module _ {M : Type 1} (𝓤 : URA M) (H : Heap 𝓤) (A : Atoms 𝓤) (W : Given
       (held r, (zs, (tt, tt))) (tt, (l, (tt, tt)))) $
       says ! e $
       move ! (2 ∷ 3 ∷ []) $ join ! $ frame ! $ feqI ! (List Val) (vptr b o ∷ []) (vptr b o ∷ []) refl $ fjoin3 ! $
-      nothing ! $ owned ! u64 (Is u64) (uint-makes 𝓤 H A W w64) n _ (refl, n-fits) $ fjoin ! $ move ! (2 ∷ 0 ∷ []) $ fjoin ! $ move ! (1 ∷ 0 ∷ []) $ fjoin ! $
+      nothing ! $
+      owned ! u64 (Is u64) (uint-makes 𝓤 H A W w64) n _ (refl, n-fits) $ fjoin ! $ move ! (2 ∷ 0 ∷ []) $ fjoin ! $ move ! (1 ∷ 0 ∷ []) $ fjoin ! $
       owned ! N.the-row (Is N.the-row) (LL.makes N.the-type N′.the-plain 𝓤 H A) (r .answer) _ isN $ move ! (1 ∷ 0 ∷ []) $ done !
 
   -- ---- the walk

@@ -16,7 +16,7 @@ use Rattle.replay.proofs.fits.Tie as tie
 abbrev tests : tie.Start → List Bool
 tests s =
     let a = s .args in
-    sizesOf (a .calls) (a .serials) (a .orders) (a .numbers) (a .details) (a .given) (a .compositions)
+    sizesOf (a .calls) (a .serials) (a .orders) (a .numbers) (a .details) (a .granted) (a .compositions)
 
 no : (i : ℕ) (s : tie.Start) → getD (tests s) i true ≡ false → false ≡ all (tests s)
 no i s e = sym (one-fails i (tests s) e)

@@ -1,41 +1,33 @@
 -- `replay::run` meets its contract: the answers of the first i calls stand in the buffers.
 use mathlib.Core.Path.{_≡_}
-use mathlib.Core.List.{List}
-use Prim.Native.Nat.{ℕ, _-_}
+use Prim.Native.Nat.{_-_}
 use native.Mathlib.Omega.{arith}
 use lib.ListN.{length, take}
 use lib.Seq.{take-all}
 use denote.Ref.{now}
 use borrow.Author.Needs.{needs}
-use Rattle.replay.specs.Replay.{Script, Buffers, callsOf}
+use Rattle.replay.specs.Replay.{Script, script, Buffers, buffers, callsOf}
 use Rattle.replay.proofs.Scripts.{Fit, fit-of}
 use Rattle.replay.proofs.Steps.{did, Progress, start, onward}
 use Rattle.replay.proofs.run.Statement.{statement}
 use Rattle.replay.proofs.run.Tie as tie
 
-abbrev scripted : List ℕ → List ℕ → List ℕ → Script
-scripted calls serials orders = record { calls = calls; serials = serials; orders = orders }
-
-abbrev buffers : List ℕ → List ℕ → List ℕ → List ℕ → List ℕ → Buffers
-buffers column numbers details given compositions =
-    record { column = column; numbers = numbers; details = details; given = given; compositions = compositions }
-
 abbrev Inv-loop : tie.InvT-loop
-Inv-loop calls serials orders column₀ numbers₀ details₀ given₀ compositions₀ l₀ i₀ column numbers details given compositions l i =
-    Progress l₀ (callsOf (scripted calls serials orders)) (buffers column₀ numbers₀ details₀ given₀ compositions₀)
-    (buffers column numbers details given compositions) l i
+Inv-loop calls serials orders column₀ numbers₀ details₀ granted₀ compositions₀ l₀ i₀ column numbers details granted compositions l i =
+    Progress l₀ (callsOf (script calls serials orders)) (buffers column₀ numbers₀ details₀ granted₀ compositions₀)
+    (buffers column numbers details granted compositions) l i
 
 abbrev μ-loop : tie.MeasureT-loop
-μ-loop calls serials orders column₀ numbers₀ details₀ given₀ compositions₀ l₀ i₀ column numbers details given compositions l i = length calls - i
+μ-loop calls serials orders column₀ numbers₀ details₀ granted₀ compositions₀ l₀ i₀ column numbers details granted compositions l i = length calls - i
 
-abbrev script : tie.Start Inv-loop μ-loop → Script
-script s = scripted (now (s .args .calls)) (now (s .args .serials)) (now (s .args .orders))
+abbrev scripted : tie.Start Inv-loop μ-loop → Script
+scripted s = script (now (s .args .calls)) (now (s .args .serials)) (now (s .args .orders))
 
 abbrev lent : tie.Start Inv-loop μ-loop → Buffers
-lent s = buffers (now (s .args .column)) (now (s .args .numbers)) (now (s .args .details)) (now (s .args .given)) (now (s .args .compositions))
+lent s = buffers (now (s .args .column)) (now (s .args .numbers)) (now (s .args .details)) (now (s .args .granted)) (now (s .args .compositions))
 
-fit : (s : tie.Start Inv-loop μ-loop) → Fit (script s) (lent s)
-fit s = fit-of (script s) (lent s) (s .pre)
+fit : (s : tie.Start Inv-loop μ-loop) → Fit (scripted s) (lent s)
+fit s = fit-of (scripted s) (lent s) (s .pre)
 
 put-requires : tie.Need-put-requires Inv-loop μ-loop
 put-requires c κs =
@@ -45,15 +37,16 @@ put-requires c κs =
     let f = fit (test .before .before .before .before .before .before .before .before .before .before) in (
       omega (arith, h, w .for-numbers, f .for-numbers),
       omega (arith, h, w .for-details, f .for-details),
-      omega (arith, h, w .for-given, f .for-given),
+      omega (arith, h, w .for-granted, f .for-granted),
       omega (arith, h, w .for-compositions, f .for-compositions),
     )
 
 add-i : tie.Need-add-i Inv-loop μ-loop
 add-i c =
-    let called = c .before .before .before .before .before .before .before .before .before .before .before .before .before .before .before .before .before in
-    let test = called .before .before .before .before .before in
-    omega (arith, test .loop-test .taken, test .before .before .before .before .before .before .before .before .before .before .good .1 .0 .0)
+    let after = c .before .before .before .before .before .before .before .before .before in
+    let test = after .before .before .before .before .before .before .before .before .before .before .before .before .before in
+    let s = test .before .before .before .before .before .before .before .before .before .before in
+    omega (arith, test .loop-test .taken, s .good .1 .0 .0)
 
 loop-again : tie.Need-loop-again Inv-loop μ-loop
 loop-again c =
@@ -65,15 +58,16 @@ loop-again c =
     let h = test .loop-test .taken in
     let call = called .call in
     let put = after .put in
-    onward (s .args .ledger) (script s) (lent s) (buffers (at .column) (at .numbers) (at .details) (at .given) (at .compositions))
+    onward (s .args .ledger) (scripted s) (lent s) (buffers (at .column) (at .numbers) (at .details) (at .granted) (at .compositions))
     (buffers (call .last .1 .0) (put .last .1 .1 .0) (put .last .1 .1 .1 .0) (put .last .1 .1 .1 .1 .0) (put .last .1 .1 .1 .1 .1 .0))
-    (at .l) (at .i) (call .result) (fit s) h (at .inv) (did _ _ _ _ _ (rw (fit s .call-at (at .i) h) (call .ensures))) (call .kept .1 .0) (put .ensures)
+    (at .l) (at .i) (call .result) (fit s) h (at .inv) (did _ _ _ _ _ (rw (fit s .call-at (at .i) h) (call .ensures)))
+    (call .kept .1 .0) (put .ensures)
 
 returns : tie.Need-returns Inv-loop μ-loop
 returns c =
     let s = c .before .before .before .before .before .before .before .before .before .before in
     let at = c .before .loop in
-    let cs = callsOf (script s) in
+    let cs = callsOf (scripted s) in
     let done : take (at .i) cs ≡ cs = take-all (at .i) cs (omega (arith, fit s .count, c .loop-test .left)) in
     rw done at (at .inv .so-far)
 
@@ -83,7 +77,7 @@ run-spec =
     (tie.spec
     Inv-loop
     μ-loop
-    (λ c. let s = c .before .before .before .before .before .before .before .before in start (s .args .ledger) (callsOf (script s)) (lent s))
+    (λ c. let s = c .before .before .before .before .before .before .before .before in start (s .args .ledger) (callsOf (scripted s)) (lent s))
     (λ c. search needs)
     (λ c. let s = c .before .before .before .before .before .before .before .before .before .before .before .before in omega (
       arith,
@@ -117,6 +111,6 @@ run-spec =
     (λ c. c .before .loop .inv .for-column)
     (λ c. c .before .loop .inv .for-numbers)
     (λ c. c .before .loop .inv .for-details)
-    (λ c. c .before .loop .inv .for-given)
+    (λ c. c .before .loop .inv .for-granted)
     (λ c. c .before .loop .inv .for-compositions)
     returns)

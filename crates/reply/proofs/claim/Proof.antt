@@ -21,7 +21,9 @@ fits : (c : tie.Else1) → let s = c .before .before .before .before in consiste
 fits c = sym (c .before .before .examine .ensures .fits) ∙ not-false _ (c .if1 .left)
 
 returns : tie.Need-returns
-returns c = c .refused .ensures ∙ sym (answered-16 _ _ _ (sym (c .before .before .before .examine .ensures .fits) ∙ not-true _ (c .before .if1 .taken)))
+returns c =
+    let apart = sym (c .before .before .before .examine .ensures .fits) ∙ not-true _ (c .before .if1 .taken) in
+    c .refused .ensures ∙ sym (answered-16 _ _ _ apart)
 
 returns-2 : tie.Need-returns-2
 returns-2 c = c .refused2 .ensures ∙ sym (answered-by _ _ _ (fits (c .before .before)) ∙ claim-none _ _ _ _ (c .before .if2 .taken))
@@ -43,7 +45,8 @@ stands : (c : tie.Then4)
 stands c =
     let e = c .before .before .before .before .before .before in
     let a = e .before .before .before .before .args in
-    often-some (a .order) (written (a .ledger) (now (a .orders))) (rw (e .before .before .examine .ensures .hits (not-false _ (e .if1 .left))) at (c .if4 .taken))
+    let hits = e .before .before .examine .ensures .hits (not-false _ (e .if1 .left)) in
+    often-some (a .order) (written (a .ledger) (now (a .orders))) (rw hits at (c .if4 .taken))
 
 find-requires : tie.Need-find-requires
 find-requires c κs =

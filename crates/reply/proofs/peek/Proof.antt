@@ -23,7 +23,9 @@ left c =
     omega (arith, c .if2 .left, e .before .before .examine .ensures .count (not-false _ (e .if1 .left)))
 
 returns : tie.Need-returns
-returns c = c .refused .ensures ∙ sym (answered-16 _ _ _ (sym (c .before .before .before .examine .ensures .fits) ∙ not-true _ (c .before .if1 .taken)))
+returns c =
+    let apart = sym (c .before .before .before .examine .ensures .fits) ∙ not-true _ (c .before .if1 .taken) in
+    c .refused .ensures ∙ sym (answered-16 _ _ _ apart)
 
 returns-2 : tie.Need-returns-2
 returns-2 c =

@@ -37,7 +37,8 @@ returns-3 c =
 returns-4 : tie.Need-returns-4
 returns-4 c =
     let s = c .before .before .before .before .before .before in
-    c .refused4 .ensures ∙ sym (serial-above _ _ (s .pre .0) _ (omega (arith, s .pre .1, c .before .before .before .if2 .left)) (c .before .if4 .taken))
+    let inside = c .before .before .before .if2 .left in
+    c .refused4 .ensures ∙ sym (serial-above _ _ (s .pre .0) _ (omega (arith, s .pre .1, inside)) (c .before .if4 .taken))
 
 returns-5 : tie.Need-returns-5
 returns-5 c =

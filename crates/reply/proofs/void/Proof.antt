@@ -13,7 +13,9 @@ fits : (c : tie.Else1) → let s = c .before .before .before .before in consiste
 fits c = sym (c .before .before .examine .ensures .fits) ∙ not-false _ (c .if1 .left)
 
 returns : tie.Need-returns
-returns c = c .refused .ensures ∙ sym (answered-16 _ _ _ (sym (c .before .before .before .examine .ensures .fits) ∙ not-true _ (c .before .if1 .taken)))
+returns c =
+    let apart = sym (c .before .before .before .examine .ensures .fits) ∙ not-true _ (c .before .if1 .taken) in
+    c .refused .ensures ∙ sym (answered-16 _ _ _ apart)
 
 place-requires : tie.Need-place-requires
 place-requires c κs = (fits c, c .before .before .examine .ensures .count (not-false _ (c .if1 .left)))

@@ -6,10 +6,10 @@ use Rattle.vectors.proofs.interleave.answers.Statement.{statement}
 use Rattle.vectors.proofs.interleave.answers.Tie as tie
 
 abbrev Inv-loop : tie.InvT-loop
-Inv-loop numbers details given compositions n i₀ i = i ≤ length numbers
+Inv-loop numbers details granted compositions n i₀ i = i ≤ length numbers
 
 abbrev μ-loop : tie.MeasureT-loop
-μ-loop numbers details given compositions n i₀ i = length numbers - i
+μ-loop numbers details granted compositions n i₀ i = length numbers - i
 
 pub answers-spec : {M : Type 1} → statement M
 answers-spec =
