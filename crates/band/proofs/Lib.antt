@@ -1,6 +1,8 @@
+pub mod Numbers
 pub mod Answers
 pub mod Bands
 pub mod Slides
+pub mod Stretches
 pub mod Rows
 pub mod Nonempty
 pub mod Runs

@@ -122,6 +122,33 @@ fn between(low: usize, x: usize, high: usize) -> usize
     x + 1
 }
 
+// Row `k + 1` in three: up to `first` cells only enter the window, up to `second` they enter and leave it (`both`) or neither, up to `end` they only leave it.
+struct Stretches {
+    first: usize,
+    second: usize,
+    end: usize,
+    both: bool,
+}
+
+fn stretches_of(row: Row, next: Row, m: usize) -> Stretches
+    requires { ⌜ (row .low ≤ 255) × (row .high ≤ 255) × (m ≤ 255) × (next .low ≤ next .high) × (next .high ≤ 255) ⌝ }
+    ensures { λ r. ⌜ (r .end ≡ next .high + 1)
+        × Stretch row next m (record { from = next .low; end = r .first; enters = true; leaves = false })
+        × Stretch row next m (record { from = r .first; end = r .second; enters = r .both; leaves = r .both })
+        × Stretch row next m (record { from = r .second; end = r .end; enters = false; leaves = true }) ⌝ }
+{
+    let full = row.low + m;
+    let end = next.high + 1;
+    let least = walsh::lesser(row.high, full);
+    let first = between(next.low, least, end);
+    Stretches {
+        first,
+        second: between(first, row.high + full - least, end),
+        end,
+        both: full < row.high,
+    }
+}
+
 // Fills row `k + 1` from row `k`, or stops at a number over 2^63 - 1 and answers false.
 fn fill_row(upper: &[u8], total: usize, k: usize, row: Row, next: Row, cells: &mut [u64]) -> bool
     requires { ⌜ Filling (now upper) total k row next (length (now cells)) × Rows-hold (now upper) total (now cells) k ⌝ }
@@ -132,15 +159,10 @@ fn fill_row(upper: &[u8], total: usize, k: usize, row: Row, next: Row, cells: &m
         return false;
     }
     let m = bound(upper, k);
-    let full = row.low + m;
-    let end = next.high + 1;
-    let least = walsh::lesser(row.high, full);
-    let first = between(next.low, least, end);
-    let second = between(first, row.high + full - least, end);
-    let both = full < row.high;
+    let s = stretches_of(row, next, m);
     let grows = Span {
         from: next.low,
-        end: first,
+        end: s.first,
         enters: true,
         leaves: false,
     };
@@ -149,18 +171,18 @@ fn fill_row(upper: &[u8], total: usize, k: usize, row: Row, next: Row, cells: &m
         return false;
     }
     let slides = Span {
-        from: first,
-        end: second,
-        enters: both,
-        leaves: both,
+        from: s.first,
+        end: s.second,
+        enters: s.both,
+        leaves: s.both,
     };
     let w2 = fill_span(upper, total, k, m, row, next, cells, slides, w1);
     if LIMIT < w2 {
         return false;
     }
     let shrinks = Span {
-        from: second,
-        end,
+        from: s.second,
+        end: s.end,
         enters: false,
         leaves: true,
     };
