@@ -4,7 +4,6 @@ pub mod Bands
 pub mod Slides
 pub mod Stretches
 pub mod Rows
-pub mod Nonempty
 pub mod Runs
 pub mod Picks
 pub mod Parts

@@ -1,5 +1,5 @@
--- The three stretches of a row that is filled: cells enter the window up to a, the highest sum of the row before, and leave it past b, its lowest sum and
--- the bound; l is the smaller of the two, a + b - l the larger.
+-- The three stretches of a row that is filled: cells enter the window up to a, the highest sum of the row before, and leave it past b, its lowest
+-- sum and the bound; l is the smaller of the two, a + b - l the larger.
 use mathlib.Core.Path.{_≡_}
 use mathlib.Core.Bool.{true, false}
 use Prim.Native.Nat.{ℕ, _+_, _-_, _≤_, _<_, min}

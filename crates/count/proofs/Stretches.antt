@@ -11,7 +11,7 @@ use Rattle.walsh.specs.Sums.{sumTo}
 use Rattle.bounds.specs.Edition.{whole}
 use Rattle.band.specs.Band.{cap}
 use Rattle.band.specs.Window.{Slid}
-use Rattle.band.proofs.Numbers.{no, no′}
+use Rattle.band.proofs.Numbers.{no, no′, below-256}
 use Rattle.band.proofs.Bands.{low-next}
 use Rattle.band.proofs.Stretches.{up-to, between, beyond}
 use Rattle.count.specs.Row.{Passing, Row-counts, Passed, Stretch, IsStretches}
@@ -90,14 +90,11 @@ module _ (ms : List ℕ) (r : ℕ) (part : Part) (p : Passing ms r part) (w : �
   unwritten long old s small =
       record {
         long = long;
-        below = λ u i a b. old u i a (less (i .high) (p .small));
+        below = λ u i a b. old u i a (below-256 (le-trans (i .high) (p .small)));
         above = λ u i a b. absurd (omega (arith, i .high, i .inside, p .to .high, a));
         window = s;
         small = small;
       }
-    where
-      less : {u : ℕ} → u ≤ r → r ≤ 255 → u < 256
-      less a b = omega arith
 
   pub written : (t : ℕ) → t ≡ part .next .low → Passed ms r (part .k) t w cells → Row-counts ms r cells (part .k + 1) 0 256
   written t e s u i a b = s .above u i (le (i .low)) b

@@ -1,4 +1,5 @@
-// N in one row of cells, a cell for each sum: the row of one part more is written over it from its highest sum down, by a window that slides along it.
+// N in one row of cells, a cell for each sum: the row of one part more is written over it from its highest sum down, by a window that slides along
+// it.
 ghost use mathlib.Core.Path.{_≡_};
 ghost use mathlib.Core.Bool.{true, false};
 ghost use Prim.Native.Nat.{_+_, _-_, _≤_, _<_, min};
@@ -140,8 +141,8 @@ fn fall(
     At { t, window: w }
 }
 
-// The row after in three, from `from` down: to `first` cells only enter the window, to `second` they enter and leave it (`both`) or neither, then they only
-// leave it.
+// The row after in three, from `from` down: to `first` cells only enter the window, to `second` they enter and leave it (`both`) or neither, then
+// they only leave it.
 struct Stretches {
     from: usize,
     first: usize,
@@ -258,7 +259,8 @@ fn count_row(upper: &[u8], total: u32, all: usize) -> Counted
     table::within_limit(n)
 }
 
-// N, or the refusal. "N of a puzzle edition of 2 to 16 sheets is read from" the constant table; where N stands there, the checks 1 to 4 refuse nothing.
+// N, or the refusal. "N of a puzzle edition of 2 to 16 sheets is read from" the constant table; where N stands there, the checks 1 to 4 refuse
+// nothing.
 pub fn number(upper: &[u8], total: u32) -> Counted
     ensures { λ r. ⌜ r ≡ numberOf (now (upper .entry)) total ⌝ }
 {

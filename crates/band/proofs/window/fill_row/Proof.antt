@@ -73,7 +73,8 @@ returns-4 c =
     let s = at-stretches .before .before .before .before .before .before .before in
     let a = s .args in (
       λ h. let row = shrunk .ensures .0 (lt-cap (leb-true _ _ h)) in
-          row-filled (now (a .upper)) (a .total) (a .k) _ (shrunk .last .1 .1 .1 .1 .1 .1 .0) (row .rows) (row .row) (past (s .pre .0 .to .high) (at-stretches .stretches-of .ensures .0)),
+          row-filled (now (a .upper)) (a .total) (a .k) _ (shrunk .last .1 .1 .1 .1 .1 .1 .0) (row .rows) (row .row)
+          (past (s .pre .0 .to .high) (at-stretches .stretches-of .ensures .0)),
       λ h. shrunk .ensures .1 (leb-false _ _ h),
     )
   where

@@ -26,7 +26,8 @@ returns c =
         high = second .1;
         moves = λ t l h.
             let fewer = lt-of-lt-of-le (lt-of-le-of-lt l h) (second .1) in
-            sliding (a .row) (a .m) (least .result) t (least .ensures) (lt-of-lt-of-le (first .3 fewer) l) (le-last h (second .2 (lt-of-le-of-lt l h)));
+            sliding (a .row) (a .m) (least .result) t (least .ensures) (lt-of-lt-of-le (first .3 fewer) l)
+            (le-last h (second .2 (lt-of-le-of-lt l h)));
       },
       record {
         low = le-trans (first .0) (second .0);

@@ -27,7 +27,8 @@ fall-requires c κs =
       s .pre .0,
       grows (now (a .upper)) (a .total) (a .part) (s .pre .0) (stretches .result) (stretches .ensures),
       rw (stretches .ensures .from)
-          (unwritten (now (a .upper)) (a .total) (a .part) (s .pre .0) _ (now (a .cells)) (s .pre .1) (s .pre .2) (at-top .top .ensures .0 small) small),
+          (unwritten (now (a .upper)) (a .total) (a .part) (s .pre .0) _ (now (a .cells)) (s .pre .1) (s .pre .2)
+          (at-top .top .ensures .0 small) small),
       s .pre .3,
     )
 
@@ -48,8 +49,13 @@ fall-requires-3 c κs =
     let a = s .args in
     let stretches = at-stretches .stretches-of in
     let grown = at-grown .before .before .before .before .before .fall .ensures .0 (lt-cap (at-grown .before .if2 .left)) in
-    let slid = c .before .before .before .before .before .fall2 .ensures .0 (lt-cap (c .before .if3 .left)) in
-    (s .pre .0, shrinks (now (a .upper)) (a .total) (a .part) (s .pre .0) (stretches .result) (stretches .ensures) _ (grown .0) _ (slid .0), slid .1, s .pre .3)
+    let slid = c .before .before .before .before .before .fall2 .ensures .0 (lt-cap (c .before .if3 .left)) in (
+      s .pre .0,
+      shrinks (now (a .upper)) (a .total) (a .part) (s .pre .0) (stretches .result) (stretches .ensures) _ (grown .0) _
+          (slid .0),
+      slid .1,
+      s .pre .3,
+    )
 
 returns-4 : tie.Need-returns-4
 returns-4 c =
@@ -63,7 +69,8 @@ returns-4 c =
     let slid = at-slid .before .before .before .before .before .fall2 .ensures .0 (lt-cap (at-slid .before .if3 .left)) in
     let shrunk = c .before .before .before .fall3 .ensures in (
       λ q. let row = shrunk .0 (lt-cap (leb-true _ _ q)) in
-          let low = ends (now (a .upper)) (a .total) (a .part) (s .pre .0) (stretches .result) (stretches .ensures) _ (grown .0) _ (slid .0) _ (row .0) in
+          let low = ends (now (a .upper)) (a .total) (a .part) (s .pre .0) (stretches .result) (stretches .ensures) _ (grown .0) _ (slid .0) _
+          (row .0) in
           written (now (a .upper)) (a .total) (a .part) (s .pre .0) _ _ _ low (row .1),
       λ q. shrunk .1 (leb-false _ _ q),
     )
