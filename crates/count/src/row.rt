@@ -178,50 +178,22 @@ fn pass(upper: &[u8], total: usize, part: Part, cells: &mut [u64], careful: bool
         return false;
     }
     let s = stretches_of(part);
-    let first = At {
+    let at = At {
         t: s.from,
         window: w,
     };
-    let second = fall(
-        upper,
-        total,
-        part,
-        cells,
-        first,
-        s.first,
-        true,
-        false,
-        careful,
-    );
-    if LIMIT < second.window {
+    let at = fall(upper, total, part, cells, at, s.first, true, false, careful);
+    if LIMIT < at.window {
         return false;
     }
-    let third = fall(
-        upper,
-        total,
-        part,
-        cells,
-        second,
-        s.second,
-        s.both,
-        s.both,
-        careful,
-    );
-    if LIMIT < third.window {
+    let both = s.both;
+    let at = fall(upper, total, part, cells, at, s.second, both, both, careful);
+    if LIMIT < at.window {
         return false;
     }
-    let last = fall(
-        upper,
-        total,
-        part,
-        cells,
-        third,
-        part.next.low,
-        false,
-        true,
-        careful,
-    );
-    last.window <= LIMIT
+    let low = part.next.low;
+    let at = fall(upper, total, part, cells, at, low, false, true, careful);
+    at.window <= LIMIT
 }
 
 // The number of compositions, or 2^63 where that is less. Numbers are looked at only from the first row on that `few_parts` does not bound.
