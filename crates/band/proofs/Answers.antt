@@ -29,7 +29,8 @@ module _ (ms : List ℕ) (r : ℕ) where
   unfolding surveyOf
   survey-refused n d e l = rw (by-refusal shape _ _ n d e l, e)
 
-  pub survey-accepted : (a s : ℕ) → shape .number ≡ 0 → a ≡ whole ms → s ≡ bandSize ms r → record { number = 0; detail = 0; all = a; size = s } ≡ surveyOf ms r
+  pub survey-accepted : (a s : ℕ) → shape .number ≡ 0 → a ≡ whole ms → s ≡ bandSize ms r
+      → record { number = 0; detail = 0; all = a; size = s } ≡ surveyOf ms r
   unfolding surveyOf
   survey-accepted a s e ea es = rw (by-acceptance shape _ _ e, ea, es)
 

@@ -44,7 +44,8 @@ module _ (ms : List ℕ) (r : ℕ) where
   -- and so is what each of its values in the order leaves
   pub band-value : (k rem t i : ℕ) → k < length ms → InBand ms r (suc k) rem → i < partChoices ms k rem → InBand ms r k (rem - partValue ms k rem t i)
   band-value k rem t i l b h =
-      band-down k rem (partValue ms k rem t i) l b (value-low (least ms k rem) (most ms k rem) (isOdd t) i h) (value-high (least ms k rem) (most ms k rem) (isOdd t) i h)
+      band-down k rem (partValue ms k rem t i) l b (value-low (least ms k rem) (most ms k rem) (isOdd t) i h)
+      (value-high (least ms k rem) (most ms k rem) (isOdd t) i h)
 
   pub band-ends : (k t : ℕ) → lowest ms r k ≤ t → t ≤ highest ms r k → InBand ms r k t
   band-ends k t l h = record { low = omega arith; high = omega arith; inside = omega arith }
@@ -69,7 +70,8 @@ module _ (ms : List ℕ) (r : ℕ) where
   cell-differs k t u b b′ l = omega (arith, b .low)
 
 -- the band's low end does not fall, and is at most its high end
-pub low-high : (ms : List ℕ) (r k : ℕ) → r ≤ whole ms → k < length ms → (lowest ms r (k + 1) ≤ highest ms r (k + 1)) × (lowest ms r k ≤ lowest ms r (k + 1))
+pub low-high : (ms : List ℕ) (r k : ℕ) → r ≤ whole ms → k < length ms
+    → (lowest ms r (k + 1) ≤ highest ms r (k + 1)) × (lowest ms r k ≤ lowest ms r (k + 1))
 low-high ms r k reach l =
     let m = sumTo-mono ms (suc k) (length ms) l in
     rw add-one (omega (arith, m), omega arith)

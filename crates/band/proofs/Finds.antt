@@ -1,4 +1,4 @@
--- Laws of what the two directions have in common: the answer of `find` case by case.
+-- What the two directions have in common: the answers of `serial_of` and `composition_of`, case by case.
 use mathlib.Core.Path.{_≡_, refl, sym, ap, _∙_}
 use mathlib.Core.List.{List}
 use Prim.Native.Nat.{ℕ, suc, _+_, _-_, _≤_, _<_}
@@ -9,6 +9,7 @@ use Rattle.walsh.specs.Order.{Composition, count, countOf}
 use Rattle.walsh.specs.Serial.{serialOf, compositionOf}
 use Rattle.walsh.specs.Rank.{rankOf}
 use Rattle.walsh.proofs.Serials.{serial-rank}
+use Rattle.walsh.proofs.Successors.{count-pos}
 use Rattle.bounds.specs.Refusal.{refused, firstRefusal}
 use Rattle.bounds.specs.Edition.{whole, editionChecks, shapeChecks, cellsOf}
 use Rattle.bounds.specs.Places.{compositionChecks}
@@ -20,10 +21,9 @@ use Rattle.band.specs.Band.{bandSize}
 use Rattle.band.specs.declared.Surveyed.{Surveyed}
 use Rattle.band.specs.Band.{surveyOf}
 use Rattle.band.proofs.Answers.{surveyed-accepted}
-use Rattle.band.proofs.Nonempty.{count-some}
 use Rattle.band.proofs.Rows.{size-small}
 use Rattle.bounds.proofs.Editions.{shapely}
-use Rattle.bounds.proofs.Refusals.{refusal-first, refusal-later, by-refusal, by-acceptance}
+use Rattle.bounds.proofs.Refusals.{refusal-first, refusal-later, by-refusal, by-acceptance, same-number}
 use Rattle.band.specs.Find.{rankChecks, clamp, Sized, foundBy, foundOf}
 use Rattle.band.specs.declared.find.Found.{Found}
 use Rattle.band.specs.declared.find.Task.{Task}
@@ -53,14 +53,16 @@ found-refused : (v : Refusal) (count serial : ℕ) (g : List ℕ) (n d : ℕ) �
 found-refused v count serial g n d e l = rw (by-refusal v _ _ n d e l, e)
 
 some-number : {v : Refusal} {n d : ℕ} → v ≡ refused n d → 0 < n → v .number ≡ 0 → ⊥
-some-number e l z = let q = ap (λ (w : Refusal). w .number) e in omega arith
+some-number e l z = let q = same-number e in omega arith
 
 module _ (ms : List ℕ) (r : ℕ) where
   -- an edition that is refused
-  pub found-edition : (task : Task) (g : List ℕ) (n d : ℕ) → firstRefusal (editionChecks ms r) ≡ refused n d → 0 < n → nothing n d ≡ foundOf task ms r g
+  pub found-edition : (task : Task) (g : List ℕ) (n d : ℕ) → firstRefusal (editionChecks ms r) ≡ refused n d → 0 < n
+      → nothing n d ≡ foundOf task ms r g
   unfolding foundOf
   found-edition Rank g n d e l =
-      found-refused (firstRefusal (rankChecks ms r g)) _ _ _ n d (refusal-first (editionChecks ms r) (compositionChecks ms r g) (some-number e l) ∙ e) l
+      found-refused (firstRefusal (rankChecks ms r g)) _ _ _ n d
+      (refusal-first (editionChecks ms r) (compositionChecks ms r g) (some-number e l) ∙ e) l
   found-edition (Unrank s) g n d e l = found-refused (firstRefusal (editionChecks ms r)) _ _ _ n d e l
 
   pub found-shape : (task : Task) (g : List ℕ) (n d : ℕ) → firstRefusal (shapeChecks ms r) ≡ refused n d → 0 < n → nothing n d ≡ foundOf task ms r g
@@ -88,7 +90,8 @@ module _ (ms : List ℕ) (r : ℕ) where
         let none : firstRefusal (rankChecks ms r g) ≡ refused 0 0 = later ∙ composition-passes ms r g comp in
         rw (none, is, ec)
 
-    pub found-entry : (count asked serial : ℕ) (cells : List ℕ) → count ≡ countOf ms r → serial ≡ clamp (countOf ms r) asked → cells ≡ cellsOf (compositionOf ms r serial)
+    pub found-entry : (count asked serial : ℕ) (cells : List ℕ) → count ≡ countOf ms r → serial ≡ clamp (countOf ms r) asked
+        → cells ≡ cellsOf (compositionOf ms r serial)
         → record { number = 0; detail = 0; count = count; serial = serial; composition = cells } ≡ foundOf (Unrank asked) ms r g
     unfolding foundOf
     found-entry count asked serial cells ec es el = rw (by-acceptance (firstRefusal (editionChecks ms r)) _ _ accepted, el, es, ec)
@@ -98,5 +101,5 @@ pub clamp-place : (ms : List ℕ) (r n s asked : ℕ) → r ≤ whole ms → n �
     → (0 < s) × (s - 1 < count ms (length ms) r) × (s ≡ clamp (countOf ms r) asked)
 unfolding countOf
 clamp-place ms r n s asked reach en es =
-    let some : 0 < count ms (length ms) r = count-some ms r reach in
+    let some : 0 < count ms (length ms) r = count-pos ms r reach in
     (omega arith, omega arith, es ∙ ap (λ (m : ℕ). clamp m asked) en)

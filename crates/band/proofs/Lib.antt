@@ -1,8 +1,9 @@
+pub mod Numbers
 pub mod Answers
 pub mod Bands
 pub mod Slides
+pub mod Stretches
 pub mod Rows
-pub mod Nonempty
 pub mod Runs
 pub mod Picks
 pub mod Parts

@@ -3,7 +3,7 @@ use mathlib.Core.Path.{_≡_, sym, ap, _∙_, subst}
 use mathlib.Core.List.{List}
 use Prim.Native.Nat.{ℕ, suc, _+_, _-_, _*_, _≤_, _<_, min}
 use native.Mathlib.Omega.{arith}
-use native.Mathlib.Nat.{add-comm}
+use native.Mathlib.Nat.{add-comm, min-le-left}
 use native.Mathlib.Numerals.{add-one}
 use lib.ListN.{length, getD, set}
 use lib.Seq.{getD-set-same, getD-set-other}
@@ -20,9 +20,6 @@ use Rattle.band.proofs.Bands.{start-small, cell-lt, cell-room, cell-ear
 
 back : (a b : ℕ) → a + b - b ≡ a
 back a b = omega arith
-
-min-low : (a b : ℕ) → min a b ≤ a
-min-low a b = omega arith
 
 module _ (ms : List ℕ) (r k : ℕ) (reach : r ≤ whole ms) (k-lt : k < length ms) where
   pub part-fits : sumTo ms k + getD ms k 0 ≤ whole ms
@@ -44,7 +41,8 @@ module _ (ms : List ℕ) (r k : ℕ) (reach : r ≤ whole ms) (k-lt : k < length
     pub row-small : r ≤ 255 → row .start ≤ 256 * k
     row-small s = rw (i .start) (start-small ms r s k)
 
-    pub row-up : (to : Row) (m : ℕ) → m ≡ getD ms k 0 → to .start ≡ row .start + (row .high + 1 - row .low) → to .left ≡ row .left + m → to .all ≡ row .all
+    pub row-up : (to : Row) (m : ℕ) → m ≡ getD ms k 0 → to .start ≡ row .start + (row .high + 1 - row .low) → to .left ≡ row .left + m
+        → to .all ≡ row .all
         → to .low ≡ r - (row .all - (row .left + m)) → to .high ≡ min r (row .left + m) → IsRow ms r (k + 1) to
     row-up to m em e1 e2 e3 e4 e5 =
         rw add-one
@@ -62,14 +60,23 @@ module _ (ms : List ℕ) (r k : ℕ) (reach : r ≤ whole ms) (k-lt : k < length
 
     pub down-row : (to : Row) (m : ℕ) → m ≡ getD ms k 0 → to .left ≡ row .left - m → to .all ≡ row .all
         → to .low ≡ r - (row .all - (row .left - m)) → to .high ≡ min r (row .left - m)
-        → (to .left ≡ sumTo ms k) × (to .all ≡ whole ms) × (to .low ≡ lowest ms r k) × (to .high ≡ highest ms r k) × (to .low ≤ to .high) × (to .high ≤ r)
+        → (to .left ≡ sumTo ms k) × (to .all ≡ whole ms) × (to .low ≡ lowest ms r k) × (to .high ≡ highest ms r k) × (to .low ≤ to .high)
+        × (to .high ≤ r)
         × (to .high + 1 - to .low + rowStart ms r k ≡ row .start)
     down-row to m em e2 e3 e4 e5 =
         let el : row .left - m ≡ sumTo ms k = rw (down-left, em) (back (sumTo ms k) (getD ms k 0)) in
         let elo : to .low ≡ lowest ms r k = e4 ∙ rw (el, i .all) in
         let ehi : to .high ≡ highest ms r k = e5 ∙ rw el in
-        let ew : to .high + 1 - to .low ≡ width ms r k = rw (ehi, elo, add-one) in
-        (e2 ∙ el, e3 ∙ i .all, elo, ehi, rw (elo, ehi) row-low, rw ehi (min-low r (sumTo ms k)), rw (ew, i .start, add-one) (add-comm (width ms r k) (rowStart ms r k)))
+        let ew : to .high + 1 - to .low ≡ width ms r k = rw (ehi, elo, add-one) in (
+          e2 ∙ el,
+          e3 ∙ i .all,
+          elo,
+          ehi,
+          rw (elo, ehi) row-low,
+          rw ehi (min-le-left r (sumTo ms k)),
+          rw (ew, i .start, add-one)
+              (add-comm (width ms r k) (rowStart ms r k)),
+        )
 
 module _ (ms : List ℕ) (r k t : ℕ) (row : Row) (i : IsRow ms r k row) (b : InBand ms r k t) where
   pub at-low : row .low ≤ t
@@ -110,17 +117,21 @@ module _ (ms : List ℕ) (r k t w i : ℕ) (table : List ℕ) (rows : Rows-hold 
       let old = row u c ut in
       (getD-set-other table i (cellIndex ms r (k + 1) u) w 0 (λ q. omega (arith, p, e, q)) ∙ old .0, old .1))
       (λ tu _. let q : t ≡ u = omega arith in
-      let here : getD (set table i w) (cellIndex ms r (k + 1) t) 0 ≡ count ms (k + 1) t = ap (λ (n : ℕ). getD (set table i w) n 0) (sym e) ∙ getD-set-same table i w 0 l ∙ ew in
-      let all : (getD (set table i w) (cellIndex ms r (k + 1) t) 0 ≡ count ms (k + 1) t) × (count ms (k + 1) t < cap) = (here, omega (arith, ew, s)) in
+      let here : getD (set table i w) (cellIndex ms r (k + 1) t) 0 ≡ count ms (k + 1) t = ap (λ (n : ℕ). getD (set table i w) n 0) (sym e)
+      ∙ getD-set-same table i w 0 l ∙ ew in
+      let all : (getD (set table i w) (cellIndex ms r (k + 1) t) 0 ≡ count ms (k + 1) t) × (count ms (k + 1) t < cap) =
+      (here, omega (arith, ew, s)) in
       subst (λ (n : ℕ). (getD (set table i w) (cellIndex ms r (k + 1) n) 0 ≡ count ms (k + 1) n) × (count ms (k + 1) n < cap)) q all)
 
 -- a row filled
-pub row-filled : (ms : List ℕ) (r k u : ℕ) (table : List ℕ) → Rows-hold ms r table k → Row-holds ms r table (k + 1) u → highest ms r (k + 1) < u → Rows-hold ms r table (k + 1)
+pub row-filled : (ms : List ℕ) (r k u : ℕ) (table : List ℕ) → Rows-hold ms r table k → Row-holds ms r table (k + 1) u → highest ms r (k + 1) < u
+    → Rows-hold ms r table (k + 1)
 row-filled ms r k u table rows row h j l t b s =
     on-less j (k + 1)
     (λ lt _. rows j (omega arith) t b s)
     (λ ge _. let q : k + 1 ≡ j = omega arith in
-    subst (λ (n : ℕ). InBand ms r n t → (getD table (cellIndex ms r n t) 0 ≡ count ms n t) × (count ms n t < cap)) q (λ c. row t c (omega (arith, c .high, c .inside))) b)
+    subst (λ (n : ℕ). InBand ms r n t → (getD table (cellIndex ms r n t) 0 ≡ count ms n t) × (count ms n t < cap)) q
+    (λ c. row t c (omega (arith, c .high, c .inside))) b)
 
 -- the row of no parts: 1 at the sum 0
 first-band : (ms : List ℕ) (r : ℕ) → r ≤ whole ms → InBand ms r 0 0

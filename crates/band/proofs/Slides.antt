@@ -19,7 +19,8 @@ use Rattle.band.specs.declared.Row.{Row}
 use Rattle.band.proofs.Bands.{band-most, band-ends}
 
 -- a window moved modulo 2^64, of numbers within the limit
-pub moved-within : {r w x y : ℕ} → (r + x) % 18446744073709551616 ≡ (w + y) % 18446744073709551616 → r < 18446744073709551616 → x ≤ w → w < cap → y < cap → r ≡ w - x + y
+pub moved-within : {r w x y : ℕ} → (r + x) % 18446744073709551616 ≡ (w + y) % 18446744073709551616 → r < 18446744073709551616 → x ≤ w → w < cap
+    → y < cap → r ≡ w - x + y
 moved-within e f l h k = omega arith
 
 module _ (ms : List ℕ) (r : ℕ) where
@@ -78,7 +79,8 @@ module _ (ms : List ℕ) (r : ℕ) where
     -- where the window is whole it is the number of compositions
     slid-is : lowest ms r (suc k) ≤ t → w ≡ count ms (suc k) t
     slid-is l =
-        let e = sum-at (count ms k) (max (lowest ms r k) (t + 1 - (getD ms k 0 + 1))) (t - getD ms k 0) (latest (lowest ms r k) t (getD ms k 0) (low-before (sumTo ms k) (getD ms k 0) t mono l)) in
+        let e = sum-at (count ms k) (max (lowest ms r k) (t + 1 - (getD ms k 0 + 1))) (t - getD ms k 0)
+        (latest (lowest ms r k) t (getD ms k 0) (low-before (sumTo ms k) (getD ms k 0) t mono l)) in
         let c = count-window ms k t in
         cancel e c
       where
@@ -93,10 +95,12 @@ module _ (ms : List ℕ) (r : ℕ) where
         let u = max t low in
         let fits : low ≤ highest ms r (suc k) = omega (arith, mono) in
         join (count-window ms k u) (sum-mono (count ms k) (t + 1) (u + 1) (omega arith))
-        (sum-mono (count ms k) (u - getD ms k 0) (max (lowest ms r k) (t + 1 - (getD ms k 0 + 1))) (later (lowest ms r k) low t (getD ms k 0) (low-near (sumTo ms k) (getD ms k 0) mono)))
+        (sum-mono (count ms k) (u - getD ms k 0) (max (lowest ms r k) (t + 1 - (getD ms k 0 + 1)))
+        (later (lowest ms r k) low t (getD ms k 0) (low-near (sumTo ms k) (getD ms k 0) mono)))
         (band-most ms r (suc k) u k-lt (band-ends ms r (suc k) u (omega arith) (omega arith)))
       where
-        join : {c a b n : ℕ} → c + a ≡ b → sum (count ms k) (t + 1) ≤ b → a ≤ sum (count ms k) (max (lowest ms r k) (t + 1 - (getD ms k 0 + 1))) → c ≤ n → w ≤ n
+        join : {c a b n : ℕ} → c + a ≡ b → sum (count ms k) (t + 1) ≤ b → a ≤ sum (count ms k) (max (lowest ms r k) (t + 1 - (getD ms k 0 + 1)))
+            → c ≤ n → w ≤ n
         join p q x y = omega arith
 
   -- sums that the first k parts do not reach add nothing

@@ -1,4 +1,4 @@
--- The counting table: the sums of the first parts from which the total can still be reached, and where their counts stand. Every count there is
+-- The band: the sums of the first parts from which the total can still be reached, and where their counts stand. Every count there is
 -- at most N, so where N is within the limit all of them are.
 use mathlib.Core.Path.{_≡_}
 use mathlib.Core.Bool.{cond}

@@ -1,4 +1,4 @@
--- What the walk over the counting table knows of a part. Nothing here is promised to a caller.
+-- What the walk over the band knows of a part. Nothing here is promised to a caller.
 use mathlib.Core.Path.{_≡_}
 use mathlib.Core.List.{List}
 use Prim.Native.Nat.{ℕ, suc, _+_, _-_, _≤_, _<_}

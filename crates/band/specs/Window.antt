@@ -1,4 +1,4 @@
--- How a row of the counting table is filled from the row before: by a window that slides along it.
+-- How a row of the band is filled from the row before: by a window that slides along it.
 use mathlib.Core.Path.{_≡_}
 use mathlib.Core.Bool.{Bool, true, false}
 use mathlib.Core.List.{List}
@@ -26,7 +26,7 @@ abbrev pub Slid : List ℕ → ℕ → ℕ → ℕ → ℕ → Type 0
 Slid ms r k t w = w + sum (count ms k) (max (lowest ms r k) (t - (getD ms k 0 + 1))) ≡ sum (count ms k) t
 
 -- rows 0 to k are filled, row k + 1 is up to the sum t, and w is the window there
-pub record Filled (ms : List ℕ) (r k t w : ℕ) (cells : List ℕ) : Type 0 where
+pub record FilledTo (ms : List ℕ) (r k t w : ℕ) (cells : List ℕ) : Type 0 where
   pub rows : Rows-hold ms r cells k
   pub row : Row-holds ms r cells (k + 1) t
   pub window : Slid ms r k t w

@@ -1,4 +1,4 @@
-// An entry of the order, found by its composition or by its serial, with a counting table of as many cells as it needs.
+// An entry of the order, found by its composition or by its serial, with a band of as many cells as it needs.
 ghost use mathlib.Core.Path.{_≡_};
 ghost use mathlib.Core.List.{[]};
 ghost use Prim.Native.Nat.{_≤_};
@@ -39,7 +39,7 @@ fn nothing(number: u32, detail: u64) -> Found
 }
 
 // The serial of 1..n that is nearest to s.
-fn nearest(n: u64, s: u64) -> u64
+fn clamp(n: u64, s: u64) -> u64
     ensures { λ r. ⌜ r ≡ clamp n s ⌝ }
 {
     if s < 1 {
@@ -75,7 +75,7 @@ fn unrank_in(upper: &[u8], total: u32, last: Row, cells: &[u64], count: u64, ser
     requires { ⌜ Ready (now upper) total last (now cells) count ⌝ }
     ensures { λ r. ⌜ r ≡ foundOf (Unrank serial) (now (upper .entry)) total [] ⌝ }
 {
-    let s = nearest(count, serial);
+    let s = clamp(count, serial);
     let n = upper.len();
     let mut composition = [0u8; 24];
     crate::walk::write(
@@ -95,7 +95,7 @@ fn unrank_in(upper: &[u8], total: u32, last: Row, cells: &[u64], count: u64, ser
     }
 }
 
-// `find` of a shape that is accepted, whose bounds sum to `all`, with the cells of its table.
+// What is asked of a shape that is accepted, whose bounds sum to `all`, with the cells of its band.
 fn find_in(
     upper: &[u8],
     total: u32,
@@ -104,7 +104,8 @@ fn find_in(
     task: Task,
     given: &[u8],
 ) -> Found
-    requires { ⌜ (firstRefusal (shapeChecks (now upper) total) .number ≡ 0) × (all ≡ whole (now upper)) × (length (now cells) ≡ bandSize (now upper) total) ⌝ }
+    requires { ⌜ (firstRefusal (shapeChecks (now upper) total) .number ≡ 0) × (all ≡ whole (now upper))
+        × (length (now cells) ≡ bandSize (now upper) total) ⌝ }
     ensures { λ r. ⌜ r ≡ foundOf task (now (upper .entry)) total (now (given .entry)) ⌝ }
 {
     let c = table::fill(upper, total, all, cells);
@@ -124,7 +125,7 @@ fn find_in(
     }
 }
 
-// `find_in` of a table that is not large: its cells are the first of an array that is not much longer, since all of it is cleared.
+// `find_in` of a band that is not large: its cells are the first of an array that is not much longer, since all of it is cleared.
 fn in_small(upper: &[u8], total: u32, all: usize, size: usize, task: Task, given: &[u8]) -> Found
     requires { ⌜ Sized (now upper) total all size × (size ≤ 1024) ⌝ }
     ensures { λ r. ⌜ r ≡ foundOf task (now (upper .entry)) total (now (given .entry)) ⌝ }
@@ -149,7 +150,7 @@ fn in_small(upper: &[u8], total: u32, all: usize, size: usize, task: Task, given
     find_in(upper, total, all, &mut cells[..size], task, given)
 }
 
-// The same of any table, in larger arrays. It surveys anew, which costs little beside such a table and makes it a call of its own, so that the others
+// The same of any band, in larger arrays. It surveys anew, which costs little beside such a band and makes it a call of its own, so that the others
 // have small frames.
 fn in_large(upper: &[u8], total: u32, task: Task, given: &[u8]) -> Found
     ensures { λ r. ⌜ r ≡ foundOf task (now (upper .entry)) total (now (given .entry)) ⌝ }

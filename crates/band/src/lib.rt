@@ -1,6 +1,7 @@
-// The counting table (document 01: N, and everything that counts). For the first k parts it has the sums from which the total can still be reached, so every
-// count in it is at most N. Here are the places of its rows; `window` fills a row from the row before, `window::table` the whole; `walk` goes from a serial
-// to its composition and back over a filled table, and `find` gives both directions the table they need.
+// The band: a table of the numbers of compositions of the first k parts, for the sums from which the total can still be reached, so every count in
+// it is at most N (document 01: N, and everything that counts). Here are the places of its rows; `window` fills a row from the row before,
+// `window::table` the whole; `walk` goes from a serial to its composition and back over a filled band, and `find` gives both directions the band
+// they need.
 ghost use mathlib.Core.Path.{_≡_};
 ghost use Prim.Native.Nat.{_+_, _-_, _≤_, _<_, min};
 ghost use lib.ListN.{length, getD};
@@ -24,7 +25,7 @@ struct Row {
     high: usize,
 }
 
-// The answer of the checks 1 to 4; where they refuse nothing, the sum of the bounds and the number of cells of the table.
+// The answer of the checks 1 to 4; where they refuse nothing, the sum of the bounds and the number of cells of the band.
 struct Surveyed {
     number: u32,
     detail: u64,
@@ -55,7 +56,8 @@ fn row_of(total: usize, start: usize, left: usize, all: usize) -> Row
 
 // The row after.
 fn up(upper: &[u8], total: usize, k: usize, from: Row) -> Row
-    requires { ⌜ (length (now upper) ≤ 24) × (total ≤ 255) × (total ≤ whole (now upper)) × (k < length (now upper)) × IsRow (now upper) total k from ⌝ }
+    requires { ⌜ (length (now upper) ≤ 24) × (total ≤ 255) × (total ≤ whole (now upper)) × (k < length (now upper))
+        × IsRow (now upper) total k from ⌝ }
     ensures { λ r. ⌜ IsRow (now (upper .entry)) total (k + 1) r ⌝ }
 {
     let m = bound(upper, k);
@@ -84,13 +86,14 @@ fn last(upper: &[u8], total: usize, all: usize) -> Row
 
 // The number of compositions of the sum `t` of the band into the first `k` parts.
 fn cell(upper: &[u8], total: usize, k: usize, row: Row, cells: &[u64], t: usize) -> u64
-    requires { ⌜ (k ≤ length (now upper)) × (k ≤ 24) × (total ≤ 255) × IsRow (now upper) total k row × InBand (now upper) total k t × (bandSize (now upper) total ≤ length (now cells)) × Row-holds (now upper) total (now cells) k 256 ⌝ }
+    requires { ⌜ (k ≤ length (now upper)) × (k ≤ 24) × (total ≤ 255) × IsRow (now upper) total k row × InBand (now upper) total k t
+        × (bandSize (now upper) total ≤ length (now cells)) × Row-holds (now upper) total (now cells) k 256 ⌝ }
     ensures { λ r. ⌜ (r ≡ count (now (upper .entry)) k t) × (r < cap) ⌝ }
 {
     cells[row.start + (t - row.low)]
 }
 
-// The checks 1 to 4, and how many cells the table has.
+// The checks 1 to 4, and how many cells the band has.
 fn survey(upper: &[u8], total: u32) -> Surveyed
     ensures { λ r. ⌜ r ≡ surveyOf (now (upper .entry)) total ⌝ }
 {

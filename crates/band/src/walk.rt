@@ -1,4 +1,4 @@
-// The walk over a filled counting table, from the last part down: from a rank, which counts from 0, to its composition, and back.
+// The walk over a filled band, from the last part down: from a rank, which counts from 0, to its composition, and back.
 ghost use mathlib.Core.Path.{_≡_};
 ghost use mathlib.Core.List.{[]};
 ghost use Prim.Native.Nat.{suc, _+_, _-_, _≤_, _<_};
@@ -107,7 +107,8 @@ fn pick_value(
 
 // Writes the composition of `total` that has the rank `rank` into `out`, a byte for each part.
 pub(crate) fn write(upper: &[u8], total: usize, last: Row, cells: &[u64], rank: u64, out: &mut [u8])
-    requires { ⌜ Filled (now upper) total last (now cells) × (length (now out) ≡ length (now upper)) × (rank < count (now upper) (length (now upper)) total) ⌝ }
+    requires { ⌜ Filled (now upper) total last (now cells) × (length (now out) ≡ length (now upper))
+        × (rank < count (now upper) (length (now upper)) total) ⌝ }
     ensures { λ _. ⌜ now (out .exit) ≡ getD (order (now (upper .entry)) total) rank [] ⌝ }
 {
     let mut k = out.len();
@@ -145,7 +146,8 @@ fn earlier(upper: &[u8], k: usize, row: Row, cells: &[u64], rem: usize, t: usize
 
 // The rank of `g`, a composition of `total`.
 pub(crate) fn place(upper: &[u8], total: usize, last: Row, cells: &[u64], g: &[u8]) -> u64
-    requires { ⌜ Filled (now upper) total last (now cells) × (length (now g) ≡ length (now upper)) × CompositionTo (now upper) (length (now upper)) total (now g) ⌝ }
+    requires { ⌜ Filled (now upper) total last (now cells) × (length (now g) ≡ length (now upper))
+        × CompositionTo (now upper) (length (now upper)) total (now g) ⌝ }
     ensures { λ r. ⌜ r ≡ rankOf (now (upper .entry)) (length (now (upper .entry))) total 0 (now (g .entry)) ⌝ }
 {
     let mut k = g.len();

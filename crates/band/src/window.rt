@@ -1,11 +1,11 @@
-// A row of the counting table, filled from the row before by a sliding window. It stops at the first number over 2^63 - 1, which shows that N is over it too.
+// A row of the band, filled from the row before by a sliding window. It stops at the first number over 2^63 - 1, which shows that N is over it too.
 ghost use mathlib.Core.Path.{_≡_};
 ghost use mathlib.Core.Bool.{true, false};
 ghost use Prim.Native.Nat.{_+_, _-_, _%_, _≤_, _<_};
 ghost use lib.ListN.{length, getD};
 ghost use Rattle.walsh.specs.Order.{count};
 ghost use Rattle.band.specs.Band.{cap, Row-holds, Rows-hold};
-ghost use Rattle.band.specs.Window.{Filling, Slid, Filled, Moves, Stretch};
+ghost use Rattle.band.specs.Window.{Filling, Slid, FilledTo, Moves, Stretch};
 use crate::Row;
 use crate::bound;
 use crate::cell;
@@ -16,7 +16,8 @@ pub mod table;
 // The window before the first sum of the row after, or a number over 2^63 - 1.
 fn head(upper: &[u8], total: usize, k: usize, row: Row, next: Row, cells: &[u64]) -> u64
     requires { ⌜ Filling (now upper) total k row next (length (now cells)) × Row-holds (now upper) total (now cells) k 256 ⌝ }
-    ensures { λ r. ⌜ (r < cap → Slid (now (upper .entry)) total k (next .low) r) × (cap ≤ r → cap ≤ count (now (upper .entry)) (length (now (upper .entry))) total) ⌝ }
+    ensures { λ r. ⌜ (r < cap → Slid (now (upper .entry)) total k (next .low) r)
+        × (cap ≤ r → cap ≤ count (now (upper .entry)) (length (now (upper .entry))) total) ⌝ }
 {
     let end = walsh::lesser(next.low, row.high + 1);
     let mut w: u64 = 0;
@@ -31,8 +32,8 @@ fn head(upper: &[u8], total: usize, k: usize, row: Row, next: Row, cells: &[u64]
     w
 }
 
-// w - x + y modulo 2^64, which is w - x + y itself where the numbers are within the limit and x is at most w. The difference of x and y comes first, so that
-// the next turn of a loop waits for one operation only.
+// w - x + y modulo 2^64, which is w - x + y itself where the numbers are within the limit and x is at most w. The difference of x and y comes
+// first, so that the next turn of a loop waits for one operation only.
 pub fn moved(w: u64, x: u64, y: u64) -> u64
     ensures { λ r. ⌜ (r + x) % 18446744073709551616 ≡ (w + y) % 18446744073709551616 ⌝ }
 {
@@ -53,7 +54,8 @@ fn step(
     enters: bool,
     leaves: bool,
 ) -> u64
-    requires { ⌜ Filling (now upper) total k row next (length (now cells)) × (m ≡ getD (now upper) k 0) × (next .low ≤ t) × (t ≤ next .high) × Filled (now upper) total k t w (now cells) × Moves row m t enters leaves ⌝ }
+    requires { ⌜ Filling (now upper) total k row next (length (now cells)) × (m ≡ getD (now upper) k 0) × (next .low ≤ t) × (t ≤ next .high)
+        × FilledTo (now upper) total k t w (now cells) × Moves row m t enters leaves ⌝ }
     ensures { λ r. ⌜ Slid (now (upper .entry)) total k (t + 1) r ⌝ }
 {
     if enters {
@@ -89,8 +91,10 @@ fn fill_span(
     span: Span,
     w0: u64,
 ) -> u64
-    requires { ⌜ Filling (now upper) total k row next (length (now cells)) × (m ≡ getD (now upper) k 0) × Stretch row next m span × Filled (now upper) total k (span .from) w0 (now cells) ⌝ }
-    ensures { λ r. ⌜ (r < cap → Filled (now (upper .entry)) total k (span .end) r (now (cells .exit))) × (cap ≤ r → cap ≤ count (now (upper .entry)) (length (now (upper .entry))) total) ⌝ }
+    requires { ⌜ Filling (now upper) total k row next (length (now cells)) × (m ≡ getD (now upper) k 0) × Stretch row next m span
+        × FilledTo (now upper) total k (span .from) w0 (now cells) ⌝ }
+    ensures { λ r. ⌜ (r < cap → FilledTo (now (upper .entry)) total k (span .end) r (now (cells .exit)))
+        × (cap ≤ r → cap ≤ count (now (upper .entry)) (length (now (upper .entry))) total) ⌝ }
 {
     let end = span.end;
     let enters = span.enters;
@@ -122,25 +126,49 @@ fn between(low: usize, x: usize, high: usize) -> usize
     x + 1
 }
 
+// Row `k + 1` in three: up to `first` cells only enter the window, up to `second` they enter and leave it (`both`) or neither, up to `end` they
+// only leave it.
+struct Stretches {
+    first: usize,
+    second: usize,
+    end: usize,
+    both: bool,
+}
+
+fn stretches_of(row: Row, next: Row, m: usize) -> Stretches
+    requires { ⌜ (row .low ≤ 255) × (row .high ≤ 255) × (m ≤ 255) × (next .low ≤ next .high) × (next .high ≤ 255) ⌝ }
+    ensures { λ r. ⌜ (r .end ≡ next .high + 1)
+        × Stretch row next m (record { from = next .low; end = r .first; enters = true; leaves = false })
+        × Stretch row next m (record { from = r .first; end = r .second; enters = r .both; leaves = r .both })
+        × Stretch row next m (record { from = r .second; end = r .end; enters = false; leaves = true }) ⌝ }
+{
+    let full = row.low + m;
+    let end = next.high + 1;
+    let least = walsh::lesser(row.high, full);
+    let first = between(next.low, least, end);
+    Stretches {
+        first,
+        second: between(first, row.high + full - least, end),
+        end,
+        both: full < row.high,
+    }
+}
+
 // Fills row `k + 1` from row `k`, or stops at a number over 2^63 - 1 and answers false.
 fn fill_row(upper: &[u8], total: usize, k: usize, row: Row, next: Row, cells: &mut [u64]) -> bool
     requires { ⌜ Filling (now upper) total k row next (length (now cells)) × Rows-hold (now upper) total (now cells) k ⌝ }
-    ensures { λ r. ⌜ (r ≡ true → Rows-hold (now (upper .entry)) total (now (cells .exit)) (k + 1)) × (r ≡ false → cap ≤ count (now (upper .entry)) (length (now (upper .entry))) total) ⌝ }
+    ensures { λ r. ⌜ (r ≡ true → Rows-hold (now (upper .entry)) total (now (cells .exit)) (k + 1))
+        × (r ≡ false → cap ≤ count (now (upper .entry)) (length (now (upper .entry))) total) ⌝ }
 {
     let w0 = head(upper, total, k, row, next, cells);
     if LIMIT < w0 {
         return false;
     }
     let m = bound(upper, k);
-    let full = row.low + m;
-    let end = next.high + 1;
-    let least = walsh::lesser(row.high, full);
-    let first = between(next.low, least, end);
-    let second = between(first, row.high + full - least, end);
-    let both = full < row.high;
+    let s = stretches_of(row, next, m);
     let grows = Span {
         from: next.low,
-        end: first,
+        end: s.first,
         enters: true,
         leaves: false,
     };
@@ -149,18 +177,18 @@ fn fill_row(upper: &[u8], total: usize, k: usize, row: Row, next: Row, cells: &m
         return false;
     }
     let slides = Span {
-        from: first,
-        end: second,
-        enters: both,
-        leaves: both,
+        from: s.first,
+        end: s.second,
+        enters: s.both,
+        leaves: s.both,
     };
     let w2 = fill_span(upper, total, k, m, row, next, cells, slides, w1);
     if LIMIT < w2 {
         return false;
     }
     let shrinks = Span {
-        from: second,
-        end,
+        from: s.second,
+        end: s.end,
         enters: false,
         leaves: true,
     };

@@ -1,5 +1,4 @@
 pub mod Refusals
-pub mod Tables
 pub mod Editions
 pub mod Answers
 pub mod Compositions

@@ -1,16 +1,20 @@
 -- Laws of `firstRefusal`, for every table of checks.
-use mathlib.Core.Path.{_≡_, refl}
-use mathlib.Core.Bool.{Bool, true, false, cond}
+use mathlib.Core.Path.{_≡_, refl, sym, ap}
+use mathlib.Core.Logic.{_≢_}
+use mathlib.Core.Bool.{Bool, true, false, not, cond}
 use mathlib.Core.List.{List, [], _∷_, _++_}
 use Prim.Native.Nat.{ℕ, _<_}
 use native.Mathlib.Omega.{arith}
 use lib.Dec.{ltb, eqb}
-use borrow.Author.Tests.{ltb-true, eqb-true, eqb-false, eq-eqb, ne-eqb}
+use borrow.Author.Tests.{ltb-true, eqb-true, eqb-false, eq-eqb, ne-eqb, not-true}
 use Rattle.walsh.specs.Tests.{both}
 use Rattle.walsh.proofs.Tests.{both-left, both-right}
 use Rattle.walsh.proofs.Cases.{on-test}
 use Rattle.bounds.specs.Refusal.{Check, refused, firstRefusal, decided}
 use Rattle.bounds.specs.declared.Refusal.{Refusal}
+
+pub same-number : {v w : Refusal} → v ≡ w → v .number ≡ w .number
+same-number e = ap (λ (v : Refusal). v .number) e
 
 -- no check has number 0: `refl` for a table that is written out
 abbrev pub numbered : List Check → Bool
@@ -57,6 +61,26 @@ unfolding firstRefusal
 refusal-none [] n e = refl
 refusal-none (c ∷ cs) n e = let p = passed c cs n e in rw (p .0) (refusal-none cs (p .1) (p .2))
 
+-- ---- which numbers a table can give
+
+-- no check has number k: `refl` for a table that is written out
+abbrev pub lacks : ℕ → List Check → Bool
+lacks k [] = true
+lacks k (c ∷ cs) = both (not (eqb (c .number) k)) (lacks k cs)
+
+pub refusal-lacks : (k : ℕ) (cs : List Check) → k ≢ 0 → lacks k cs ≡ true → firstRefusal cs .number ≢ k
+unfolding firstRefusal
+refusal-lacks k [] z n = λ e. z (sym e)
+refusal-lacks k (c ∷ cs) z n =
+    on-test (c .holds)
+    (λ t. rw t (eqb-false (c .number) k (not-true _ (both-left (not (eqb (c .number) k)) (lacks k cs) n))))
+    (λ t. rw t (refusal-lacks k cs z (both-right (not (eqb (c .number) k)) (lacks k cs) n)))
+
+-- a check whose number is not given does not hold
+pub not-here : (c : Check) (cs : List Check) → firstRefusal (c ∷ cs) .number ≢ c .number → c .holds ≡ false
+unfolding firstRefusal
+not-here c cs h = on-test (c .holds) (λ t. absurd (h (rw t))) (λ t. t)
+
 -- ---- answers that are decided by a refusal: a, or b, which has its number and its detail
 
 module _ {A : Type 0} (v : Refusal) (a b : A) where
@@ -67,7 +91,8 @@ module _ {A : Type 0} (v : Refusal) (a b : A) where
   by-acceptance e = rw (eq-eqb (v .number) 0 e)
 
   -- what such an answer x says of v; the three equations before it are `refl`
-  module _ (number detail : A → ℕ) (za : number a ≡ 0) (nb : number b ≡ v .number) (db : detail b ≡ v .detail) (x : A) (e : x ≡ decided v a b) where
+  module _ (number detail : A → ℕ) (za : number a ≡ 0) (nb : number b ≡ v .number) (db : detail b ≡ v .detail) (x : A)
+      (e : x ≡ decided v a b) where
     pub is-refused : 0 < number x → v ≡ refused (number x) (detail x)
     is-refused l =
         on-test (eqb (v .number) 0)

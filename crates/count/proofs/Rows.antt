@@ -4,7 +4,7 @@ use mathlib.Core.Bool.{Bool, true, false}
 use mathlib.Core.List.{List}
 use Prim.Native.Nat.{ℕ, _+_, _-_, _≤_, _<_, min, max}
 use native.Mathlib.Omega.{arith}
-use native.Mathlib.Nat.{le-refl, le-trans, le-of-lt}
+use native.Mathlib.Nat.{le-refl, le-trans, le-of-lt, lt-of-le-of-lt, add-zero}
 use native.Mathlib.Numerals.{add-one}
 use lib.ListN.{length, getD, set, length-set}
 use lib.Seq.{getD-set-same, getD-set-other}
@@ -18,6 +18,7 @@ use Rattle.walsh.proofs.Window.{sum-at, count-window, count-zero}
 use Rattle.bounds.specs.Edition.{whole}
 use Rattle.band.specs.Band.{InBand, lowest, highest, cap}
 use Rattle.band.specs.Window.{Slid}
+use Rattle.band.proofs.Numbers.{suc-le, suc-mono, le-last}
 use Rattle.band.proofs.Bands.{band-most, band-ends, low-high}
 use Rattle.band.proofs.Slides.{behind-in, slid-done}
 use Rattle.count.specs.Row.{IsEnds, Passing, Row-counts, Within, Passed, Enters, Moved}
@@ -76,9 +77,6 @@ module _ (ms : List ℕ) (r : ℕ) (part : Part) (p : Passing ms r part) (t : �
           within = λ q. rw (c .1) (q (t - 1) (le-trans before at-total));
           over = λ q. le-trans (rw (c .1) at q) (band-most ms r (part .k + 1) (t - 1) (suc-le (p .given)) (c .0));
         }
-      where
-        suc-le : {a b : ℕ} → a < b → a + 1 ≤ b
-        suc-le q = omega arith
 
     move-under : (x v : ℕ) → t ≤ part .row .low + part .m → x ≡ count ms (part .k) t → v ≡ w - x → Moved ms r (part .k) t v
     move-under x v g ex ev =
@@ -97,10 +95,7 @@ module _ (ms : List ℕ) (r : ℕ) (part : Part) (p : Passing ms r part) (t : �
     moves enters x y v q ex ey ez ev =
         on-test enters
         (λ h. move-over x y v (q .entering h) ex (ey h) ev)
-        (λ h. move-under x v (q .staying h) ex (ev ∙ rw (ez h) (plain (w - x))))
-      where
-        plain : (n : ℕ) → n + 0 ≡ n
-        plain n = omega arith
+        (λ h. move-under x v (q .staying h) ex (ev ∙ rw (ez h) (add-zero (w - x))))
 
     -- the window's number is stored
     pub stored : (v : ℕ) → t < 256 → Slid ms r (part .k) t v → v < cap → Passed ms r (part .k) t v (set cells t w)
@@ -123,9 +118,6 @@ module _ (ms : List ℕ) (r : ℕ) (part : Part) (p : Passing ms r part) (t : �
 
         here : Here t
         here = (getD-set-same cells t w 0 (rw (s .long) b) ∙ is, rw is at (s .small))
-
-        suc-le : {u : ℕ} → t < u → t + 1 ≤ u
-        suc-le q = omega arith
 
         lt-suc : {u : ℕ} → u < t → u < t + 1
         lt-suc q = omega arith
@@ -151,7 +143,8 @@ module _ (ms : List ℕ) (r : ℕ) (part : Part) (p : Passing ms r part) where
       go s s′ a b e = omega arith
 
   row-rises : part .row .low ≤ part .row .high
-  row-rises = go (sumTo ms (part .k)) (whole ms) (p .from .low) (p .from .high) (sumTo-mono ms (part .k) (length ms) (le-of-lt (p .given))) (p .reached)
+  row-rises =
+      go (sumTo ms (part .k)) (whole ms) (p .from .low) (p .from .high) (sumTo-mono ms (part .k) (length ms) (le-of-lt (p .given))) (p .reached)
     where
       go : (s n : ℕ) → part .row .low ≡ r - (n - s) → part .row .high ≡ min r s → s ≤ n → r ≤ n → part .row .low ≤ part .row .high
       go s n a b l h = omega arith
@@ -165,37 +158,25 @@ module _ (ms : List ℕ) (r : ℕ) (part : Part) (p : Passing ms r part) where
       go s s′ x y z l = (omega arith, omega arith, omega arith)
 
   pub row-in : (t : ℕ) → part .row .low ≤ t → t < part .row .high + 1 → InBand ms r (part .k) t
-  row-in t l h = band-ends ms r (part .k) t (rw (← (p .from .low)) l) (rw (← (p .from .high)) (le-of h))
-    where
-      le-of : {a b : ℕ} → a < b + 1 → a ≤ b
-      le-of q = omega arith
+  row-in t l h = band-ends ms r (part .k) t (rw (← (p .from .low)) l) (rw (← (p .from .high)) (le-last h (le-refl _)))
 
   -- it is at most the highest number of row k + 1
   pub top-within : (a t w : ℕ) → w + sum f a ≡ sum f t → part .next .high - part .m ≤ a → t ≤ part .row .high + 1
       → (Within ms r (part .k + 1) → w < cap) × (cap ≤ w → cap ≤ count ms (length ms) r)
   top-within a t w e l h = (
-    λ q. le-lt most (q (part .next .high) (top-next .high)),
+    λ q. lt-of-le-of-lt most (q (part .next .high) (top-next .high)),
     λ q. le-trans (le-trans q most) (band-most ms r (part .k + 1) (part .next .high) (suc-le (p .given)) top-next),
   )
     where
-      suc-le : {a b : ℕ} → a < b → a + 1 ≤ b
-      suc-le q = omega arith
-
-      le-lt : {a b d : ℕ} → a ≤ b → b < d → a < d
-      le-lt a b = omega arith
-
       join : {c b d : ℕ} → c + b ≡ d → b ≤ sum f a → sum f t ≤ d → w ≤ c
       join a b c = omega arith
-
-      add-le : {a b : ℕ} → a ≤ b → a + 1 ≤ b + 1
-      add-le q = omega arith
 
       most : w ≤ count ms (part .k + 1) (part .next .high)
       most =
           rw add-one
           (join (count-window ms (part .k) (part .next .high))
           (sum-mono f (part .next .high - getD ms (part .k) 0) a (rw (p .bound) at l))
-          (sum-mono f t (part .next .high + 1) (le-trans h (add-le high-rises))))
+          (sum-mono f t (part .next .high + 1) (le-trans h (suc-mono high-rises))))
 
   -- sums that the first k parts do not reach add nothing
   pub top-slid : (a w : ℕ) → a ≡ part .row .low + (part .next .high - part .m - part .row .low) → w + sum f a ≡ sum f (part .row .high + 1)
@@ -203,20 +184,15 @@ module _ (ms : List ℕ) (r : ℕ) (part : Part) (p : Passing ms r part) where
   top-slid a w ea e =
       rw (← (p .bound), ← (p .from .low))
       (join (sum-at f (max (part .row .low) (part .next .high + 1 - (part .m + 1))) a (omega arith))
-      (sum-stop f (part .row .high + 1) (part .next .high + 1) (add-le high-rises) none))
+      (sum-stop f (part .row .high + 1) (part .next .high + 1) (suc-mono high-rises) none))
     where
-      le-of : {a b : ℕ} → a < b + 1 → a ≤ b
-      le-of q = omega arith
-
-      add-le : {a b : ℕ} → a ≤ b → a + 1 ≤ b + 1
-      add-le q = omega arith
-
       lt-of : {a b : ℕ} → a + 1 ≤ b → a < b
       lt-of q = omega arith
 
       none : (i : ℕ) → part .row .high + 1 ≤ i → i < part .next .high + 1 → count ms (part .k) i ≡ 0
       none i x y =
-          count-none ms (part .k) i (beyond r (sumTo ms (part .k)) (part .row .high) i (p .from .high) (lt-of x) (le-trans (le-of y) (top-next .high)))
+          count-none ms (part .k) i
+          (beyond r (sumTo ms (part .k)) (part .row .high) i (p .from .high) (lt-of x) (le-trans (le-last y (le-refl _)) (top-next .high)))
 
       join : {b d : ℕ} → b ≡ sum f a → d ≡ sum f (part .row .high + 1) → w + b ≡ d
       join x y = omega arith
@@ -230,9 +206,6 @@ pub left-fits : (ms : List ℕ) (k left m all : ℕ) → k < length ms → left 
 left-fits ms k left m all l e em ea =
     let q : left + m ≡ sumTo ms (k + 1) = rw (e, em) (sym (sumTo-step ms k)) in
     (q, rw (q, ea) (sumTo-mono ms (k + 1) (length ms) (suc-le l)))
-  where
-    suc-le : {a b : ℕ} → a < b → a + 1 ≤ b
-    suc-le q = omega arith
 
 pub ends-next : (ms : List ℕ) (r k left all : ℕ) (e : Ends) → all ≡ whole ms → left ≡ sumTo ms k → e .low ≡ r - (all - left) → e .high ≡ min r left
     → IsEnds ms r k e

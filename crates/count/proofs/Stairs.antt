@@ -16,13 +16,14 @@ use Rattle.mahonian.specs.Staircase.{staircase, isStaircase}
 use Rattle.mahonian.specs.Read.{staircaseCountOf}
 use Rattle.mahonian.specs.declared.Entry.{Entry}
 use Rattle.mahonian.specs.declared.Entry.the-variants.{Count, Outside}
+use Rattle.mahonian.proofs.Rows.{staircase-sum}
 use Rattle.mahonian.proofs.Staircase.{staircase-iff}
 use Rattle.bounds.specs.Refusal.{firstRefusal}
 use Rattle.bounds.specs.Edition.{firstOutside, whole, shapeChecks}
 
--- the bounds of 2 to 16 elements are within 1..60 and sum to the row's last place, which a total may be: one test that antt computes
+-- the bounds of 2 to 16 elements are within 1..60, and a total may be the row's last place, their sum: one test that antt computes
 abbrev test : ℕ → Bool
-test n = both (eqb (firstOutside (staircase (n + 1)) 0) 0) (both (eqb (whole (staircase (n + 1))) (top (n + 1))) (leb (top (n + 1)) 255))
+test n = both (eqb (firstOutside (staircase (n + 1)) 0) 0) (leb (top (n + 1)) 255)
 
 tested : every test 16 ≡ true
 unfolding staircase firstOutside
@@ -37,16 +38,16 @@ module _ (ms : List ℕ) (r : ℕ) where
   shaped e low high h =
       let same : ms ≡ staircase (n + 1) = staircase-iff ms .0 e in
       let t : test n ≡ true = every-at test 16 tested n (omega arith) in
-      let u = both-right (eqb (firstOutside (staircase (n + 1)) 0) 0) _ t in
       let none : firstOutside ms 0 ≡ 0 = ap (λ (l : List ℕ). firstOutside l 0) same ∙ eqb-true _ 0 (both-left _ _ t) in
-      let sums : whole ms ≡ top (n + 1) = ap (λ (l : List ℕ). whole l) same ∙ eqb-true _ (top (n + 1)) (both-left _ _ u) in
-      let small : top (n + 1) ≤ 255 = leb-true (top (n + 1)) 255 (both-right (eqb (whole (staircase (n + 1))) (top (n + 1))) _ u) in
+      let sums : whole ms ≡ top (n + 1) = ap (λ (l : List ℕ). whole l) same ∙ rw (add-one n) (staircase-sum n (omega arith)) in
+      let small : top (n + 1) ≤ 255 = leb-true (top (n + 1)) 255 (both-right (eqb (firstOutside (staircase (n + 1)) 0) 0) _ t) in
       let reached : r ≤ top (n + 1) = rw (add-one n) h in
       rw
       (ne-eqb n 0 (omega arith), le-ltb 24 n (omega arith), none, le-ltb 255 r (omega arith), le-ltb (whole ms) r (rw sums reached))
       refl
 
-pub staircase-shape : (ms : List ℕ) (r : ℕ) (x : Entry) (n : ℕ) → x ≡ staircaseCountOf ms r → x ≡ Count n → firstRefusal (shapeChecks ms r) .number ≡ 0
+pub staircase-shape : (ms : List ℕ) (r : ℕ) (x : Entry) (n : ℕ) → x ≡ staircaseCountOf ms r → x ≡ Count n
+    → firstRefusal (shapeChecks ms r) .number ≡ 0
 unfolding staircaseCountOf
 staircase-shape ms r x n e q =
     on-test (both (isStaircase ms) (inTable (suc (length ms)) r))

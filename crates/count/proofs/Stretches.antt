@@ -1,123 +1,87 @@
 -- The stretches of a row, from its highest sum down: cells only enter the window, then enter and leave or neither, then only leave.
-use mathlib.Core.Path.{_≡_, sym, _∙_}
-use mathlib.Core.Bool.{true, false, false≢true}
+use mathlib.Core.Path.{_≡_, refl}
+use mathlib.Core.Bool.{true, false}
 use mathlib.Core.List.{List}
 use Prim.Native.Nat.{ℕ, _+_, _-_, _≤_, _<_, min}
 use native.Mathlib.Omega.{arith}
-use native.Mathlib.Nat.{le-refl}
-use lib.Dec.{ltb}
+use native.Mathlib.Nat.{le-refl, le-trans, le-of-eq}
 use lib.ListN.{length}
 use borrow.Author.Tests.{ltb-true, ltb-false}
 use Rattle.walsh.specs.Sums.{sumTo}
 use Rattle.bounds.specs.Edition.{whole}
 use Rattle.band.specs.Band.{cap}
 use Rattle.band.specs.Window.{Slid}
+use Rattle.band.proofs.Numbers.{no, no′, below-256}
 use Rattle.band.proofs.Bands.{low-next}
-use Rattle.count.specs.Row.{Passing, Row-counts, Passed, Stretch}
+use Rattle.band.proofs.Stretches.{up-to, between, beyond}
+use Rattle.count.specs.Row.{Passing, Row-counts, Passed, Stretch, IsStretches}
 use Rattle.count.specs.declared.row.Part.{Part}
+use Rattle.count.specs.declared.row.Stretches.{Stretches}
 use Rattle.count.proofs.Rows.{next-rises}
 
-no : {G : Type 0} → true ≡ false → G
-no e = absurd (false≢true (sym e))
+module _ (ms : List ℕ) (r : ℕ) (part : Part) (p : Passing ms r part) (s : Stretches) (i : IsStretches part s) where
+  abbrev high : ℕ
+  high = part .row .high
 
-no′ : {G : Type 0} → false ≡ true → G
-no′ e = absurd (false≢true e)
-
--- a and b, the smaller l, and the larger
-above : (a b l t : ℕ) → l ≡ min a b → a + b - l + 1 ≤ t → (b < t) × (a < t)
-above a b l t e h = (omega arith, omega arith)
-
-between : (a b l t : ℕ) → l ≡ min a b → l < t → t ≤ a + b - l → (b < a → (b < t) × (t ≤ a)) × (a ≤ b → (a < t) × (t ≤ b))
-between a b l t e h g = (λ q. (omega arith, omega arith), λ q. (omega arith, omega arith))
-
-below : (a b l t : ℕ) → l ≡ min a b → t ≤ l → (t ≤ b) × (t ≤ a)
-below a b l t e h = (omega arith, omega arith)
-
-larger : (a b l n : ℕ) → l ≡ min a b → n ≤ b → n ≤ a + b - l + 1
-larger a b l n e h = omega arith
-
-least-le : (n x : ℕ) → n ≤ n + (x - n)
-least-le n x = omega arith
-
-least-lt : (n x t : ℕ) → n + (x + 1 - n) ≤ t → x < t
-least-lt n x t h = omega arith
-
-min-right : (a b t : ℕ) → t < min a (b + 1) → t ≤ b
-min-right a b t h = omega arith
-
-min-left : (a b c : ℕ) → a ≤ c → min a b ≤ c
-min-left a b c h = omega arith
-
-under : (a n x t : ℕ) → n ≤ t → t < min a (n + (x + 1 - n)) → t ≤ x
-under a n x t l h = omega arith
-
-ends-at : (a b n x : ℕ) → n ≤ a → n ≤ b → min (min (min a b) (n + x)) n ≡ n
-ends-at a b n x p q = omega arith
-
-module _ (ms : List ℕ) (r : ℕ) (part : Part) (p : Passing ms r part) (l : ℕ) (e : l ≡ min (part .row .high) (part .row .low + part .m)) where
   abbrev full : ℕ
   full = part .row .low + part .m
 
-  abbrev most : ℕ
-  most = part .row .high + full - l
+  abbrev least : ℕ
+  least = min high full
+
+  past-both : (t : ℕ) → s .first ≤ t → (high < t) × (full < t)
+  past-both t h = beyond high full least t refl (omega (arith, i .first))
 
   low-full : part .next .low ≤ full
   low-full = rw (p .to .low, p .from .low, p .bound) (low-next ms r (part .k) (p .given))
 
-  high-next : part .next .low ≤ part .next .high + 1
-  high-next = go (next-rises ms r part p)
-    where
-      go : {a b : ℕ} → a ≤ b → a ≤ b + 1
-      go q = omega arith
+  low-first : part .next .low ≤ s .first
+  low-first = omega (arith, i .first, low-full)
 
-  pub grows : Stretch (part .row) (part .next) (part .m) (part .next .high + 1) (most + 1) true false
+  pub grows : Stretch (part .row) (part .next) (part .m) (s .from) (s .first) true false
   grows =
       record {
-        low = larger (part .row .high) full l (part .next .low) e low-full;
-        high = le-refl _;
-        entering = λ t a b. record { entering = λ _. above (part .row .high) full l t e a .0; staying = no };
-        leaving = λ t a b. record { leaving = no′; passed = λ _. above (part .row .high) full l t e a .1 };
+        low = low-first;
+        high = le-of-eq (i .from);
+        entering = λ t a b. record { entering = λ _. past-both t a .1; staying = no };
+        leaving = λ t a b. record { leaving = no′; passed = λ _. past-both t a .0 };
       }
 
-  module _ (from end : ℕ) (ef : from ≡ min (part .next .high + 1) (most + 1)) (ee : end ≡ part .next .low + (l + 1 - part .next .low)) where
-    slide : (t : ℕ) → end ≤ t → t < from
-        → (full < part .row .high → (full < t) × (t ≤ part .row .high)) × (part .row .high ≤ full → (part .row .high < t) × (t ≤ full))
-    slide t a b = between (part .row .high) full l t e (least-lt (part .next .low) l t (rw ee at a)) (min-right (part .next .high + 1) most t (rw ef at b))
+  module _ (from : ℕ) (e : from ≡ min (s .from) (s .first)) where
+    from-le : from ≤ part .next .high + 1
+    from-le = omega (arith, e, i .from)
 
-    pub slides : Stretch (part .row) (part .next) (part .m) from end (ltb full (part .row .high)) (ltb full (part .row .high))
+    two : (t : ℕ) → s .second ≤ t → t < from → (full < high → (t ≤ high) × (full < t)) × (high ≤ full → (high < t) × (t ≤ full))
+    two t a b = between high full least t refl (omega (arith, i .second, a)) (omega (arith, i .first, e, b))
+
+    pub slides : Stretch (part .row) (part .next) (part .m) from (s .second) (s .both) (s .both)
     slides =
-        record {
-          low = rw ee (least-le (part .next .low) (l + 1));
-          high = rw ef (min-left _ _ _ (le-refl _));
+        rw (i .both)
+        (record {
+          low = omega (arith, i .second);
+          high = from-le;
           entering = λ t a b.
-              record {
-                entering = λ h. slide t a b .0 (ltb-true full (part .row .high) h) .0;
-                staying = λ h. slide t a b .1 (ltb-false full (part .row .high) h) .1;
-              };
+              record { entering = λ h. two t a b .0 (ltb-true full high h) .1; staying = λ h. two t a b .1 (ltb-false full high h) .1 };
           leaving = λ t a b.
-              record {
-                leaving = λ h. slide t a b .0 (ltb-true full (part .row .high) h) .1;
-                passed = λ h. slide t a b .1 (ltb-false full (part .row .high) h) .0;
-              };
-        }
+              record { leaving = λ h. two t a b .0 (ltb-true full high h) .0; passed = λ h. two t a b .1 (ltb-false full high h) .0 };
+        })
 
-  pub shrinks : (before from : ℕ) → before ≡ min (part .next .high + 1) (most + 1) → from ≡ min before (part .next .low + (l + 1 - part .next .low))
-      → Stretch (part .row) (part .next) (part .m) from (part .next .low) false true
-  shrinks before from eb ef =
-      record {
-        low = le-refl _;
-        high = rw (ef, eb) (min-left _ _ _ (min-left _ _ _ (le-refl _)));
-        entering = λ t a b. record { entering = no′; staying = λ _. below (part .row .high) full l t e (under before (part .next .low) l t a (rw ef at b)) .0 };
-        leaving = λ t a b. record { leaving = λ _. below (part .row .high) full l t e (under before (part .next .low) l t a (rw ef at b)) .1; passed = no };
-      }
+    module _ (last : ℕ) (q : last ≡ min from (s .second)) where
+      up-to-both : (t : ℕ) → part .next .low ≤ t → t < last → (t ≤ high) × (t ≤ full)
+      up-to-both t a b = up-to high full least t refl (omega (arith, i .second, q, a, b))
 
-  -- they end at the row's lowest sum
-  pub ends : (before from t : ℕ) → before ≡ min (part .next .high + 1) (most + 1) → from ≡ min before (part .next .low + (l + 1 - part .next .low))
-      → t ≡ min from (part .next .low) → t ≡ part .next .low
-  ends before from t eb ef et =
-      et
-      ∙ rw (ef, eb)
-      (ends-at (part .next .high + 1) (most + 1) (part .next .low) _ high-next (larger (part .row .high) full l (part .next .low) e low-full))
+      pub shrinks : Stretch (part .row) (part .next) (part .m) last (part .next .low) false true
+      shrinks =
+          record {
+            low = le-refl _;
+            high = le-trans (omega (arith, q)) from-le;
+            entering = λ t a b. record { entering = no′; staying = λ _. up-to-both t a b .1 };
+            leaving = λ t a b. record { leaving = λ _. up-to-both t a b .0; passed = no };
+          }
+
+      -- they end at the row's lowest sum
+      pub ends : (t : ℕ) → t ≡ min last (part .next .low) → t ≡ part .next .low
+      ends t et = omega (arith, et, q, e, i .from, i .second, low-first, next-rises ms r part p)
 
 -- before the row is written, and when it is
 module _ (ms : List ℕ) (r : ℕ) (part : Part) (p : Passing ms r part) (w : ℕ) (cells : List ℕ) where
@@ -126,14 +90,11 @@ module _ (ms : List ℕ) (r : ℕ) (part : Part) (p : Passing ms r part) (w : �
   unwritten long old s small =
       record {
         long = long;
-        below = λ u i a b. old u i a (less (i .high) (p .small));
+        below = λ u i a b. old u i a (below-256 (le-trans (i .high) (p .small)));
         above = λ u i a b. absurd (omega (arith, i .high, i .inside, p .to .high, a));
         window = s;
         small = small;
       }
-    where
-      less : {u : ℕ} → u ≤ r → r ≤ 255 → u < 256
-      less a b = omega arith
 
   pub written : (t : ℕ) → t ≡ part .next .low → Passed ms r (part .k) t w cells → Row-counts ms r cells (part .k + 1) 0 256
   written t e s u i a b = s .above u i (le (i .low)) b

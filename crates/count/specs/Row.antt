@@ -2,7 +2,8 @@
 use mathlib.Core.Path.{_≡_}
 use mathlib.Core.Bool.{Bool, true, false}
 use mathlib.Core.List.{List}
-use Prim.Native.Nat.{ℕ, _+_, _≤_, _<_}
+use Prim.Native.Nat.{ℕ, _+_, _≤_, _<_, min, max}
+use lib.Dec.{ltb}
 use lib.ListN.{length, getD}
 use Rattle.walsh.specs.Order.{count}
 use Rattle.bounds.specs.Edition.{whole}
@@ -10,6 +11,7 @@ use Rattle.band.specs.Band.{InBand, lowest, highest, cap}
 use Rattle.band.specs.Window.{Slid}
 use Rattle.count.specs.declared.row.Ends.{Ends}
 use Rattle.count.specs.declared.row.Part.{Part}
+use Rattle.count.specs.declared.row.Stretches.{Stretches}
 
 -- the code's numbers of row k
 pub record IsEnds (ms : List ℕ) (r k : ℕ) (e : Ends) : Type 0 where
@@ -64,3 +66,11 @@ pub record Stretch (row next : Ends) (m from end : ℕ) (enters leaves : Bool) :
   pub high : from ≤ next .high + 1
   pub entering : (t : ℕ) → end ≤ t → t < from → Enters row m t enters
   pub leaving : (t : ℕ) → end ≤ t → t < from → Leaves row t leaves
+
+-- a cell leaves the window up to the highest sum of the row before, and one enters it past the lowest and the bound: the code's numbers of the three
+-- stretches, past both, between the two, and up to both
+pub record IsStretches (part : Part) (s : Stretches) : Type 0 where
+  pub from : s .from ≡ part .next .high + 1
+  pub first : s .first ≡ max (part .row .high) (part .row .low + part .m) + 1
+  pub second : s .second ≡ max (part .next .low) (min (part .row .high) (part .row .low + part .m) + 1)
+  pub both : s .both ≡ ltb (part .row .low + part .m) (part .row .high)

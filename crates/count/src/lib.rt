@@ -65,7 +65,7 @@ pub fn check_record(bounds: Bounds) -> Checked
     check(&upper[..n], bounds.total)
 }
 
-// Whether a product is within the limit: the division is seldom needed.
+// True only where a product is within the limit; the division is seldom needed.
 fn is_within(a: u64, b: u64) -> bool
     requires { ⌜ (0 < b) × (b ≤ 256) ⌝ }
     ensures { λ r. ⌜ (r ≡ true → a * b ≤ 9223372036854775807) ⌝ }
@@ -73,7 +73,8 @@ fn is_within(a: u64, b: u64) -> bool
     if a < SMALL { true } else { a <= LIMIT / b }
 }
 
-// Of how many first parts the product of the numbers of values of all but the widest is within the limit: then every number of compositions into them is.
+// Of how many first parts the product of the numbers of values of all but the widest is within the limit: then every number of compositions into
+// them is.
 fn few_parts(upper: &[u8], total: usize) -> usize
     ensures { λ r. ⌜ (r ≤ length (now (upper .entry))) × ((k : ℕ) → k ≤ r → Within (now (upper .entry)) total k) ⌝ }
 {
@@ -93,7 +94,8 @@ fn few_parts(upper: &[u8], total: usize) -> usize
     k
 }
 
-// The first of the refusals 1 to 5 that holds, for calls that need no N: where a bound on N that costs nothing is within the limit, nothing is counted.
+// The first of the refusals 1 to 5 that holds, for calls that need no N: where a bound on N that costs nothing is within the limit, nothing is
+// counted.
 pub fn edition_refusal(upper: &[u8], total: u32) -> Refusal
     ensures { λ r. ⌜ r ≡ firstRefusal (editionChecks (now (upper .entry)) total) ⌝ }
 {

@@ -1,4 +1,5 @@
-// N in one row of cells, a cell for each sum: the row of one part more is written over it from its highest sum down, by a window that slides along it.
+// N in one row of cells, a cell for each sum: the row of one part more is written over it from its highest sum down, by a window that slides along
+// it.
 ghost use mathlib.Core.Path.{_≡_};
 ghost use mathlib.Core.Bool.{true, false};
 ghost use Prim.Native.Nat.{_+_, _-_, _≤_, _<_, min};
@@ -8,7 +9,7 @@ ghost use Rattle.bounds.specs.Edition.{whole, shapeChecks};
 ghost use Rattle.bounds.specs.Refusal.{firstRefusal};
 ghost use Rattle.band.specs.Band.{InBand, cap, numberOf};
 ghost use Rattle.band.specs.Window.{Slid};
-ghost use Rattle.count.specs.Row.{Passing, Row-counts, Within, Passed, Enters, Leaves, Stretch};
+ghost use Rattle.count.specs.Row.{Passing, Row-counts, Within, Passed, Enters, Leaves, Stretch, IsStretches};
 use band::CAP;
 use band::window::table;
 use band::window::table::Counted;
@@ -53,7 +54,8 @@ fn is_over(w: u64, careful: bool) -> bool
 
 // The number for the sum `t` of the first `k` parts.
 fn cell(upper: &[u8], total: usize, k: usize, cells: &[u64], t: usize) -> u64
-    requires { ⌜ (total ≤ 255) × (length (now cells) ≡ 256) × InBand (now upper) total k t × Row-counts (now upper) total (now cells) k 0 (t + 1) ⌝ }
+    requires { ⌜ (total ≤ 255) × (length (now cells) ≡ 256) × InBand (now upper) total k t
+        × Row-counts (now upper) total (now cells) k 0 (t + 1) ⌝ }
     ensures { λ r. ⌜ (r ≡ count (now (upper .entry)) k t) × (r < cap) ⌝ }
 {
     cells[t]
@@ -61,8 +63,10 @@ fn cell(upper: &[u8], total: usize, k: usize, cells: &[u64], t: usize) -> u64
 
 // The window for the highest sum of the row after, or a number over 2^63 - 1.
 fn top(upper: &[u8], total: usize, part: Part, cells: &[u64], careful: bool) -> u64
-    requires { ⌜ Passing (now upper) total part × (length (now cells) ≡ 256) × Row-counts (now upper) total (now cells) (part .k) 0 256 × (careful ≡ false → Within (now upper) total (part .k + 1)) ⌝ }
-    ensures { λ r. ⌜ (r < cap → Slid (now (upper .entry)) total (part .k) (part .next .high + 1) r) × (cap ≤ r → cap ≤ count (now (upper .entry)) (length (now (upper .entry))) total) ⌝ }
+    requires { ⌜ Passing (now upper) total part × (length (now cells) ≡ 256)
+        × Row-counts (now upper) total (now cells) (part .k) 0 256 × (careful ≡ false → Within (now upper) total (part .k + 1)) ⌝ }
+    ensures { λ r. ⌜ (r < cap → Slid (now (upper .entry)) total (part .k) (part .next .high + 1) r)
+        × (cap ≤ r → cap ≤ count (now (upper .entry)) (length (now (upper .entry))) total) ⌝ }
 {
     let row = part.row;
     let next = part.next;
@@ -81,7 +85,8 @@ fn top(upper: &[u8], total: usize, part: Part, cells: &[u64], careful: bool) -> 
 
 // The cell that leaves the window as it moves from the sum `t` to the sum before, or 0.
 fn leaving(upper: &[u8], total: usize, part: Part, cells: &[u64], t: usize, leaves: bool) -> u64
-    requires { ⌜ Passing (now upper) total part × (part .next .low ≤ t) × (t ≤ part .next .high) × (length (now cells) ≡ 256) × Row-counts (now upper) total (now cells) (part .k) 0 (t + 1) × Leaves (part .row) t leaves ⌝ }
+    requires { ⌜ Passing (now upper) total part × (part .next .low ≤ t) × (t ≤ part .next .high) × (length (now cells) ≡ 256)
+        × Row-counts (now upper) total (now cells) (part .k) 0 (t + 1) × Leaves (part .row) t leaves ⌝ }
     ensures { λ r. ⌜ r ≡ count (now (upper .entry)) (part .k) t ⌝ }
 {
     if leaves {
@@ -93,7 +98,8 @@ fn leaving(upper: &[u8], total: usize, part: Part, cells: &[u64], t: usize, leav
 
 // The cell that enters it, or 0.
 fn entering(upper: &[u8], total: usize, part: Part, cells: &[u64], t: usize, enters: bool) -> u64
-    requires { ⌜ Passing (now upper) total part × (part .next .low ≤ t) × (t ≤ part .next .high) × (length (now cells) ≡ 256) × Row-counts (now upper) total (now cells) (part .k) 0 (t + 1) × Enters (part .row) (part .m) t enters ⌝ }
+    requires { ⌜ Passing (now upper) total part × (part .next .low ≤ t) × (t ≤ part .next .high) × (length (now cells) ≡ 256)
+        × Row-counts (now upper) total (now cells) (part .k) 0 (t + 1) × Enters (part .row) (part .m) t enters ⌝ }
     ensures { λ r. ⌜ (r < cap) × (enters ≡ true → r ≡ count (now (upper .entry)) (part .k) (t - (part .m + 1))) × (enters ≡ false → r ≡ 0) ⌝ }
 {
     if enters {
@@ -115,8 +121,10 @@ fn fall(
     leaves: bool,
     careful: bool,
 ) -> At
-    requires { ⌜ Passing (now upper) total part × Stretch (part .row) (part .next) (part .m) (at .t) end enters leaves × Passed (now upper) total (part .k) (at .t) (at .window) (now cells) × (careful ≡ false → Within (now upper) total (part .k + 1)) ⌝ }
-    ensures { λ r. ⌜ (r .window < cap → (r .t ≡ min (at .t) end) × Passed (now (upper .entry)) total (part .k) (r .t) (r .window) (now (cells .exit))) × (cap ≤ r .window → cap ≤ count (now (upper .entry)) (length (now (upper .entry))) total) ⌝ }
+    requires { ⌜ Passing (now upper) total part × Stretch (part .row) (part .next) (part .m) (at .t) end enters leaves
+        × Passed (now upper) total (part .k) (at .t) (at .window) (now cells) × (careful ≡ false → Within (now upper) total (part .k + 1)) ⌝ }
+    ensures { λ r. ⌜ (r .window < cap → (r .t ≡ min (at .t) end) × Passed (now (upper .entry)) total (part .k) (r .t) (r .window) (now (cells .exit)))
+        × (cap ≤ r .window → cap ≤ count (now (upper .entry)) (length (now (upper .entry))) total) ⌝ }
 {
     let mut w = at.window;
     let mut t = at.t;
@@ -133,51 +141,65 @@ fn fall(
     At { t, window: w }
 }
 
+// The row after in three, from `from` down: to `first` cells only enter the window, to `second` they enter and leave it (`both`) or neither, then
+// they only leave it.
+struct Stretches {
+    from: usize,
+    first: usize,
+    second: usize,
+    both: bool,
+}
+
+fn stretches_of(part: Part) -> Stretches
+    requires { ⌜ (part .row .low ≤ 255) × (part .row .high ≤ 255) × (part .m ≤ 255) × (part .next .low ≤ 255) × (part .next .high ≤ 255) ⌝ }
+    ensures { λ r. ⌜ IsStretches part r ⌝ }
+{
+    let row = part.row;
+    let next = part.next;
+    let full = row.low + part.m;
+    let least = walsh::lesser(row.high, full);
+    Stretches {
+        from: next.high + 1,
+        first: row.high + full - least + 1,
+        second: next.low + walsh::over(least + 1, next.low),
+        both: full < row.high,
+    }
+}
+
 // The row of one part more over the row before, or false at a number over 2^63 - 1.
 fn pass(upper: &[u8], total: usize, part: Part, cells: &mut [u64], careful: bool) -> bool
-    requires { ⌜ Passing (now upper) total part × (length (now cells) ≡ 256) × Row-counts (now upper) total (now cells) (part .k) 0 256 × (careful ≡ false → Within (now upper) total (part .k + 1)) ⌝ }
-    ensures { λ r. ⌜ (r ≡ true → Row-counts (now (upper .entry)) total (now (cells .exit)) (part .k + 1) 0 256) × (r ≡ false → cap ≤ count (now (upper .entry)) (length (now (upper .entry))) total) ⌝ }
+    requires { ⌜ Passing (now upper) total part × (length (now cells) ≡ 256)
+        × Row-counts (now upper) total (now cells) (part .k) 0 256 × (careful ≡ false → Within (now upper) total (part .k + 1)) ⌝ }
+    ensures { λ r. ⌜ (r ≡ true → Row-counts (now (upper .entry)) total (now (cells .exit)) (part .k + 1) 0 256)
+        × (r ≡ false → cap ≤ count (now (upper .entry)) (length (now (upper .entry))) total) ⌝ }
 {
     let w = top(upper, total, part, cells, careful);
     if LIMIT < w {
         return false;
     }
-    let row = part.row;
-    let next = part.next;
-    let full = row.low + part.m;
-    let least = walsh::lesser(row.high, full);
-    let first = At {
-        t: next.high + 1,
+    let s = stretches_of(part);
+    let at = At {
+        t: s.from,
         window: w,
     };
-    let most = row.high + full - least + 1;
-    let second = fall(upper, total, part, cells, first, most, true, false, careful);
-    if LIMIT < second.window {
+    let at = fall(upper, total, part, cells, at, s.first, true, false, careful);
+    if LIMIT < at.window {
         return false;
     }
-    let both = full < row.high;
-    let low = next.low + walsh::over(least + 1, next.low);
-    let third = fall(upper, total, part, cells, second, low, both, both, careful);
-    if LIMIT < third.window {
+    let both = s.both;
+    let at = fall(upper, total, part, cells, at, s.second, both, both, careful);
+    if LIMIT < at.window {
         return false;
     }
-    let last = fall(
-        upper,
-        total,
-        part,
-        cells,
-        third,
-        next.low,
-        false,
-        true,
-        careful,
-    );
-    last.window <= LIMIT
+    let low = part.next.low;
+    let at = fall(upper, total, part, cells, at, low, false, true, careful);
+    at.window <= LIMIT
 }
 
 // The number of compositions, or 2^63 where that is less. Numbers are looked at only from the first row on that `few_parts` does not bound.
 fn rows(upper: &[u8], total: usize, all: usize, cells: &mut [u64]) -> u64
-    requires { ⌜ (length (now upper) ≤ 24) × (total ≤ 255) × (total ≤ whole (now upper)) × (all ≡ whole (now upper)) × (length (now cells) ≡ 256) ⌝ }
+    requires { ⌜ (length (now upper) ≤ 24) × (total ≤ 255) × (total ≤ whole (now upper)) × (all ≡ whole (now upper))
+        × (length (now cells) ≡ 256) ⌝ }
     ensures { λ r. ⌜ r ≡ min (count (now (upper .entry)) (length (now (upper .entry))) total) cap ⌝ }
 {
     let few = crate::few_parts(upper, total);
@@ -209,7 +231,8 @@ fn count_row(upper: &[u8], total: u32, all: usize) -> Counted
     table::within_limit(n)
 }
 
-// N, or the refusal. "N of a puzzle edition of 2 to 16 sheets is read from" the constant table; where N stands there, the checks 1 to 4 refuse nothing.
+// N, or the refusal. "N of a puzzle edition of 2 to 16 sheets is read from" the constant table; where N stands there, the checks 1 to 4 refuse
+// nothing.
 pub fn number(upper: &[u8], total: u32) -> Counted
     ensures { λ r. ⌜ r ≡ numberOf (now (upper .entry)) total ⌝ }
 {

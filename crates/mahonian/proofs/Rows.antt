@@ -50,12 +50,14 @@ sums : every sumTest 16 ≡ true
 unfolding staircase
 sums = refl
 
+pub staircase-sum : (n : ℕ) → n < 16 → sumTo (staircase (suc n)) (length (staircase (suc n))) ≡ top (suc n)
+staircase-sum n h = eqb-true (sumTo (staircase (suc n)) (length (staircase (suc n)))) (top (suc n)) (every-at sumTest 16 sums n h)
+
 above-top : (n r : ℕ) → n < 16 → top (suc n) < r → mahonian (suc n) r ≡ 0
 unfolding countOf
 above-top n r h l =
     let ms : List ℕ = staircase (suc n) in
-    let e : sumTo ms (length ms) ≡ top (suc n) = eqb-true (sumTo ms (length ms)) (top (suc n)) (every-at sumTest 16 sums n h) in
-    mahonian-count n r ∙ count-none ms (length ms) r (rw e l)
+    mahonian-count n r ∙ count-none ms (length ms) r (rw (staircase-sum n h) l)
 
 -- ---- the entries
 

@@ -1,5 +1,6 @@
 -- Document 01, "Counting table": the constant table of 695 entries, M(k, r) for "k from 2 to 16, every r from 0 to k(k−1)/2", row after row.
--- No contract cites it: a reader who believes `Mahonian` and `Read` need not read the numbers. Rule and agreement: proofs/Rows.antt.
+-- No contract of a public function cites it: a reader who believes `Mahonian` and `Read` need not read the numbers. Rule and agreement:
+-- proofs/Rows.antt.
 use mathlib.Core.Bool.{cond}
 use mathlib.Core.List.{List, [], _∷_}
 use Prim.Native.Nat.{ℕ, zero, suc, _+_, _-_, _*_, _/_}

@@ -9,14 +9,14 @@ ghost use Rattle.mahonian.specs.Table.{table, start};
 ghost use Rattle.mahonian.specs.Staircase.{isStaircase};
 ghost use Rattle.mahonian.specs.Read.{readOf, staircaseCountOf};
 
-// A number of the table, or that it has none there.
+// A number of the table, or that there is none.
 pub enum Entry {
     Count(u64),
     Outside,
 }
 
-// A number of the table. The compiler writes a constant array out at each use. Where the index shows that only a stretch of it can be read, it writes that
-// alone, in at most seven arms of one function (docs/DECISIONS.md, 9).
+// A number of the table. The compiler writes a constant array out at each use. Where the index shows that only a stretch of it can be read, it
+// writes that alone, in at most seven arms of one function (docs/DECISIONS.md, 9).
 fn stored(i: usize) -> u64
     requires { ⌜ i < 695 ⌝ }
     ensures { λ r. ⌜ r ≡ getD table i 0 ⌝ }

@@ -12,8 +12,7 @@ use Rattle.walsh.proofs.Cases.{on-test, on-less}
 use Rattle.bounds.specs.Refusal.{Check, firstRefusal}
 use Rattle.bounds.specs.declared.Refusal.{Refusal}
 use Rattle.bounds.proofs.Editions.{neither}
-use Rattle.bounds.proofs.Refusals.{numbered, passed, refusal-here, refusal-next, is-accepted}
-use Rattle.bounds.proofs.Tables.{refusal-lacks, not-here}
+use Rattle.bounds.proofs.Refusals.{numbered, passed, refusal-here, refusal-next, is-accepted, refusal-lacks, not-here}
 use Rattle.model.specs.declared.Answer.{Answer}
 use Rattle.model.specs.Model.{Call, peek, claim, void, next, noOrder, noSerial, alreadyWritten, aboveNext, standsEarlier, allWritten}
 use Rattle.model.specs.Model.{compositionAt, placeChecks, callChecks, granted, answerBy, answer, accepted}

@@ -43,7 +43,8 @@ module _ (ms : List ℕ) (r : ℕ) (g : List ℕ) (i : ℕ) where
       let more : (whole g ≡ r → ⊥) = λ q. omega (arith, sumTo-mono g (suc i) (length g) h) in
       rw (ne-eqb (whole g) r more) (sym (either-true (not (every (isWithin ms g) (length ms)))))
 
-  pub other-end : length g ≡ length ms → i ≡ length g → every (isWithin ms g) i ≡ true → (left : ℕ) → left + sumTo g i ≡ r → not (eqb left 0) ≡ isOther ms r g
+  pub other-end : length g ≡ length ms → i ≡ length g → every (isWithin ms g) i ≡ true → (left : ℕ) → left + sumTo g i ≡ r
+      → not (eqb left 0) ≡ isOther ms r g
   other-end size all within left e =
       let full : every (isWithin ms g) (length ms) ≡ true = rw (← size, ← all) within in
       rw (full, ← all) (ap not (eqb-same left (sumTo g i) r e))

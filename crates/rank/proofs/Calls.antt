@@ -1,4 +1,4 @@
--- The answers of `rank`, `unrank` and `locate`, from what `find` answers.
+-- The answers of `rank`, `unrank` and `locate`, from what `serial_of` and `composition_of` answer.
 use mathlib.Core.Path.{_≡_, refl, sym, ap, _∙_}
 use mathlib.Core.List.{List, _++_}
 use Prim.Native.Nat.{ℕ, _≤_, _<_}
@@ -14,7 +14,7 @@ use Rattle.bounds.specs.Refusal.{refused, firstRefusal}
 use Rattle.bounds.specs.Edition.{editionChecks, cellsOf}
 use Rattle.bounds.specs.Places.{serialChecks, lentChecks, copied}
 use Rattle.bounds.specs.declared.Refusal.{Refusal}
-use Rattle.bounds.proofs.Refusals.{refusal-first, refusal-later, is-refused, is-accepted}
+use Rattle.bounds.proofs.Refusals.{refusal-first, refusal-later, is-refused, is-accepted, same-number}
 use Rattle.bounds.proofs.Cells.{cells-back, cells-length, copied-over}
 use Rattle.bounds.proofs.Filling.{filling-refused, filling-done}
 use Rattle.rank.specs.Rank.{rankChecks, rankAnswer}
@@ -45,7 +45,7 @@ module _ (ms : List ℕ) (r : ℕ) (g : List ℕ) (x : Found) (e : x ≡ foundOf
       let p = is-accepted (firstRefusal (rankChecks ms r g)) _ _ number-of detail-of refl refl refl x e z in
       rw (p .1, eq-eqb (firstRefusal (rankChecks ms r g) .number) 0 (p .0))
 
--- ---- what `find` says of a serial
+-- ---- what `composition_of` says of a serial
 
 module _ (ms : List ℕ) (r s : ℕ) (g : List ℕ) (x : Found) (e : x ≡ foundOf (Unrank s) ms r g) where
   pub entry-refused : 0 < x .number → firstRefusal (editionChecks ms r) ≡ refused (x .number) (x .detail)
@@ -90,12 +90,13 @@ module _ (ms : List ℕ) (r s : ℕ) (out : List ℕ) where
   refused-by : {v : Refusal} (n d : ℕ) → 0 < n → v ≡ refused n d → checked ≡ refused n d → Leaves v out
   unfolding unrankCall
   refused-by n d l e is =
-      filling-refused (unrankChecks ms r s (length out)) (compositionOf ms r s) out (e ∙ sym is) (λ z. let q = ap (λ (w : Refusal). w .number) e in omega arith)
+      filling-refused (unrankChecks ms r s (length out)) (compositionOf ms r s) out (e ∙ sym is) (λ z. let q = same-number e in omega arith)
 
   pub edition-refused : {v : Refusal} (n d : ℕ) → 0 < n → v ≡ refused n d → firstRefusal (editionChecks ms r) ≡ refused n d → Leaves v out
   edition-refused n d l e is =
       refused-by n d l e
-      (refusal-first (editionChecks ms r) (serialChecks ms r s ++ lentChecks (length ms) (length out)) (λ z. let q = ap (λ (w : Refusal). w .number) is in omega arith) ∙ is)
+      (refusal-first (editionChecks ms r) (serialChecks ms r s ++ lentChecks (length ms) (length out))
+      (λ z. let q = same-number is in omega arith) ∙ is)
 
   module _ (accepted : firstRefusal (editionChecks ms r) .number ≡ 0) where
     later : checked ≡ firstRefusal (serialChecks ms r s ++ lentChecks (length ms) (length out))
@@ -113,7 +114,8 @@ module _ (ms : List ℕ) (r s : ℕ) (out : List ℕ) where
       module _ (inside : s ≤ countOf ms r) where
         pub part-other : {v : Refusal} → (length out ≡ length ms → ⊥) → v ≡ refused 13 0 → Leaves v out
         unfolding firstRefusal
-        part-other n e = refused-by 13 0 (omega arith) e (later ∙ rw (ne-eqb s 0 some, le-ltb (countOf ms r) s inside, ne-eqb (length out) (length ms) n))
+        part-other n e =
+            refused-by 13 0 (omega arith) e (later ∙ rw (ne-eqb s 0 some, le-ltb (countOf ms r) s inside, ne-eqb (length out) (length ms) n))
 
         pub part-filled : {v : Refusal} → length out ≡ length ms → v ≡ refused 0 0 → length ms ≤ 24
             → (l cells : List ℕ) → l ≡ copied cells out → cells ≡ nearest ms r s → Leaves v l
@@ -121,7 +123,7 @@ module _ (ms : List ℕ) (r s : ℕ) (out : List ℕ) where
         part-filled n e few l cells el ec =
             let none : checked ≡ refused 0 0 = later ∙ rw (ne-eqb s 0 some, le-ltb (countOf ms r) s inside, eq-eqb (length out) (length ms) n) in
             let size : length cells ≡ 24 = rw ec (cells-length _ (omega (arith, composition-is ms r (clamp (countOf ms r) s) low high .size))) in
-            filling-done (unrankChecks ms r s (length out)) (compositionOf ms r s) out (e ∙ sym none) (ap (λ (w : Refusal). w .number) e)
+            filling-done (unrankChecks ms r s (length out)) (compositionOf ms r s) out (e ∙ sym none) (same-number e)
             (el ∙ copied-over cells out (omega arith) ∙ nearest-bytes ms r s pos inside (length out) cells n ec)
           where
             pos : 0 < s

@@ -1,15 +1,15 @@
 -- Laws of `locate` and `locate_record`: what their answers say.
-use mathlib.Core.Path.{_≡_, refl, sym, ap}
+use mathlib.Core.Path.{_≡_, refl, ap}
 use mathlib.Core.List.{List}
 use Prim.Native.Nat.{ℕ, _≤_, _<_}
 use lib.ListN.{take, replicate}
-use borrow.Author.Tests.{lt-ltb, le-ltb}
 use Rattle.walsh.specs.Order.{countOf}
 use Rattle.bounds.specs.Refusal.{refused, firstRefusal}
 use Rattle.bounds.specs.Edition.{editionChecks, recordChecks}
 use Rattle.bounds.specs.declared.Refusal.{Refusal}
 use Rattle.bounds.specs.declared.Bounds.{Bounds}
-use Rattle.bounds.proofs.Refusals.{refusal-next, is-refused, is-accepted}
+use Rattle.bounds.proofs.Refusals.{is-refused, is-accepted}
+use Rattle.bounds.proofs.Answers.{record-many, record-few}
 use Rattle.bounds.proofs.Chains.{Accepts}
 use Rattle.rank.specs.Locate.{nearest, locatedBy, locateOf, locateRecordOf}
 use Rattle.rank.specs.declared.Located.{Located}
@@ -51,10 +51,13 @@ module _ (b : Bounds) (s : ℕ) (x : Located) (e : x ≡ locateRecordOf b s) whe
 -- ---- a record that nobody has checked: more than 24 parts have no cells
 
 module _ (b : Bounds) (s : ℕ) where
+  abbrev answer : Refusal → Located
+  answer v = locatedBy v (take (b .parts) (b .upper)) (b .total) s
+
   pub record-over : 24 < b .parts → record { number = 1; detail = 0; count = 0; composition = replicate 24 0 } ≡ locateRecordOf b s
-  unfolding locateRecordOf firstRefusal
-  record-over l = rw (lt-ltb 24 (b .parts) l)
+  unfolding locateRecordOf
+  record-over l = ap answer (record-many b l)
 
   pub record-located : b .parts ≤ 24 → locateOf (take (b .parts) (b .upper)) (b .total) s ≡ locateRecordOf b s
   unfolding locateOf locateRecordOf
-  record-located l = ap (λ (v : Refusal). locatedBy v (take (b .parts) (b .upper)) (b .total) s) (sym (refusal-next _ _ (le-ltb 24 (b .parts) l)))
+  record-located l = ap answer (record-few b l)

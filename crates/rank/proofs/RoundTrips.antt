@@ -9,8 +9,7 @@ use Rattle.walsh.proofs.Serials.{composition-is, serial-pos, serial-le, composi
 use Rattle.bounds.specs.Refusal.{refused, firstRefusal}
 use Rattle.bounds.specs.Edition.{editionChecks}
 use Rattle.bounds.specs.Places.{compositionChecks, serialChecks, lentChecks, filling}
-use Rattle.bounds.specs.declared.Refusal.{Refusal}
-use Rattle.bounds.proofs.Refusals.{refusal-later, is-accepted}
+use Rattle.bounds.proofs.Refusals.{refusal-later, is-accepted, same-number}
 use Rattle.bounds.proofs.Chains.{Accepts, accepts-split}
 use Rattle.bounds.proofs.Compositions.{composition-passed, composition-passes}
 use Rattle.bounds.proofs.Places.{serial-passed, serial-passes, lent-passed, lent-passes}
@@ -20,14 +19,16 @@ use Rattle.rank.specs.Unrank.{unrankCall}
 module _ (ms : List ℕ) (r : ℕ) where
   -- ---- which calls are accepted, and what they answer
 
-  pub rank-accepted : (g : List ℕ) → rankAnswer ms r g .number ≡ 0 → Accepts (editionChecks ms r) × Composition ms r g × (rankAnswer ms r g .serial ≡ serialOf ms r g)
+  pub rank-accepted : (g : List ℕ) → rankAnswer ms r g .number ≡ 0
+      → Accepts (editionChecks ms r) × Composition ms r g × (rankAnswer ms r g .serial ≡ serialOf ms r g)
   unfolding rankAnswer
   rank-accepted g e =
       let p = is-accepted (firstRefusal (rankChecks ms r g)) _ _ (λ (x : Answer). x .number) (λ (x : Answer). x .detail) refl refl refl _ refl e in
       let q = accepts-split (editionChecks ms r) (compositionChecks ms r g) refl (p .0) in
       (q .0, composition-passed ms r g (q .1), ap (λ (x : Answer). x .serial) (p .1))
 
-  pub rank-accepts : (g : List ℕ) → Accepts (editionChecks ms r) → Composition ms r g → rankAnswer ms r g ≡ record { number = 0; detail = 0; serial = serialOf ms r g }
+  pub rank-accepts : (g : List ℕ) → Accepts (editionChecks ms r) → Composition ms r g
+      → rankAnswer ms r g ≡ record { number = 0; detail = 0; serial = serialOf ms r g }
   unfolding rankAnswer
   rank-accepts g accepted comp = rw (refusal-later (editionChecks ms r) (compositionChecks ms r g) refl accepted, composition-passes ms r g comp)
 
@@ -46,14 +47,15 @@ module _ (ms : List ℕ) (r : ℕ) where
   unrank-accepts s out accepted l h n =
       rw (
         refusal-later (editionChecks ms r) (serialChecks ms r s ++ lentChecks (length ms) (length out)) refl accepted,
-        refusal-later (serialChecks ms r s) (lentChecks (length ms) (length out)) refl (ap (λ (v : Refusal). v .number) (serial-passes ms r s l h)),
+        refusal-later (serialChecks ms r s) (lentChecks (length ms) (length out)) refl (same-number (serial-passes ms r s l h)),
         lent-passes (length ms) (length out) n,
       )
 
   -- ---- the round trips
 
   -- the serial of an accepted composition is never refused with a part of n bytes, and gives the composition back
-  pub unrank-rank : (g out : List ℕ) → rankAnswer ms r g .number ≡ 0 → length out ≡ length ms → unrankCall ms r (rankAnswer ms r g .serial) out ≡ (refused 0 0, g)
+  pub unrank-rank : (g out : List ℕ) → rankAnswer ms r g .number ≡ 0 → length out ≡ length ms
+      → unrankCall ms r (rankAnswer ms r g .serial) out ≡ (refused 0 0, g)
   unrank-rank g out e n =
       let k = rank-accepted g e in
       ap (λ (s : ℕ). unrankCall ms r s out) (k .2)

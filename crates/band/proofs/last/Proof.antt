@@ -1,9 +1,10 @@
 -- `band::last` meets its contract.
-use Prim.Native.Nat.{ℕ, _+_, _-_, _≤_, _<_}
+use Prim.Native.Nat.{ℕ, _-_, _≤_}
 use mathlib.Core.Path.{_≡_, subst}
 use native.Mathlib.Omega.{arith}
 use lib.ListN.{length}
 use denote.Ref.{now}
+use Rattle.band.proofs.Numbers.{suc-le}
 use Rattle.band.proofs.Rows.{row-first}
 use Rattle.band.specs.Band.{IsRow}
 use borrow.Author.Needs.{needs}
@@ -27,9 +28,6 @@ up-requires c κs =
     let p = c .before .before .before .before .pre in
     (p .0, p .1, p .2, omega arith, c .before .loop .inv .1)
 
-less : {a b : ℕ} → a < b → a + 1 ≤ b
-less l = omega arith
-
 returns : tie.Need-returns Inv-loop μ-loop
 returns c =
     let l = c .before .loop in
@@ -48,5 +46,5 @@ last-spec =
     up-requires
     (λ c. search needs)
     (λ c. search needs)
-    (λ c. (less (c .before .loop-test .taken), c .up .ensures))
+    (λ c. (suc-le (c .before .loop-test .taken), c .up .ensures))
     returns)

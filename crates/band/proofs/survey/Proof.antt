@@ -19,9 +19,12 @@ returns : tie.Need-returns
 returns c =
     let s = c .before .before .shape in
     let a = c .before .before .before .before .args in
-    survey-refused (now (a .upper)) (a .total) (s .result .number) (s .result .detail) (shaped-refused _ _ (s .result) (s .ensures) (c .if1 .taken)) (c .if1 .taken)
+    survey-refused (now (a .upper)) (a .total) (s .result .number) (s .result .detail) (shaped-refused _ _ (s .result) (s .ensures) (c .if1 .taken))
+    (c .if1 .taken)
 
-shapely-at : (c : tie.Else1) → let a = c .before .before .before .before .args in Shapely (now (a .upper)) (a .total) × (c .before .before .shape .result .all ≡ whole (now (a .upper)))
+shapely-at : (c : tie.Else1)
+    → let a = c .before .before .before .before .args in
+    Shapely (now (a .upper)) (a .total) × (c .before .before .shape .result .all ≡ whole (now (a .upper)))
 shapely-at c =
     let s = c .before .before .shape in
     let p = shaped-accepted _ _ (s .result) (s .ensures) (le-zero (c .if1 .left)) in
@@ -38,7 +41,8 @@ add-t6 c =
     let k = shapely-at (c .before .before) .0 in
     let l = c .before .last in
     let a = c .before .before .before .before .before .before .args in
-    fits (last-size (now (a .upper)) (a .total) (l .result) (k .reached) (l .ensures)) (size-small (now (a .upper)) (a .total) (k .reached) (k .small) (k .few))
+    fits (last-size (now (a .upper)) (a .total) (l .result) (k .reached) (l .ensures))
+    (size-small (now (a .upper)) (a .total) (k .reached) (k .small) (k .few))
 
 returns-2 : tie.Need-returns-2
 returns-2 c =
@@ -46,7 +50,8 @@ returns-2 c =
     let p = shaped-accepted _ _ (s .result) (s .ensures) (le-zero (c .before .before .if1 .left)) in
     let l = c .before .last in
     let a = c .before .before .before .before .before .before .args in
-    survey-accepted _ _ _ _ (p .0) (p .1) (last-size (now (a .upper)) (a .total) (l .result) (shapely (now (a .upper)) (a .total) (p .0) .reached) (l .ensures))
+    survey-accepted _ _ _ _ (p .0) (p .1)
+    (last-size (now (a .upper)) (a .total) (l .result) (shapely (now (a .upper)) (a .total) (p .0) .reached) (l .ensures))
 
 pub survey-spec : {M : Type 1} → statement M
 survey-spec = tie.close (tie.spec (λ c κs. search needs) returns last-requires add-t6 returns-2)

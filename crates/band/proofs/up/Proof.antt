@@ -31,7 +31,8 @@ returns c =
     let s = c .before .before .before .before .before .before .before in
     let p = s .pre in
     let e = c .row-of .ensures in
-    row-up _ _ _ (p .2) (p .3) (s .args .from) (p .4) _ _ (c .before .before .before .before .before .bound .ensures .0) (e .0) (e .1) (e .2) (e .3) (e .4)
+    row-up _ _ _ (p .2) (p .3) (s .args .from) (p .4) _ _ (c .before .before .before .before .before .bound .ensures .0) (e .0) (e .1) (e .2) (e .3)
+    (e .4)
 
 pub up-spec : {M : Type 1} → statement M
 up-spec =

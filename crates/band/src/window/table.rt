@@ -1,4 +1,4 @@
-// The counting table filled row by row, and N.
+// The band filled row by row, and N.
 ghost use mathlib.Core.Path.{_≡_};
 ghost use Prim.Native.Nat.{_≤_, _<_, min};
 ghost use lib.ListN.{length};
@@ -16,10 +16,12 @@ pub struct Counted {
     pub count: u64,
 }
 
-// Fills the table and answers the number of compositions, or stops and answers 2^63 where that is less.
+// Fills the band and answers the number of compositions, or stops and answers 2^63 where that is less.
 fn fill_rows(upper: &[u8], total: usize, all: usize, cells: &mut [u64]) -> u64
-    requires { ⌜ (length (now upper) ≤ 24) × (total ≤ 255) × (total ≤ whole (now upper)) × (all ≡ whole (now upper)) × (bandSize (now upper) total ≤ length (now cells)) ⌝ }
-    ensures { λ r. ⌜ (r ≡ min (count (now (upper .entry)) (length (now (upper .entry))) total) cap) × (r < cap → Band (now (upper .entry)) total (now (cells .exit))) ⌝ }
+    requires { ⌜ (length (now upper) ≤ 24) × (total ≤ 255) × (total ≤ whole (now upper)) × (all ≡ whole (now upper))
+        × (bandSize (now upper) total ≤ length (now cells)) ⌝ }
+    ensures { λ r. ⌜ (r ≡ min (count (now (upper .entry)) (length (now (upper .entry))) total) cap)
+        × (r < cap → Band (now (upper .entry)) total (now (cells .exit))) ⌝ }
 {
     let n = upper.len();
     let mut row = crate::row_of(total, 0, 0, all);
@@ -60,9 +62,10 @@ pub fn within_limit(n: u64) -> Counted
     }
 }
 
-// Fills the table of a shape that is accepted and answers N, or 5.
+// Fills the band of a shape that is accepted and answers N, or 5.
 pub(crate) fn fill(upper: &[u8], total: u32, all: usize, cells: &mut [u64]) -> Counted
-    requires { ⌜ (firstRefusal (shapeChecks (now upper) total) .number ≡ 0) × (all ≡ whole (now upper)) × (bandSize (now upper) total ≤ length (now cells)) ⌝ }
+    requires { ⌜ (firstRefusal (shapeChecks (now upper) total) .number ≡ 0) × (all ≡ whole (now upper))
+        × (bandSize (now upper) total ≤ length (now cells)) ⌝ }
     ensures { λ r. ⌜ (r ≡ numberOf (now (upper .entry)) total) × (r .number ≡ 0 → Band (now (upper .entry)) total (now (cells .exit))) ⌝ }
 {
     let n = fill_rows(upper, total as usize, all, cells);

@@ -19,7 +19,8 @@ use Rattle.count.proofs.check.Tie as tie
 
 counted-at : (c : tie.Else1)
     → let a = c .before .before .before .before .args in
-    (firstRefusal (editionChecks (now (a .upper)) (a .total)) .number ≡ 0) × (c .before .before .number .result .count ≡ countOf (now (a .upper)) (a .total))
+    (firstRefusal (editionChecks (now (a .upper)) (a .total)) .number ≡ 0)
+    × (c .before .before .number .result .count ≡ countOf (now (a .upper)) (a .total))
 counted-at c = let n = c .before .before .number in numbered-accepted _ _ (n .result) (n .ensures) (le-zero (c .if1 .left))
 
 returns : tie.Need-returns

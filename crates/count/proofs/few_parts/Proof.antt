@@ -18,7 +18,8 @@ use Rattle.count.proofs.few_parts.Tie as tie
 
 abbrev Inv-loop : tie.InvT-loop
 Inv-loop upper total product₀ widest₀ k₀ product widest k =
-    (k ≤ length upper) × (product ≤ 9223372036854775807) × (0 < widest) × (widest ≤ 256) × Few upper total k product widest × ((j : ℕ) → j ≤ k → Within upper total j)
+    (k ≤ length upper) × (product ≤ 9223372036854775807) × (0 < widest) × (widest ≤ 256) × Few upper total k product widest
+    × ((j : ℕ) → j ≤ k → Within upper total j)
 
 abbrev μ-loop : tie.MeasureT-loop
 μ-loop upper total product₀ widest₀ k₀ product widest k = length upper - k
@@ -47,7 +48,9 @@ add-values : tie.Need-add-values Inv-loop μ-loop
 add-values c = omega (arith, c .lesser .ensures, c .before .wide .ensures .1)
 
 add-widest : tie.Need-add-widest Inv-loop μ-loop
-add-widest c = let t = turn-at c in omega (arith, c .before .before .before .before .before .loop .inv .3, c .before .before .wide .ensures .1, c .before .lesser .ensures)
+add-widest c =
+    let t = turn-at c in
+    omega (arith, c .before .before .before .before .before .loop .inv .3, c .before .before .wide .ensures .1, c .before .lesser .ensures)
 
 sub-widest : tie.Need-sub-widest Inv-loop μ-loop
 sub-widest c = let t = turn-at c .factor in omega (arith, t)
@@ -59,15 +62,23 @@ fits l = omega arith
 within : (ms : List ℕ) (r k p w : ℕ) → Few ms r k p w → p ≤ 9223372036854775807 → Within ms r k
 within ms r k p w few l t h = omega (arith, few .each t h)
 
-within-next : (ms : List ℕ) (r k p w : ℕ) → ((j : ℕ) → j ≤ k → Within ms r j) → Few ms r (suc k) p w → p ≤ 9223372036854775807 → (j : ℕ) → j ≤ k + 1 → Within ms r j
+within-next : (ms : List ℕ) (r k p w : ℕ) → ((j : ℕ) → j ≤ k → Within ms r j) → Few ms r (suc k) p w → p ≤ 9223372036854775807 → (j : ℕ)
+    → j ≤ k + 1 → Within ms r j
 within-next ms r k p w old few b j l =
     on-less j (suc k) (λ h _. old j (omega arith)) (λ h _. let q : suc k ≡ j = omega arith in subst (Within ms r) q (within ms r (suc k) p w few b))
 
 loop-holds : tie.Need-loop-holds Inv-loop μ-loop
 loop-holds c =
     let a = c .before .args in
-    let none = few-none (now (a .upper)) (a .total) in
-    (omega arith, omega arith, omega arith, omega arith, none, λ j l. let q : 0 ≡ j = omega arith in subst (Within (now (a .upper)) (a .total)) q (within _ _ 0 1 1 none (omega arith)))
+    let none = few-none (now (a .upper)) (a .total) in (
+      omega arith,
+      omega arith,
+      omega arith,
+      omega arith,
+      none,
+      λ j l. let q : 0 ≡ j = omega arith in
+          subst (Within (now (a .upper)) (a .total)) q (within _ _ 0 1 1 none (omega arith)),
+    )
 
 loop-again : tie.Need-loop-again Inv-loop μ-loop
 loop-again c =

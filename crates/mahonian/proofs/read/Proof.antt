@@ -42,7 +42,8 @@ unfolding readOf
 returns-4 c =
     let x = c .before .before .before .before .before .before .args in
     let within : x .r ≤ top (x .k) = omega arith in
-    let at : c .stored .result ≡ getD table (start (x .k) + x .r) 0 = c .stored .ensures ∙ ap (λ n. getD table (n + x .r) 0) (c .before .start .ensures) in
+    let at : c .stored .result ≡ getD table (start (x .k) + x .r) 0 = c .stored .ensures ∙ ap (λ n. getD table (n + x .r) 0)
+    (c .before .start .ensures) in
     simp
     (le-leb _ _ (c .before .before .before .before .before .if1 .left), le-leb _ _ (c .before .before .before .before .if2 .left), le-leb _ _ within)
     (ap Count (at ∙ stored-is (x .k) (x .r) (omega arith) (omega arith) within))

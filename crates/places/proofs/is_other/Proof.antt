@@ -22,13 +22,15 @@ returns : tie.Need-returns Inv-loop μ-loop
 returns c = let part = c .before .before .before in
     let turn = part .before .before .before in
     let start = turn .before .before .before in
-    other-over (start .args .upper .now) _ (start .args .g .now) (turn .loop .i) (omega arith) (c .before .wide2 .ensures .0) (part .wide .ensures .0) (c .if1 .taken)
+    other-over (start .args .upper .now) _ (start .args .g .now) (turn .loop .i) (omega arith) (c .before .wide2 .ensures .0)
+    (part .wide .ensures .0) (c .if1 .taken)
 
 returns-2 : tie.Need-returns-2 Inv-loop μ-loop
 returns-2 c = let part = c .before .before .before .before in
     let turn = part .before .before .before in
     let start = turn .before .before .before in
-    other-sum (start .args .upper .now) _ (start .args .g .now) (turn .loop .i) (part .before .before .loop-test .taken) (part .wide .ensures .0) (turn .loop .left) (c .if2 .taken) (turn .loop .inv .2)
+    other-sum (start .args .upper .now) _ (start .args .g .now) (turn .loop .i) (part .before .before .loop-test .taken) (part .wide .ensures .0)
+    (turn .loop .left) (c .if2 .taken) (turn .loop .inv .2)
 
 loop-again : tie.Need-loop-again Inv-loop μ-loop
 loop-again c = let bound = c .before .before in
@@ -36,14 +38,17 @@ loop-again c = let bound = c .before .before in
     let turn = part .before .before .before in
     let start = turn .before .before .before in (
       omega arith,
-      within-turn (start .args .upper .now) (start .args .total) (start .args .g .now) (turn .loop .i) (bound .wide2 .ensures .0) (part .wide .ensures .0) (c .before .if1 .left) (turn .loop .inv .1),
-      left-turn (start .args .upper .now) (start .args .total) (start .args .g .now) (turn .loop .i) (part .wide .ensures .0) (turn .loop .left) (c .if2 .left) (turn .loop .inv .2),
+      within-turn (start .args .upper .now) (start .args .total) (start .args .g .now) (turn .loop .i) (bound .wide2 .ensures .0)
+          (part .wide .ensures .0) (c .before .if1 .left) (turn .loop .inv .1),
+      left-turn (start .args .upper .now) (start .args .total) (start .args .g .now) (turn .loop .i) (part .wide .ensures .0) (turn .loop .left)
+          (c .if2 .left) (turn .loop .inv .2),
     )
 
 returns-3 : tie.Need-returns-3 Inv-loop μ-loop
 returns-3 c = let turn = c .before in
     let start = turn .before .before .before in
-    other-end (start .args .upper .now) (start .args .total) (start .args .g .now) (turn .loop .i) (start .pre) (omega arith) (turn .loop .inv .1) (turn .loop .left) (turn .loop .inv .2)
+    other-end (start .args .upper .now) (start .args .total) (start .args .g .now) (turn .loop .i) (start .pre) (omega arith) (turn .loop .inv .1)
+    (turn .loop .left) (turn .loop .inv .2)
 
 pub is-other-spec : {M : Type 1} → statement M
 is-other-spec =

@@ -10,4 +10,5 @@ locate-spec =
     tie.close
     (tie.spec
     (λ c κs. search needs)
-    (λ c. let f = c .before .composition-of in let a = c .before .before .before .args in entry-located (now (a .upper)) (a .total) (a .serial) _ (f .result) (f .ensures)))
+    (λ c. let f = c .before .composition-of in let a = c .before .before .before .args in
+    entry-located (now (a .upper)) (a .total) (a .serial) _ (f .result) (f .ensures)))

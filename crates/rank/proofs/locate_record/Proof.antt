@@ -20,4 +20,5 @@ locate-record-spec =
     (λ c. omega (arith, upper-long (c .before .before)))
     (λ c. sym (length-take-le _ (c .before .before .before .args .bounds .upper) (omega (arith, upper-long (c .before .before .before)))))
     (λ c κs. search needs)
-    (λ c. c .locate .ensures ∙ record-located (c .before .before .before .before .args .bounds) (c .before .before .before .before .args .serial) (c .before .before .before .if1 .left)))
+    (λ c. c .locate .ensures ∙ record-located (c .before .before .before .before .args .bounds) (c .before .before .before .before .args .serial)
+    (c .before .before .before .if1 .left)))

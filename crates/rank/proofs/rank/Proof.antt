@@ -1,4 +1,4 @@
--- `rank::rank` meets its contract. By what `find` answers.
+-- `rank::rank` meets its contract. By what `serial_of` answers.
 use native.Mathlib.Omega.{arith}
 use borrow.Author.Needs.{needs}
 use Rattle.rank.proofs.Calls.{ranked-refused, ranked-accepted}

@@ -24,19 +24,23 @@ entry-at : (c : tie.Else1)
     → let a = c .before .before .before .before .before .args in
     let ms = now (a .upper) in
     let f = c .before .before .composition-of .result in
-    (firstRefusal (editionChecks ms (a .total)) .number ≡ 0) × (f .count ≡ countOf ms (a .total)) × (f .composition ≡ nearest ms (a .total) (a .serial))
+    (firstRefusal (editionChecks ms (a .total)) .number ≡ 0) × (f .count ≡ countOf ms (a .total))
+    × (f .composition ≡ nearest ms (a .total) (a .serial))
 entry-at c =
     let a = c .before .before .before .before .before .args in
     let f = c .before .before .composition-of in
     entry-accepted (now (a .upper)) (a .total) (a .serial) _ (f .result) (f .ensures) (omega arith)
 
 returns-3 : tie.Need-returns-3
-returns-3 c = let k = entry-at (c .before .before .before .before) in serial-over _ _ _ _ (k .0) (c .before .before .before .if2 .left) (rw (k .1) at (c .before .if3 .taken)) (c .refused3 .ensures)
+returns-3 c =
+    let k = entry-at (c .before .before .before .before) in
+    serial-over _ _ _ _ (k .0) (c .before .before .before .if2 .left) (rw (k .1) at (c .before .if3 .taken)) (c .refused3 .ensures)
 
 returns-4 : tie.Need-returns-4
 returns-4 c =
     let k = entry-at (c .before .before .before .before .before) in
-    part-other _ _ _ _ (k .0) (c .before .before .before .before .if2 .left) (rw (k .1) at (c .before .before .if3 .left)) (c .before .if4 .taken) (c .refused4 .ensures)
+    part-other _ _ _ _ (k .0) (c .before .before .before .before .if2 .left) (rw (k .1) at (c .before .before .if3 .left)) (c .before .if4 .taken)
+    (c .refused4 .ensures)
 
 returns-5 : tie.Need-returns-5
 returns-5 c =

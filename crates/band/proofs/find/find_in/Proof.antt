@@ -24,10 +24,14 @@ returns c =
     let ms = now (a .upper) in
     let f = c .before .before .before .before .before .fill .result in
     let l = c .before .if1 .taken in
-    c .nothing .ensures ∙ found-edition ms (a .total) (a .task) _ (f .number) (f .detail) (numbered-refused ms (a .total) f (c .before .before .before .before .before .fill .ensures .0) l) l
+    c .nothing .ensures ∙ found-edition ms (a .total) (a .task) _ (f .number) (f .detail)
+    (numbered-refused ms (a .total) f (c .before .before .before .before .before .fill .ensures .0) l) l
 
 -- the table has a cell
-size-at : (c : tie.After-fill) → (0 < length (c .fill .last .1 .1 .1 .0)) × (length (c .fill .last .1 .1 .1 .0) ≡ bandSize (now (c .before .before .before .before .before .args .upper)) (c .before .before .before .before .before .args .total))
+size-at : (c : tie.After-fill)
+    → (0 < length (c .fill .last .1 .1 .1 .0))
+    × (length (c .fill .last .1 .1 .1 .0) ≡ bandSize (now (c .before .before .before .before .before .args .upper))
+    (c .before .before .before .before .before .args .total))
 size-at c =
     let s = c .before .before .before .before .before in
     let ms = now (s .args .upper) in
@@ -44,7 +48,8 @@ ready-at : (c : tie.Else1)
     → let a = c .before .before .before .before .before .before .before .before .before .args in
     let f = c .before .before .before .before .fill in
     let cells = f .last .1 .1 .1 .0 in
-    Ready (now (a .upper)) (a .total) (record { start = length cells - 1; left = a .all; all = a .all; low = a .total; high = a .total }) cells (f .result .count)
+    Ready (now (a .upper)) (a .total) (record { start = length cells - 1; left = a .all; all = a .all; low = a .total; high = a .total }) cells
+    (f .result .count)
 ready-at c =
     let s = c .before .before .before .before .before .before .before .before .before in
     let ms = now (s .args .upper) in
@@ -84,7 +89,8 @@ find-in-spec =
     (λ c. search needs)
     (λ c κs. ready-at (c .before .before .before .before))
     (λ c. search needs)
-    (λ c. let a = c .before .before .before .before .before .before .before .before .before .before .before .before .before .args in c .rank-in .ensures ∙ ap (λ (q : Task). foundOf q (now (a .upper)) (a .total) (now (a .given))) (sym (c .before .before .enum-told .given .1)))
+    (λ c. let a = c .before .before .before .before .before .before .before .before .before .before .before .before .before .args in
+    c .rank-in .ensures ∙ ap (λ (q : Task). foundOf q (now (a .upper)) (a .total) (now (a .given))) (sym (c .before .before .enum-told .given .1)))
     (λ c. search needs)
     (λ c. let a = c .before .before .before .before .before .before .before .before .before .before .before .before .before .before .args in
     c .unrank-in .ensures

@@ -28,5 +28,6 @@ in-small-spec =
     (λ c. c .before .find-in4 .ensures)
     (λ c. c .before .before .before .before .before .before .pre .1)
     (λ c. sym (prefix-length _ 1024 (c .before .before .before .before .before .before .before .pre .1)))
-    (λ c κs. lent-cells 1024 (c .before .before .before .before .before .before .before .pre .0) (c .before .before .before .before .before .before .before .pre .1))
+    (λ c κs. lent-cells 1024 (c .before .before .before .before .before .before .before .pre .0)
+    (c .before .before .before .before .before .before .before .pre .1))
     (λ c. c .before .find-in5 .ensures))

@@ -15,7 +15,10 @@ returns c =
     let l = c .before .if1 .taken in
     c .nothing .ensures ∙ found-shape _ _ Rank _ _ _ (surveyed-refused _ _ (s .result) (s .ensures) l) l
 
-sized-at : (c : tie.Else1) → let a = c .before .before .before .before .before .args in let s = c .before .before .survey .result in Sized (now (a .upper)) (a .total) (s .all) (s .size)
+sized-at : (c : tie.Else1)
+    → let a = c .before .before .before .before .before .args in
+    let s = c .before .before .survey .result in
+    Sized (now (a .upper)) (a .total) (s .all) (s .size)
 sized-at c = let s = c .before .before .survey in sized _ _ (s .result) (s .ensures) (c .if1 .left)
 
 pub serial-of-spec : {M : Type 1} → statement M

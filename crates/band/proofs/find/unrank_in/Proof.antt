@@ -13,12 +13,14 @@ use Rattle.band.proofs.Finds.{found-entry, clamp-place}
 use Rattle.band.proofs.find.unrank_in.Statement.{statement}
 use Rattle.band.proofs.find.unrank_in.Tie as tie
 
-place-at : (c : tie.After-nearest)
+place-at : (c : tie.After-clamp)
     → let a = c .before .before .before .args in
     let ms = now (a .upper) in
-    let s = c .nearest .result in
+    let s = c .clamp .result in
     (0 < s) × (s - 1 < count ms (length ms) (a .total)) × (s ≡ clamp (countOf ms (a .total)) (a .serial))
-place-at c = let s = c .before .before .before in clamp-place (now (s .args .upper)) (s .args .total) _ _ _ (s .pre .filled .reached) (s .pre .count) (c .nearest .ensures)
+place-at c =
+    let s = c .before .before .before in
+    clamp-place (now (s .args .upper)) (s .args .total) _ _ _ (s .pre .filled .reached) (s .pre .count) (c .clamp .ensures)
 
 length-at : (c : tie.Start) → let n = length (now (c .args .upper)) in length (take {A = ℕ} n (replicate 24 0)) ≡ n
 length-at c = prefix-length (length (now (c .args .upper))) 24 (c .pre .filled .few)
@@ -28,7 +30,8 @@ unfolding compositionOf
 returns c =
     let s = c .before .before .before .before .before .before in
     let w = c .before .write in
-    found-entry _ _ (s .pre .accepted) _ (s .args .count) (s .args .serial) (c .before .before .before .nearest .result) _ (s .pre .count) (place-at (c .before .before .before) .2)
+    found-entry _ _ (s .pre .accepted) _ (s .args .count) (s .args .serial) (c .before .before .before .clamp .result) _ (s .pre .count)
+    (place-at (c .before .before .before) .2)
     (in-cells (w .last .1 .1 .1 .1 .1 .0) (length (now (s .args .upper))) (w .kept .1 .1 .1 .1 .1 .0 ∙ length-at s) ∙ ap cellsOf (w .ensures))
 
 pub unrank-in-spec : {M : Type 1} → statement M

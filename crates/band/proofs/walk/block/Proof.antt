@@ -17,7 +17,9 @@ index-at : (c : tie.After-value)
     → let a = c .before .before .args in
     let i = a .row .start + (a .rem - c .value .result - a .row .low) in
     (i ≤ 6399) × (i < length (now (a .cells)))
-index-at c = let p = c .before .before .pre .0 in let v = value-at c in inside (c .before .before .args .row .low) (v .0) (v .1) (p .small) (p .start) (p .room)
+index-at c =
+    let p = c .before .before .pre .0 in
+    let v = value-at c in inside (c .before .before .args .row .low) (v .0) (v .1) (p .small) (p .start) (p .room)
   where
     inside : {lo v hi rem start n : ℕ} (low : ℕ) → lo ≤ v → v ≤ hi → rem ≤ 255 → start ≤ 6144 → start + (rem - lo - low) < n
         → (start + (rem - v - low) ≤ 6399) × (start + (rem - v - low) < n)
@@ -33,4 +35,5 @@ block-spec =
     (λ c. omega (arith, index-at (c .before .before) .0))
     (λ c. omega (arith, index-at (c .before .before) .0))
     (λ c. index-at (c .before .before .before) .1)
-    (λ c. let a = c .before .before .before .before .before .args in ap (λ (v : ℕ). getD (now (a .cells)) (a .row .start + (a .rem - v - a .row .low)) 0) (c .before .before .before .value .ensures)))
+    (λ c. let a = c .before .before .before .before .before .args in
+    ap (λ (v : ℕ). getD (now (a .cells)) (a .row .start + (a .rem - v - a .row .low)) 0) (c .before .before .before .value .ensures)))

@@ -26,7 +26,8 @@ row-at : (c : tie.After-lesser)
     let ms = now (a .upper) in
     let low = c .before .over .result in
     let high = c .lesser .result in
-    (a .from .left - c .before .before .before .before .wide .result ≡ sumTo ms (a .k)) × (a .from .all ≡ whole ms) × (low ≡ lowest ms (a .total) (a .k)) × (high ≡ highest ms (a .total) (a .k)) × (low ≤ high) × (high ≤ a .total)
+    (a .from .left - c .before .before .before .before .wide .result ≡ sumTo ms (a .k)) × (a .from .all ≡ whole ms)
+    × (low ≡ lowest ms (a .total) (a .k)) × (high ≡ highest ms (a .total) (a .k)) × (low ≤ high) × (high ≤ a .total)
     × (high + 1 - low + rowStart ms (a .total) (a .k) ≡ a .from .start)
 row-at c =
     let s = c .before .before .before .before .before .before .before in
@@ -59,4 +60,5 @@ returns c =
 pub down-spec : {M : Type 1} → statement M
 down-spec =
     tie.close
-    (tie.spec (λ c. search needs) (λ c κs. search needs) sub-left sub-over (λ c κs. search needs) (λ c κs. search needs) add-high sub-low sub-start returns)
+    (tie.spec (λ c. search needs) (λ c κs. search needs) sub-left sub-over (λ c κs. search needs)
+    (λ c κs. search needs) add-high sub-low sub-start returns)

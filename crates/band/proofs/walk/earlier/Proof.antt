@@ -12,6 +12,7 @@ use Rattle.walsh.proofs.Lists.{index-lt, sum-mono}
 use Rattle.walsh.proofs.Listing.{count-blocks}
 use Rattle.walsh.proofs.Window.{sum-at, sum-step}
 use Rattle.band.specs.Band.{cap}
+use Rattle.band.proofs.Numbers.{below-256}
 use Rattle.band.proofs.Runs.{run-ends, run-choices, run-index, run-readable, run-block}
 use Rattle.band.proofs.walk.earlier.Statement.{statement}
 use Rattle.band.proofs.walk.earlier.Tie as tie
@@ -29,7 +30,8 @@ steps-at : (c : tie.After-index Inv-loop μ-loop)
 steps-at c =
     let s = c .before .before .before .before in
     let a = s .args in
-    let same = c .index .ensures ∙ run-index (now (a .upper)) (a .k) (a .rem) (a .t) (c .before .run-of .result) (c .before .run-of .ensures) (a .v) in
+    let same = c .index .ensures ∙ run-index (now (a .upper)) (a .k) (a .rem) (a .t) (c .before .run-of .result) (c .before .run-of .ensures)
+    (a .v) in
     let b = index-lt (least (now (a .upper)) (a .k) (a .rem)) (most (now (a .upper)) (a .k) (a .rem)) (isOdd (a .t)) (a .v) (s .pre .1) (s .pre .2) in
     (same, rw same b)
 
@@ -48,17 +50,15 @@ block-at c =
     let l : i < c .before .before .before .index .result = omega arith in
     let w = c .before .before .before .before .run-of in
     let h = s .pre .0 in
-    let is = run-block (now (a .upper)) (a .k) (a .rem) (a .t) (w .result) (w .ensures) (a .row) (now (a .cells)) h i (c .block .result) (lt-trans l (n .1)) (c .block .ensures) in
+    let is = run-block (now (a .upper)) (a .k) (a .rem) (a .t) (w .result) (w .ensures) (a .row) (now (a .cells)) h i (c .block .result)
+    (lt-trans l (n .1)) (c .block .ensures) in
     let more = sum-mono f (i + 1) (partChoices (now (a .upper)) (a .k) (a .rem)) (next l (n .1)) in
     let fits = run-readable (now (a .upper)) (a .k) (a .rem) (a .t) (w .result) (w .ensures) (a .row) (now (a .cells)) h in
-    let all = h .table .holds (suc (a .k)) (h .inside) (a .rem) (h .band) (small (fits .small)) .1 in
+    let all = h .table .holds (suc (a .k)) (h .inside) (a .rem) (h .band) (below-256 (fits .small)) .1 in
     (is, sum-step f i, under more (count-blocks (now (a .upper)) (a .k) (a .rem) (a .t)) all)
   where
     next : {i x n : ℕ} → i < x → x < n → i + 1 ≤ n
     next p q = omega arith
-
-    small : {rem : ℕ} → rem ≤ 255 → rem < 256
-    small p = omega arith
 
     under : {x y z m : ℕ} → x ≤ y → y ≡ z → z < m → x < m
     under p q r = omega arith
@@ -85,7 +85,8 @@ returns c =
     let l = c .before .loop in
     let a = c .before .before .before .before .before .before .args in
     let n = steps-at (c .before .before) in
-    l .inv .1 ∙ sum-at (blockSize (now (a .upper)) (a .k) (a .rem) (a .t)) (l .i) (partIndex (now (a .upper)) (a .k) (a .rem) (a .t) (a .v)) (omega arith)
+    l .inv .1 ∙ sum-at (blockSize (now (a .upper)) (a .k) (a .rem) (a .t)) (l .i) (partIndex (now (a .upper)) (a .k) (a .rem) (a .t) (a .v))
+    (omega arith)
 
 pub earlier-spec : {M : Type 1} → statement M
 earlier-spec =

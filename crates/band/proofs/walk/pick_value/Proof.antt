@@ -25,14 +25,20 @@ abbrev μ-loop : tie.MeasureT-loop
 μ-loop upper k row cells rem t rank w i₀ s₀ size₀ i s size = partChoices upper k rem - i
 
 -- the rank is below the sum of all blocks
-below-at : (c : tie.Start Inv-loop μ-loop) → let a = c .args in a .rank < sum (blockSize (now (a .upper)) (a .k) (a .rem) (a .t)) (partChoices (now (a .upper)) (a .k) (a .rem))
+below-at : (c : tie.Start Inv-loop μ-loop)
+    → let a = c .args in
+    a .rank < sum (blockSize (now (a .upper)) (a .k) (a .rem) (a .t)) (partChoices (now (a .upper)) (a .k) (a .rem))
 below-at c = let a = c .args in omega (arith, count-blocks (now (a .upper)) (a .k) (a .rem) (a .t), c .pre .1)
 
 first-at : (c : tie.Start Inv-loop μ-loop) → let a = c .args in 0 < partChoices (now (a .upper)) (a .k) (a .rem)
-first-at c = let a = c .args in scan-first (blockSize (now (a .upper)) (a .k) (a .rem) (a .t)) (partChoices (now (a .upper)) (a .k) (a .rem)) (a .rank) (below-at c)
+first-at c =
+    let a = c .args in
+    scan-first (blockSize (now (a .upper)) (a .k) (a .rem) (a .t)) (partChoices (now (a .upper)) (a .k) (a .rem)) (a .rank) (below-at c)
 
 -- a further value, where the rank is not in this block
-next-at : (c : tie.In-loop Inv-loop μ-loop) → let a = c .before .before .before .before .before .before .args in c .before .loop .i + 1 < partChoices (now (a .upper)) (a .k) (a .rem)
+next-at : (c : tie.In-loop Inv-loop μ-loop)
+    → let a = c .before .before .before .before .before .before .args in
+    c .before .loop .i + 1 < partChoices (now (a .upper)) (a .k) (a .rem)
 next-at c =
     let s = c .before .before .before .before .before .before in
     let a = s .args in
@@ -61,7 +67,8 @@ loop-holds c =
     let w = c .before .run-of in (
       first-at s,
       omega arith,
-      run-block (now (a .upper)) (a .k) (a .rem) (a .t) (w .result) (w .ensures) (a .row) (now (a .cells)) (s .pre .0) 0 (c .block .result) (first-at s) (c .block .ensures),
+      run-block (now (a .upper)) (a .k) (a .rem) (a .t) (w .result) (w .ensures) (a .row) (now (a .cells)) (s .pre .0) 0 (c .block .result)
+          (first-at s) (c .block .ensures),
     )
 
 add-i : tie.Need-add-i Inv-loop μ-loop
@@ -81,11 +88,13 @@ loop-again c =
     let n = next-at (c .before) in (
       n,
       omega (arith, sum-step (blockSize (now (a .upper)) (a .k) (a .rem) (a .t)) (l .i)),
-      run-block (now (a .upper)) (a .k) (a .rem) (a .t) (w .result) (w .ensures) (a .row) (now (a .cells)) (s .pre .0) (l .i + 1) (c .block2 .result) n (c .block2 .ensures),
+      run-block (now (a .upper)) (a .k) (a .rem) (a .t) (w .result) (w .ensures) (a .row) (now (a .cells)) (s .pre .0) (l .i + 1)
+          (c .block2 .result) n (c .block2 .ensures),
     )
 
 value-requires : tie.Need-value-requires Inv-loop μ-loop
-value-requires c κs = let k = asks-at (c .before .before .before) (c .before .loop .i) (c .before .loop .inv .0) in (le-trans (k .0 .high) (k .0 .small), k .1)
+value-requires c κs =
+    let k = asks-at (c .before .before .before) (c .before .loop .i) (c .before .loop .inv .0) in (le-trans (k .0 .high) (k .0 .small), k .1)
 
 returns : tie.Need-returns Inv-loop μ-loop
 returns c =
@@ -93,7 +102,8 @@ returns c =
     let l = c .before .before .loop in
     let w = c .before .before .before .before .run-of in
     picked (now (a .upper)) (a .k) (a .rem) (a .t) (a .rank) (l .i) (c .value .result) (l .s) (l .inv .0)
-    (run-picks (now (a .upper)) (a .k) (a .rem) (a .t) (w .result) (w .ensures) (l .i) (c .value .result) (c .value .ensures)) (l .inv .1) (omega arith)
+    (run-picks (now (a .upper)) (a .k) (a .rem) (a .t) (w .result) (w .ensures) (l .i) (c .value .result) (c .value .ensures)) (l .inv .1)
+    (omega arith)
 
 pub pick-value-spec : {M : Type 1} → statement M
 pick-value-spec =

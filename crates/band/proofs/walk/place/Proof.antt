@@ -1,6 +1,6 @@
--- `band::walk::place` meets its contract. The sum so far and the rank of the parts that are left make up the rank.
+-- `band::walk::place` meets its contract. The sum so far and the rank of the parts that are left make suc-pred the rank.
 use mathlib.Core.Path.{_≡_, ap, _∙_}
-use Prim.Native.Nat.{ℕ, suc, _+_, _-_, _≤_, _<_}
+use Prim.Native.Nat.{ℕ, _+_, _-_, _≤_, _<_}
 use native.Mathlib.Nat.{zero-add}
 use native.Mathlib.Omega.{arith}
 use lib.ListN.{length}
@@ -8,6 +8,7 @@ use denote.Ref.{now}
 use borrow.Author.Needs.{needs}
 use Rattle.walsh.specs.Order.{CompositionTo}
 use Rattle.walsh.specs.Rank.{rankOf}
+use Rattle.band.proofs.Numbers.{suc-pred}
 use Rattle.band.proofs.Parts.{Walks, walk-starts, turn-down, turn-here, turn-next, Part, part, rank-done, rank-small}
 use Rattle.band.proofs.walk.place.Statement.{statement}
 use Rattle.band.proofs.walk.place.Tie as tie
@@ -32,9 +33,6 @@ loop-holds c =
 some-at : (c : tie.In-loop Inv-loop μ-loop) → 0 < c .before .loop .k
 some-at c = omega arith
 
-up : {k : ℕ} → 0 < k → k ≡ suc (k - 1)
-up l = omega arith
-
 down-requires : tie.Need-down-requires Inv-loop μ-loop
 down-requires c κs =
     let s = c .before .before .before .before .before in
@@ -53,30 +51,49 @@ part-at : (c : tie.After-wide Inv-loop μ-loop)
     Part (now (a .upper)) (now (a .g)) (l .k - 1) (l .k) (l .rem) (l .t) (c .wide .result)
 part-at c =
     let l = c .before .before .before .before .loop in
-    part _ _ (l .k - 1) (l .k) (l .rem) (l .t) _ (up (some-at (c .before .before .before))) (l .inv .1) (c .wide .ensures .0)
+    part _ _ (l .k - 1) (l .k) (l .rem) (l .t) _ (suc-pred (some-at (c .before .before .before))) (l .inv .1) (c .wide .ensures .0)
 
 earlier-requires : tie.Need-earlier-requires Inv-loop μ-loop
 earlier-requires c κs =
     let s = c .before .before .before .before .before .before .before .before in
     let l = c .before .before .before .before .loop in
-    let p = part-at c in
-    (turn-here _ _ (s .args .last) _ (s .pre .0) (l .k) (l .rem) (l .t) (l .row) (l .inv .0) (some-at (c .before .before .before)) (c .before .before .down .result) (c .before .before .down .ensures), p .low, p .high)
+    let p = part-at c in (
+      turn-here _ _ (s .args .last) _ (s .pre .0) (l .k) (l .rem) (l .t) (l .row) (l .inv .0) (some-at (c .before .before .before))
+          (c .before .before .down .result) (c .before .before .down .ensures),
+      p .low,
+      p .high,
+    )
 
 -- the value is at most what is left, and that is small
-value-at : (c : tie.After-earlier Inv-loop μ-loop) → (c .before .wide .result ≤ c .before .before .before .before .before .loop .rem) × (c .before .before .before .before .before .loop .t + c .before .before .before .before .before .loop .rem ≤ 255)
-value-at c = let l = c .before .before .before .before .before .loop in (omega (arith, part-at (c .before) .high), rw (l .inv .0 .sum) (c .before .before .before .before .before .before .before .before .before .pre .0 .small))
+value-at : (c : tie.After-earlier Inv-loop μ-loop)
+    → (c .before .wide .result ≤ c .before .before .before .before .before .loop .rem)
+    × (c .before .before .before .before .before .loop .t + c .before .before .before .before .before .loop .rem ≤ 255)
+value-at c =
+    let l = c .before .before .before .before .before .loop in (
+      omega (arith, part-at (c .before) .high),
+      rw (l .inv .0 .sum)
+          (c .before .before .before .before .before .before .before .before .before .pre .0 .small),
+    )
 
 add-s : tie.Need-add-s Inv-loop μ-loop
 add-s c =
     let s = c .before .before .before .before .before .before .before .before .before in
-    omega (arith, part-at (c .before) .rank, c .before .before .before .before .before .loop .inv .2, rank-small _ _ (s .args .last) _ (s .pre .0) _ (s .pre .2), c .earlier .ensures)
+    omega (
+      arith,
+      part-at (c .before) .rank,
+      c .before .before .before .before .before .loop .inv .2,
+      rank-small _ _ (s .args .last) _ (s .pre .0) _
+          (s .pre .2),
+      c .earlier .ensures,
+    )
 
 loop-again : tie.Need-loop-again Inv-loop μ-loop
 loop-again c =
     let s = c .before .before .before .before .before .before .before .before .before in
     let l = c .before .before .before .before .before .loop in
     let p = part-at (c .before) in (
-      turn-next _ _ (s .args .last) _ (s .pre .0) (l .k) (l .rem) (l .t) (l .row) (l .inv .0) (some-at (c .before .before .before .before)) (c .before .before .before .down .result) (c .before .before .before .down .ensures) (c .before .wide .result) (p .low) (p .high),
+      turn-next _ _ (s .args .last) _ (s .pre .0) (l .k) (l .rem) (l .t) (l .row) (l .inv .0) (some-at (c .before .before .before .before))
+          (c .before .before .before .down .result) (c .before .before .before .down .ensures) (c .before .wide .result) (p .low) (p .high),
       p .down,
       omega (arith, l .inv .2, p .rank, c .earlier .ensures),
     )

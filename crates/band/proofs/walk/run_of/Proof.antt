@@ -6,7 +6,9 @@ use Rattle.band.proofs.walk.run_of.Tie as tie
 
 returns : tie.Need-returns
 unfolding runOf
-returns c = simp (c .before .before .before .before .over .ensures, c .before .lesser .ensures, c .is-odd .ensures, c .before .before .wide .ensures .0, c .before .before .before .before .before .before .pre .1)
+returns c =
+    let at-over = c .before .before .before .before in
+    simp (at-over .over .ensures, c .before .lesser .ensures, c .is-odd .ensures, c .before .before .wide .ensures .0, at-over .before .before .pre .1)
 
 pub run-of-spec : {M : Type 1} → statement M
 run-of-spec =

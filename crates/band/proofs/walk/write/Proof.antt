@@ -1,13 +1,14 @@
 -- `band::walk::write` meets its contract. What is still to be found, with the parts stored so far behind it, is the composition.
 use mathlib.Core.Path.{_≡_, refl, sym, ap, _∙_}
 use mathlib.Core.List.{[], _++_, append-nil}
-use Prim.Native.Nat.{ℕ, suc, _+_, _-_, _≤_, _<_}
+use Prim.Native.Nat.{ℕ, _+_, _-_, _≤_, _<_}
 use native.Mathlib.Omega.{arith}
 use lib.ListN.{length, length-set, getD, drop}
 use lib.Seq.{drop-length}
 use denote.Ref.{now}
 use borrow.Author.Needs.{needs}
 use Rattle.walsh.specs.Order.{count, listing, order}
+use Rattle.band.proofs.Numbers.{suc-pred}
 use Rattle.band.proofs.Picks.{picked-le, picked-store, listing-done}
 use Rattle.band.proofs.Parts.{Walks, walk-starts, turn-down, turn-here, turn-next}
 use Rattle.band.proofs.walk.write.Statement.{statement}
@@ -38,9 +39,6 @@ loop-holds c =
 some-at : (c : tie.In-loop Inv-loop μ-loop) → 0 < c .before .loop .k
 some-at c = omega arith
 
-up : {k : ℕ} → 0 < k → k ≡ suc (k - 1)
-up l = omega arith
-
 down-requires : tie.Need-down-requires Inv-loop μ-loop
 down-requires c κs =
     let s = c .before .before .before .before .before in
@@ -51,12 +49,17 @@ pick-value-requires : tie.Need-pick-value-requires Inv-loop μ-loop
 pick-value-requires c κs =
     let s = c .before .before .before .before .before .before in
     let l = c .before .before .loop in
-    let some = some-at (c .before) in
-    (turn-here _ _ (s .args .last) _ (s .pre .0) (l .k) (l .rem) (l .t) (l .row) (l .inv .0) some (c .down .result) (c .down .ensures), rw (← up some) (l .inv .2))
+    let some = some-at (c .before) in (
+      turn-here _ _ (s .args .last) _ (s .pre .0) (l .k) (l .rem) (l .t) (l .row) (l .inv .0) some (c .down .result) (c .down .ensures),
+      rw
+          (← suc-pred some) (l .inv .2),
+    )
 
 -- the value is at most what is left, and that is small
 value-at : (c : tie.After-pick-value Inv-loop μ-loop)
-    → (c .pick-value .result .value ≤ c .before .before .before .loop .rem) × (c .before .before .before .loop .t + c .before .before .before .loop .rem ≤ 255) × (c .before .before .before .loop .k - 1 < length (c .before .before .before .loop .out))
+    → (c .pick-value .result .value ≤ c .before .before .before .loop .rem)
+    × (c .before .before .before .loop .t + c .before .before .before .loop .rem ≤ 255)
+    × (c .before .before .before .loop .k - 1 < length (c .before .before .before .loop .out))
 value-at c =
     let s = c .before .before .before .before .before .before .before in
     let l = c .before .before .before .loop in
@@ -69,10 +72,11 @@ loop-again c =
     let l = c .before .before .before .loop in
     let p = c .pick-value in
     let some = some-at (c .before .before) in (
-      turn-next _ _ (s .args .last) _ (s .pre .0) (l .k) (l .rem) (l .t) (l .row) (l .inv .0) some (c .before .down .result) (c .before .down .ensures) (p .result .value) (p .ensures .low) (p .ensures .high),
+      turn-next _ _ (s .args .last) _ (s .pre .0) (l .k) (l .rem) (l .t) (l .row) (l .inv .0) some (c .before .down .result)
+          (c .before .down .ensures) (p .result .value) (p .ensures .low) (p .ensures .high),
       length-set (l .out) (l .k - 1) (p .result .value) ∙ l .inv .1,
       p .ensures .inside,
-      picked-store _ _ _ _ _ _ _ (p .ensures) (l .k) (l .out) (up some) (value-at c .2) ∙ l .inv .3,
+      picked-store _ _ _ _ _ _ _ (p .ensures) (l .k) (l .out) (suc-pred some) (value-at c .2) ∙ l .inv .3,
     )
 
 returns : tie.Need-returns Inv-loop μ-loop

@@ -9,8 +9,9 @@ use mir.Val.{Fits}
 use mir.Syntax.{w64}
 use borrow.Author.Needs.{needs}
 use Rattle.walsh.proofs.Cases.{closer}
-use Rattle.band.specs.Band.{highest, InBand, bandSize, cellIndex, cap}
-use Rattle.band.specs.Window.{Filled}
+use Rattle.band.specs.Band.{highest, InBand, bandSize, cellIndex}
+use Rattle.band.specs.Window.{FilledTo}
+use Rattle.band.proofs.Numbers.{suc-le, le-suc, le-last, lt-cap}
 use Rattle.band.proofs.Bands.{band-ends, cell-room}
 use Rattle.band.proofs.Rows.{at-low, at-place, at-small, store-row, store-rows}
 use Rattle.band.proofs.Slides.{slid-done, slid-most}
@@ -19,7 +20,7 @@ use Rattle.band.proofs.window.fill_span.Tie as tie
 
 abbrev Inv-loop : tie.InvT-loop
 Inv-loop upper total k m row next cells₀ w0 end enters leaves w₀ t₀ cells w t =
-    (t₀ ≤ t) × (t ≤ end) × (length cells ≡ length cells₀) × Filled upper total k t w cells
+    (t₀ ≤ t) × (t ≤ end) × (length cells ≡ length cells₀) × FilledTo upper total k t w cells
 
 abbrev μ-loop : tie.MeasureT-loop
 μ-loop upper total k m row next cells₀ w0 end enters leaves w₀ t₀ cells w t = end - t
@@ -27,23 +28,16 @@ abbrev μ-loop : tie.MeasureT-loop
 fits-next : (t h r x : ℕ) → t ≤ h → h ≡ min r x → r ≤ 255 → Fits w64 (t + 1)
 fits-next t h r x l e s = omega arith
 
-lt-of : {w : ℕ} → w ≤ 9223372036854775807 → w < cap
-lt-of l = omega arith
-
-le-suc : {t h e : ℕ} → t < e → e ≤ h + 1 → t ≤ h
-le-suc a b = omega arith
-
-suc-le : {t e : ℕ} → t < e → t + 1 ≤ e
-suc-le l = omega arith
-
-le-add : {a t : ℕ} → a ≤ t → a ≤ t + 1
-le-add l = omega arith
-
 -- the sum is one of the row that is filled
-in-at : (c : tie.In-loop Inv-loop μ-loop) → let a = c .before .before .before .before .args in (a .next .low ≤ c .before .loop .t) × (c .before .loop .t ≤ a .next .high)
-in-at c = let p = c .before .before .before .before .pre in (le-trans (p .2 .low) (c .before .loop .inv .0), le-suc (c .loop-test .taken) (p .2 .high))
+in-at : (c : tie.In-loop Inv-loop μ-loop)
+    → let a = c .before .before .before .before .args in
+    (a .next .low ≤ c .before .loop .t) × (c .before .loop .t ≤ a .next .high)
+in-at c =
+    let p = c .before .before .before .before .pre in (le-trans (p .2 .low) (c .before .loop .inv .0), le-last (c .loop-test .taken) (p .2 .high))
 
-band-at : (c : tie.In-loop Inv-loop μ-loop) → let a = c .before .before .before .before .args in InBand (now (a .upper)) (a .total) (a .k + 1) (c .before .loop .t)
+band-at : (c : tie.In-loop Inv-loop μ-loop)
+    → let a = c .before .before .before .before .args in
+    InBand (now (a .upper)) (a .total) (a .k + 1) (c .before .loop .t)
 band-at c =
     let i = in-at c in
     let f = c .before .before .before .before .pre .0 .to in
@@ -86,8 +80,9 @@ returns c =
 
 slice-write-cells : tie.Need-slice-write-cells Inv-loop μ-loop
 slice-write-cells c =
-    let p = place-at (c .before .before .before .before .before) in
-    omega (arith, c .before .before .before .before .before .before .loop .inv .2, c .before .before .before .before .before .before .before .before .before .pre .0 .room)
+    let turn = c .before .before .before .before .before in
+    let p = place-at turn in
+    omega (arith, turn .before .loop .inv .2, turn .before .before .before .before .pre .0 .room)
 
 loop-again : tie.Need-loop-again Inv-loop μ-loop
 loop-again c =
@@ -101,9 +96,9 @@ loop-again c =
     let w = c .before .before .before .step in
     let room : cellIndex ms (a .total) (a .k + 1) (l .t) < length (l .cells) = rw (l .inv .2) (le-trans (p .3) (f .room)) in
     let is = slid-done ms (a .total) (a .k) (l .t) (w .result) (f .part) (f .reached) (w .ensures) (rw (← (f .to .low)) (in-at d .0)) in
-    let small = lt-of (c .before .before .if1 .left) in
+    let small = lt-cap (c .before .before .if1 .left) in
     let old = l .inv .3 in (
-      le-add (l .inv .0),
+      le-suc (l .inv .0),
       suc-le (d .loop-test .taken),
       length-set (l .cells) _ (w .result) ∙ l .inv .2,
       record {
@@ -118,8 +113,11 @@ returns-2 : tie.Need-returns-2 Inv-loop μ-loop
 returns-2 c =
     let l = c .before .loop in
     let a = c .before .before .before .before .args in
-    let e = le-antisymm (l .inv .1) (c .loop-test .left) in
-    (λ h. subst (λ (t : ℕ). Filled (now (a .upper)) (a .total) (a .k) t (l .w) (l .cells)) e (l .inv .3), λ h. absurd (omega (arith, h, l .inv .3 .small)))
+    let e = le-antisymm (l .inv .1) (c .loop-test .left) in (
+      λ h. subst (λ (t : ℕ). FilledTo (now (a .upper)) (a .total) (a .k) t (l .w) (l .cells)) e (l .inv .3),
+      λ h. absurd
+          (omega (arith, h, l .inv .3 .small)),
+    )
 
 pub fill-span-spec : {M : Type 1} → statement M
 fill-span-spec =
@@ -135,7 +133,8 @@ fill-span-spec =
     (λ c. let p = place-at (c .before .before .before .before .before) in omega arith)
     (λ c. let p = place-at (c .before .before .before .before .before) in omega arith)
     slice-write-cells
-    (λ c. let f = c .before .before .before .before .before .before .before .before .before .pre .0 in fits-next _ _ _ _ (in-at (c .before .before .before .before .before) .1) (f .to .high) (f .small))
+    (λ c. let f = c .before .before .before .before .before .before .before .before .before .pre .0 in
+    fits-next _ _ _ _ (in-at (c .before .before .before .before .before) .1) (f .to .high) (f .small))
     (λ c. closer _ _ (c .before .before .before .before .before .loop-test .taken))
     loop-again
     (λ c. search needs)

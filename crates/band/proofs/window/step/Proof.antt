@@ -7,6 +7,7 @@ use native.Mathlib.Nat.{le-of-lt, add-zero, le-trans, le-refl}
 use denote.Ref.{now}
 use mir.Val.{Fits}
 use mir.Syntax.{w64}
+use Rattle.band.proofs.Numbers.{fits-behind}
 use Rattle.band.proofs.Bands.{band-ends, low-high}
 use Rattle.band.proofs.Rows.{above-none}
 use Rattle.band.proofs.Slides.{moved-within, behind-in, slid-leaves, slid-over, slid-under}
@@ -44,54 +45,108 @@ leave-at : (c : tie.Start) → c .args .leaves ≡ true → InBand (now (c .args
 leave-at c h = behind-in (now (c .args .upper)) (c .args .total) (c .args .k) (c .args .t) (c .args .m) (c .pre .1) (high-at c) (full-at c h)
 
 none-at : (c : tie.Start) → c .args .enters ≡ false → 0 ≡ count (now (c .args .upper)) (c .args .k) (c .args .t)
-none-at c h = sym (above-none (now (c .args .upper)) (c .args .total) (c .args .k) (c .args .t) (c .args .row) (c .pre .0 .from) (small-at c) (c .pre .5 .passed h))
-
-one-fits : (low m t total : ℕ) → low + m < t → t ≤ total → total ≤ 255 → Fits w64 (m + 1) × (m + 1 ≤ t)
-one-fits low m t total a b c = (omega arith, omega arith)
+none-at c h =
+    sym (above-none (now (c .args .upper)) (c .args .total) (c .args .k) (c .args .t) (c .args .row) (c .pre .0 .from) (small-at c)
+    (c .pre .5 .passed h))
 
 back-at : (c : tie.Start) → c .args .leaves ≡ true → Fits w64 (c .args .m + 1) × (c .args .m + 1 ≤ c .args .t)
-back-at c h = one-fits (c .args .row .low) _ _ _ (c .pre .5 .leaving h) (small-at c) (c .pre .0 .small)
+back-at c h = fits-behind (c .args .row .low) _ _ _ (c .pre .5 .leaving h) (small-at c) (c .pre .0 .small)
 
-rest-at : (c : tie.Start) (x : ℕ) → c .args .leaves ≡ true → x ≡ count (now (c .args .upper)) (c .args .k) (c .args .t - (c .args .m + 1)) → x ≤ c .args .w
-rest-at c x h e = slid-leaves (now (c .args .upper)) (c .args .total) (c .args .k) (c .args .t) (c .args .m) (c .args .w) x 0 (c .pre .4 .window) (c .pre .1) (full-at c h) e
+rest-at : (c : tie.Start) (x : ℕ) → c .args .leaves ≡ true → x ≡ count (now (c .args .upper)) (c .args .k) (c .args .t - (c .args .m + 1))
+    → x ≤ c .args .w
+rest-at c x h e =
+    slid-leaves (now (c .args .upper)) (c .args .total) (c .args .k) (c .args .t) (c .args .m) (c .args .w) x 0 (c .pre .4 .window) (c .pre .1)
+    (full-at c h) e
 
-over-at : (c : tie.Start) (x y : ℕ) → c .args .leaves ≡ true → x ≡ count (now (c .args .upper)) (c .args .k) (c .args .t - (c .args .m + 1)) → y ≡ count (now (c .args .upper)) (c .args .k) (c .args .t)
+over-at : (c : tie.Start) (x y : ℕ) → c .args .leaves ≡ true → x ≡ count (now (c .args .upper)) (c .args .k) (c .args .t - (c .args .m + 1))
+    → y ≡ count (now (c .args .upper)) (c .args .k) (c .args .t)
     → Slid (now (c .args .upper)) (c .args .total) (c .args .k) (c .args .t + 1) (c .args .w - x + y)
-over-at c x y h ex ey = slid-over (now (c .args .upper)) (c .args .total) (c .args .k) (c .args .t) (c .args .m) (c .args .w) x y (c .pre .4 .window) (c .pre .1) (full-at c h) ex ey
+over-at c x y h ex ey =
+    slid-over (now (c .args .upper)) (c .args .total) (c .args .k) (c .args .t) (c .args .m) (c .args .w) x y (c .pre .4 .window) (c .pre .1)
+    (full-at c h) ex ey
 
 below-at : (c : tie.Start) (y : ℕ) → c .args .leaves ≡ false → y ≡ count (now (c .args .upper)) (c .args .k) (c .args .t)
     → Slid (now (c .args .upper)) (c .args .total) (c .args .k) (c .args .t + 1) (c .args .w + y)
-below-at c y h ey = slid-under (now (c .args .upper)) (c .args .total) (c .args .k) (c .args .t) (c .args .m) (c .args .w) 0 y (c .pre .4 .window) (c .pre .1) (under-at c h) ey
+below-at c y h ey =
+    slid-under (now (c .args .upper)) (c .args .total) (c .args .k) (c .args .t) (c .args .m) (c .args .w) 0 y (c .pre .4 .window) (c .pre .1)
+    (under-at c h) ey
 
 at-requires : tie.Need-cell-requires
-at-requires c κs = let s = c .before .before .before .before in let p = s .pre .0 in (le-of-lt (p .part), le-of-lt (p .few), p .small, p .from, leave-at (c .before .before .before .before) (c .if2 .taken), p .room, s .pre .4 .rows _ (le-refl _))
+at-requires c κs =
+    let s = c .before .before .before .before in
+    let p = s .pre .0 in (
+      le-of-lt (p .part),
+      le-of-lt (p .few),
+      p .small,
+      p .from,
+      leave-at (c .before .before .before .before)
+          (c .if2 .taken),
+      p .room,
+      s .pre .4 .rows _ (le-refl _),
+    )
 
 at-requires-2 : tie.Need-cell-requires-2
-at-requires-2 c κs = let s = c .before .before .before .before .before in let p = s .pre .0 in (le-of-lt (p .part), le-of-lt (p .few), p .small, p .from, enter-at (c .before .before .before .before .before) (c .before .before .if1 .taken), p .room, s .pre .4 .rows _ (le-refl _))
+at-requires-2 c κs =
+    let s = c .before .before .before .before .before in
+    let p = s .pre .0 in (
+      le-of-lt (p .part),
+      le-of-lt (p .few),
+      p .small,
+      p .from,
+      enter-at (c .before .before .before .before .before)
+          (c .before .before .if1 .taken),
+      p .room,
+      s .pre .4 .rows _ (le-refl _),
+    )
 
 at-requires-3 : tie.Need-cell-requires-3
-at-requires-3 c κs = let s = c .before .before .before .before in let p = s .pre .0 in (le-of-lt (p .part), le-of-lt (p .few), p .small, p .from, enter-at (c .before .before .before .before) (c .before .if1 .taken), p .room, s .pre .4 .rows _ (le-refl _))
+at-requires-3 c κs =
+    let s = c .before .before .before .before in
+    let p = s .pre .0 in (
+      le-of-lt (p .part),
+      le-of-lt (p .few),
+      p .small,
+      p .from,
+      enter-at (c .before .before .before .before)
+          (c .before .if1 .taken),
+      p .room,
+      s .pre .4 .rows _ (le-refl _),
+    )
 
 at-requires-4 : tie.Need-cell-requires-4
-at-requires-4 c κs = let s = c .before .before .before .before in let p = s .pre .0 in (le-of-lt (p .part), le-of-lt (p .few), p .small, p .from, leave-at (c .before .before .before .before) (c .if3 .taken), p .room, s .pre .4 .rows _ (le-refl _))
+at-requires-4 c κs =
+    let s = c .before .before .before .before in
+    let p = s .pre .0 in (
+      le-of-lt (p .part),
+      le-of-lt (p .few),
+      p .small,
+      p .from,
+      leave-at (c .before .before .before .before)
+          (c .if3 .taken),
+      p .room,
+      s .pre .4 .rows _ (le-refl _),
+    )
 
 returns : tie.Need-returns
 returns c =
     let s = c .before .before .before .before .before .before .before in
     let x = c .before .before .cell in
     let less = rest-at s (x .result) (c .before .before .before .if2 .taken) (x .ensures .0) in
-    rw (moved-within (c .moved .ensures) (c .moved .ok) less (s .pre .4 .small) (c .before .cell2 .ensures .1)) (over-at s _ _ (c .before .before .before .if2 .taken) (x .ensures .0) (c .before .cell2 .ensures .0))
+    rw (moved-within (c .moved .ensures) (c .moved .ok) less (s .pre .4 .small) (c .before .cell2 .ensures .1))
+    (over-at s _ _ (c .before .before .before .if2 .taken) (x .ensures .0) (c .before .cell2 .ensures .0))
 
 returns-3 : tie.Need-returns-3
 returns-3 c =
     let s = c .before .before .before .before .before in
     let x = c .cell4 .result in
-    subst (λ (w : ℕ). Slid (now (s .args .upper)) (s .args .total) (s .args .k) (s .args .t + 1) w) (add-zero (s .args .w - x)) (over-at s x 0 (c .before .if3 .taken) (c .cell4 .ensures .0) (none-at s (c .before .before .if1 .left)))
+    subst (λ (w : ℕ). Slid (now (s .args .upper)) (s .args .total) (s .args .k) (s .args .t + 1) w) (add-zero (s .args .w - x))
+    (over-at s x 0 (c .before .if3 .taken) (c .cell4 .ensures .0) (none-at s (c .before .before .if1 .left)))
 
 returns-4 : tie.Need-returns-4
 returns-4 c =
     let s = c .before .before .before .before in
-    subst (λ (w : ℕ). Slid (now (s .args .upper)) (s .args .total) (s .args .k) (s .args .t + 1) w) (add-zero (s .args .w)) (below-at s 0 (c .if3 .left) (none-at s (c .before .if1 .left)))
+    subst (λ (w : ℕ). Slid (now (s .args .upper)) (s .args .total) (s .args .k) (s .args .t + 1) w) (add-zero (s .args .w))
+    (below-at s 0 (c .if3 .left) (none-at s (c .before .if1 .left)))
 
 pub step-spec : {M : Type 1} → statement M
 step-spec =

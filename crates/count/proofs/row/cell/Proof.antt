@@ -1,16 +1,13 @@
 -- `count::row::cell` meets its contract.
-use Prim.Native.Nat.{ℕ, _+_, _<_}
+use native.Mathlib.Numerals.{lt-add-one}
 use native.Mathlib.Omega.{arith}
 use Rattle.count.proofs.row.cell.Statement.{statement}
 use Rattle.count.proofs.row.cell.Tie as tie
 
-less-suc : (t : ℕ) → t < t + 1
-less-suc t = omega arith
-
 returns : tie.Need-returns
 returns c =
     let p = c .before .pre in
-    let h = p .3 (c .before .args .t) (p .2) (omega arith) (less-suc _) in
+    let h = p .3 (c .before .args .t) (p .2) (omega arith) (lt-add-one _) in
     (h .0, omega (arith, h .0, h .1))
 
 pub cell-spec : {M : Type 1} → statement M

@@ -6,19 +6,17 @@ use native.Mathlib.Omega.{arith}
 use denote.Ref.{now}
 use mir.Val.{Fits}
 use mir.Syntax.{w64}
+use Rattle.band.proofs.Numbers.{fits-behind}
 use Rattle.count.specs.Row.{Row-counts}
 use Rattle.count.proofs.Rows.{at-total, entering-in}
 use Rattle.count.proofs.row.entering.Statement.{statement}
 use Rattle.count.proofs.row.entering.Tie as tie
 
-one-fits : (low m t n : ℕ) → low + m < t → t ≤ n → n ≤ 255 → Fits w64 (m + 1) × (m + 1 ≤ t)
-one-fits low m t n a b d = (omega arith, omega arith)
-
 fits-at : (c : tie.Then1) → let a = c .before .before .before .args in Fits w64 (a .part .m + 1) × (a .part .m + 1 ≤ a .t)
 fits-at c =
     let s = c .before .before .before in
     let p = s .pre in
-    one-fits (s .args .part .row .low) _ _ _ (p .5 .entering (c .if1 .taken)) (at-total _ _ _ (p .0) _ (p .1) (p .2)) (p .0 .small)
+    fits-behind (s .args .part .row .low) _ _ _ (p .5 .entering (c .if1 .taken)) (at-total _ _ _ (p .0) _ (p .1) (p .2)) (p .0 .small)
 
 low-counts : (c : tie.Start) → let a = c .args in Row-counts (now (a .upper)) (a .total) (now (a .cells)) (a .part .k) 0 (a .t - (a .part .m + 1) + 1)
 low-counts c u b l h = c .pre .4 u b l (shorter (c .args .t) (c .args .part .m) u h)

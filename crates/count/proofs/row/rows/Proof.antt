@@ -1,6 +1,6 @@
 -- `count::row::rows` meets its contract.
 use mathlib.Core.Path.{_≡_, refl, sym, _∙_, subst}
-use Prim.Native.Nat.{ℕ, _+_, _-_, _≤_, _<_, min}
+use Prim.Native.Nat.{ℕ, _+_, _-_, _≤_}
 use native.Mathlib.Omega.{arith}
 use lib.ListN.{length, length-set}
 use denote.Ref.{now}
@@ -8,7 +8,7 @@ use borrow.Author.Needs.{needs}
 use borrow.Author.Tests.{not-true, not-false, leb-false}
 use Rattle.walsh.specs.Sums.{sumTo}
 use Rattle.walsh.proofs.Cases.{closer}
-use Rattle.band.specs.Band.{cap}
+use Rattle.band.proofs.Numbers.{suc-le, stops, stops-not}
 use Rattle.band.proofs.Bands.{whole-band}
 use Rattle.count.specs.Row.{IsEnds, Row-counts}
 use Rattle.count.proofs.Rows.{ends-first, left-fits, ends-next, first-row}
@@ -21,15 +21,6 @@ Inv-loop upper total all cells₀ few left₀ row₀ k₀ cells left row k =
 
 abbrev μ-loop : tie.MeasureT-loop
 μ-loop upper total all cells₀ few left₀ row₀ k₀ cells left row k = length upper - k
-
-over : {n : ℕ} → cap ≤ n → cap ≡ min n cap
-over l = omega arith
-
-under : {n x : ℕ} → x ≡ n → n < cap → x ≡ min n cap
-under e l = omega arith
-
-suc-le : {a b : ℕ} → a < b → a + 1 ≤ b
-suc-le l = omega arith
 
 loop-holds : tie.Need-loop-holds Inv-loop μ-loop
 loop-holds c =
@@ -51,13 +42,17 @@ left-at : (c : tie.After-wide Inv-loop μ-loop)
 left-at c =
     let s = c .before .before .before .before .before .before .before .before in
     let l = c .before .before .before .loop in
-    left-fits (now (s .args .upper)) (l .k) (l .left) (c .wide .result) (s .args .all) (c .before .before .loop-test .taken) (l .inv .2) (c .wide .ensures .0) (s .pre .3)
+    left-fits (now (s .args .upper)) (l .k) (l .left) (c .wide .result) (s .args .all) (c .before .before .loop-test .taken) (l .inv .2)
+    (c .wide .ensures .0) (s .pre .3)
 
-next-at : (c : tie.After-ends-of2 Inv-loop μ-loop) → let a = c .before .before .before .before .before .before .before .before .before .args in IsEnds (now (a .upper)) (a .total) (c .before .before .before .before .loop .k + 1) (c .ends-of2 .result)
+next-at : (c : tie.After-ends-of2 Inv-loop μ-loop)
+    → let a = c .before .before .before .before .before .before .before .before .before .args in
+    IsEnds (now (a .upper)) (a .total) (c .before .before .before .before .loop .k + 1) (c .ends-of2 .result)
 next-at c =
     let s = c .before .before .before .before .before .before .before .before .before in
     let e = c .ends-of2 .ensures in
-    ends-next (now (s .args .upper)) (s .args .total) (c .before .before .before .before .loop .k + 1) _ (s .args .all) (c .ends-of2 .result) (s .pre .3) (left-at (c .before) .0) (e .0) (e .1)
+    ends-next (now (s .args .upper)) (s .args .total) (c .before .before .before .before .loop .k + 1) _ (s .args .all) (c .ends-of2 .result)
+    (s .pre .3) (left-at (c .before) .0) (e .0) (e .1)
 
 pass-requires : tie.Need-pass-requires Inv-loop μ-loop
 pass-requires c κs =
@@ -81,8 +76,15 @@ pass-requires c κs =
 loop-again : tie.Need-loop-again Inv-loop μ-loop
 loop-again c =
     let f = c .before .before .before .pass in
-    let l = c .before .before .before .before .before .before .before .before .before .loop in
-    (suc-le (c .before .before .before .before .before .before .before .before .loop-test .taken), f .kept .1 .1 .1 .0 ∙ l .inv .1, left-at (c .before .before .before .before .before .before) .0, next-at (c .before .before .before .before .before), f .ensures .0 (not-false (f .result) (c .if1 .left)))
+    let l = c .before .before .before .before .before .before .before .before .before .loop in (
+      suc-le (c .before .before .before .before .before .before .before .before .loop-test .taken),
+      f .kept .1 .1 .1 .0 ∙ l .inv .1,
+      left-at
+          (c .before .before .before .before .before .before) .0,
+      next-at (c .before .before .before .before .before),
+      f .ensures .0
+          (not-false (f .result) (c .if1 .left)),
+    )
 
 returns-2 : tie.Need-returns-2 Inv-loop μ-loop
 returns-2 c =
@@ -92,7 +94,7 @@ returns-2 c =
     let e : l .k ≡ length (now (a .upper)) = omega (arith, l .inv .0, c .before .loop-test .left) in
     let row = subst (λ (k : ℕ). Row-counts (now (a .upper)) (a .total) (l .cells) k 0 256) e (l .inv .4) in
     let h = row (a .total) (whole-band (now (a .upper)) (a .total) (s .pre .2)) (omega arith) (omega (arith, s .pre .1)) in
-    under (h .0) (h .1)
+    stops-not (h .0) (rw (h .0) (h .1))
 
 pub rows-spec : {M : Type 1} → statement M
 rows-spec =
@@ -109,8 +111,9 @@ rows-spec =
     (λ c. let q = left-at c .1 in omega arith)
     (λ c κs. left-at c .1)
     pass-requires
-    (λ c. c .before .before .before .pass .kept .1 .1 .1 .0 ∙ c .before .before .before .before .before .before .before .before .before .loop .inv .1 ∙ sym (c .before .before .before .before .before .before .before .before .before .before .before .before .before .before .pre .4))
-    (λ c. let f = c .before .before .before .pass in over (f .ensures .1 (not-true (f .result) (c .if1 .taken))))
+    (λ c. c .before .before .before .pass .kept .1 .1 .1 .0 ∙ c .before .before .before .before .before .before .before .before .before .loop .inv .1
+    ∙ sym (c .before .before .before .before .before .before .before .before .before .before .before .before .before .before .pre .4))
+    (λ c. let f = c .before .before .before .pass in stops (f .ensures .1 (not-true (f .result) (c .if1 .taken))))
     (λ c. search needs)
     (λ c. closer _ _ (c .before .before .before .before .before .before .before .before .loop-test .taken))
     loop-again

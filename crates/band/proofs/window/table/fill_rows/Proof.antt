@@ -1,14 +1,15 @@
 -- `band::window::table::fill_rows` meets its contract.
-use Prim.Native.Nat.{ℕ, _-_, _≤_, _<_, min}
+use Prim.Native.Nat.{ℕ, _-_, _≤_}
 use mathlib.Core.Path.{_≡_, refl, _∙_, subst}
 use native.Mathlib.Omega.{arith}
 use native.Mathlib.Nat.{le-refl}
 use lib.ListN.{length, length-set}
 use denote.Ref.{now}
 use borrow.Author.Tests.{not-true, not-false}
+use Rattle.band.proofs.Numbers.{stops, stops-not}
 use Rattle.band.proofs.Bands.{whole-band}
 use Rattle.band.proofs.Rows.{base-room, base-rows, row-first}
-use Rattle.band.specs.Band.{IsRow, Rows-hold, bandSize, cap}
+use Rattle.band.specs.Band.{IsRow, Rows-hold, bandSize}
 use borrow.Author.Needs.{needs}
 use Rattle.band.proofs.window.table.fill_rows.Statement.{statement}
 use Rattle.band.proofs.window.table.fill_rows.Tie as tie
@@ -19,12 +20,6 @@ Inv-loop upper total all cells₀ n row₀ k₀ cells row k =
 
 abbrev μ-loop : tie.MeasureT-loop
 μ-loop upper total all cells₀ n row₀ k₀ cells row k = n - k
-
-over : {n : ℕ} → cap ≤ n → cap ≡ min n cap
-over l = omega arith
-
-under : {n x : ℕ} → x ≡ n → x < cap → x ≡ min n cap
-under e l = omega arith
 
 -- the table's length does not change
 length-at : (c : tie.At-loop Inv-loop μ-loop) → length (c .loop .cells) ≡ length (now (c .before .before .before .before .args .cells))
@@ -80,13 +75,18 @@ fill-row-requires c κs =
 returns : tie.Need-returns Inv-loop μ-loop
 returns c =
     let f = c .before .before .before .fill-row in
-    (over (f .ensures .1 (not-true (f .result) (c .if1 .taken))), λ h. absurd (omega (arith, h)))
+    (stops (f .ensures .1 (not-true (f .result) (c .if1 .taken))), λ h. absurd (omega (arith, h)))
 
 loop-again : tie.Need-loop-again Inv-loop μ-loop
 loop-again c =
     let f = c .before .before .before .fill-row in
-    let l = c .before .before .before .before .before .before .before .loop in
-    (omega arith, f .kept .1 .1 .1 .1 .1 .0 ∙ l .inv .1, c .before .before .before .before .before .up .ensures, f .ensures .0 (not-false (f .result) (c .if1 .left)))
+    let l = c .before .before .before .before .before .before .before .loop in (
+      omega arith,
+      f .kept .1 .1 .1 .1 .1 .0 ∙ l .inv .1,
+      c .before .before .before .before .before .up .ensures,
+      f .ensures .0
+          (not-false (f .result) (c .if1 .left)),
+    )
 
 -- the loop ends at the row of all parts
 row-at : (c : tie.After-loop Inv-loop μ-loop)
@@ -103,14 +103,22 @@ at-requires : tie.Need-cell-requires Inv-loop μ-loop
 at-requires c κs =
     let s = c .before .before .before .before .before .before in
     let k = row-at (c .before) in
-    let l = c .before .before .loop in
-    (le-refl _, s .pre .0, s .pre .1, k .0, whole-band (now (s .args .upper)) (s .args .total) (s .pre .2), room-at (c .before .before), k .1 _ (le-refl _))
+    let l = c .before .before .loop in (
+      le-refl _,
+      s .pre .0,
+      s .pre .1,
+      k .0,
+      whole-band (now (s .args .upper)) (s .args .total) (s .pre .2),
+      room-at (c .before .before),
+      k .1 _
+          (le-refl _),
+    )
 
 returns-2 : tie.Need-returns-2 Inv-loop μ-loop
 returns-2 c =
     let k = row-at (c .before .before) in
     let l = c .before .before .before .loop in
-    (under (c .cell .ensures .0) (c .cell .ensures .1), λ h. record { room = room-at (c .before .before .before); holds = k .1 })
+    (stops-not (c .cell .ensures .0) (c .cell .ensures .1), λ h. record { room = room-at (c .before .before .before); holds = k .1 })
 
 pub fill-rows-spec : {M : Type 1} → statement M
 fill-rows-spec =
