@@ -10,7 +10,7 @@ use Rattle.bounds.specs.Edition.{firstOutside, cellsOf}
 use Rattle.bounds.specs.Places.{filling}
 use Rattle.mahonian.specs.Staircase.{staircase, isStaircase}
 use Rattle.rank.specs.Rank.{rankAnswer}
-use Rattle.step.specs.Steps.{successorOf}
+use Rattle.step.specs.Steps.{stepOf}
 use Rattle.permutation.specs.Permutation.{isPermutation, inversions, permutationOf, lift, inversionVector}
 use Rattle.permutation.specs.Conversions.{toPermutation, toComposition}
 use Rattle.model.specs.Model.{answer, after, bookFrom}
@@ -19,7 +19,7 @@ use Rattle.boundary.specs.Row.{Row, given, claimed, Holds}
 use Rattle.boundary.specs.Rows.{rows}
 
 all-hold : map given rows ≡ map claimed rows
-unfolding rows same placeOf serialOf compositionOf order listing countOf count firstRefusal firstOutside cellsOf rankAnswer successorOf
+unfolding rows same placeOf serialOf compositionOf order listing countOf count firstRefusal firstOutside cellsOf rankAnswer stepOf
     filling staircase isStaircase isPermutation inversions permutationOf lift inversionVector toPermutation toComposition
     compositions opened opening consistent answered recordAfter columnAfter run answer after bookFrom
 all-hold = refl

@@ -113,7 +113,7 @@ fn moved(run: Run) -> Run
     }
 }
 
-// The next composition: by the run where it can go on, or else by a step of the parts, with which a new run begins.
+// Goes on to the next composition: by the run where it can move, or else by a step of the parts, with which a new run begins.
 fn onward(upper: &[u8], total: usize, run: Run, parts: &mut [u8]) -> Run
     requires { ⌜ (1 < length (now upper)) × (length (now upper) ≤ 24) × (total ≤ 255) × (length (now parts) ≡ length (now upper)) × Running (now upper) total run ⌝ }
     ensures { λ r. ⌜ Onward (now (upper .entry)) total (shown run (now (parts .entry))) r (now (parts .exit)) ⌝ }
@@ -174,10 +174,7 @@ pub fn batch(upper: &[u8], total: u32, serial: u64, copies: u64, out: &mut [u8])
 {
     let first = locate(upper, total, serial);
     if 0 < first.number {
-        return Refusal {
-            number: first.number,
-            detail: first.detail,
-        };
+        return refused(first.number, first.detail);
     }
     let room = room_refusal(first.count, upper.len(), serial, copies, out.len());
     if 0 < room.number {
