@@ -81,7 +81,8 @@ fn pivot(upper: &[u8], total: usize, parts: &[u8]) -> Found
 
 // Fills the first k parts with the first composition of `rest`; the parts to the right sum to `right`, the k bounds to `left`.
 fn refill(upper: &[u8], k: usize, left: usize, rest: usize, right: usize, parts: &mut [u8])
-    requires { ⌜ (0 < k) × (k ≤ length (now upper)) × (k ≤ length (now parts)) × (left ≡ sumTo (now upper) k) × (rest ≤ left) × (left < 65536) × (right < 8589934592) ⌝ }
+    requires { ⌜ (0 < k) × (k ≤ length (now upper)) × (k ≤ length (now parts)) × (left ≡ sumTo (now upper) k)
+        × (rest ≤ left) × (left < 65536) × (right < 8589934592) ⌝ }
     ensures { λ _. ⌜ now (parts .exit) ≡ firstOf (now (upper .entry)) k rest right ++ drop k (now (parts .entry)) ⌝ }
 {
     let mut under = left;
