@@ -18,6 +18,12 @@ HERE = os.path.dirname(os.path.abspath(__file__))
 CRATE = os.path.join(HERE, "..", "crates", "vectors")
 FILL = 170
 
+# editions' records that nobody has checked: the number of parts, the first cells (the others are 0) and the total. More than 24 parts have no cells.
+RECORDS = [
+    (3, [2, 2, 2], 3), (2, [2, 2, 2], 3), (2, [2, 2, 61], 3), (3, [2, 2, 61], 3), (4, [2, 2, 2], 3), (0, [2, 2, 2], 0), (24, [1] * 24, 12),
+    (24, [10] * 24, 239), (24, [60] * 24, 255), (25, [1] * 24, 12), (25, [], 256), (256, [1] * 24, 12), (18446744073709551615, [1] * 24, 12),
+]
+
 # Table 1 of source document 000: the compositions of 5 under 4 3 2 1, each with its permutation
 TABLE_1 = (
     "4100 52134 3200 43125 2300 35124 1310 25314 2210 34215 3110 42315 "
@@ -86,6 +92,14 @@ def counts(oracle):
         yield f"c {listed(ms)} {r}", list(editions.answer_count(ms, r))
 
 
+def records():
+    """the same for RECORDS"""
+    from oracle import editions
+    for n, m, r in RECORDS:
+        cells = m + [0] * (24 - len(m))
+        yield f"e {n} {listed(cells)} {r}", list(editions.answer_count(cells[:n], r)) if n <= 24 else [1, 0, 0]
+
+
 def table_1():
     for g, p in zip(TABLE_1[::2], TABLE_1[1::2]):
         g, p = [int(x) for x in g], [int(x) for x in p]
@@ -97,7 +111,7 @@ def main():
     oracle = os.path.abspath(sys.argv[1])
     count = int(sys.argv[2]) if len(sys.argv) > 2 else 100
     seed = int(sys.argv[3]) if len(sys.argv) > 3 else 7
-    cases = list(counts(oracle)) + list(table_1())
+    cases = list(counts(oracle)) + list(records()) + list(table_1())
     for kind in ("count", "rank", "unrank", "step", "tray", "mix-to-order", "order-to-mix", "table"):
         for line in vectors(oracle, kind, count, seed):
             found = case(*parse(line))

@@ -1,25 +1,27 @@
--- Document 01, "Boundary copies": a row of the table is an edition and what is claimed of it. `Holds` says what the claim means; `passes`
--- computes what the definitions give and compares.
+-- Document 01, "Boundary copies": a row of the table is an edition and what is claimed of it. Both what the definitions give and what is claimed
+-- are written as lists of numbers; the row holds if they are the same. An answer is its number, its detail and what it answers.
 use mathlib.Core.Path.{_≡_}
-use mathlib.Core.Bool.{Bool, true, false}
 use mathlib.Core.List.{List, [], _∷_, _++_, map}
-use Prim.Native.Nat.{ℕ, suc, _-_}
-use lib.Dec.{eqb}
+use Prim.Native.Nat.{ℕ, _+_, _-_}
 use lib.ListN.{length, replicate}
-use Rattle.walsh.specs.Tests.{both}
 use Rattle.walsh.specs.Order.{order, countOf}
-use Rattle.walsh.specs.Serial.{same, serialOf, compositionOf}
 use Rattle.bounds.specs.Refusal.{firstRefusal}
-use Rattle.bounds.specs.Edition.{editionChecks}
-use Rattle.permutation.specs.Permutation.{permutationOf, inversionVector}
-use Rattle.model.specs.declared.Answer.{Answer}
-use Rattle.model.specs.Model.{Call}
+use Rattle.bounds.specs.Edition.{editionChecks, cellsOf}
+use Rattle.bounds.specs.declared.Refusal.{Refusal}
+use Rattle.rank.specs.Rank.{Answer, rankAnswer}
+use Rattle.step.specs.Steps.{successorOf}
+use Rattle.step.specs.declared.Stepped.{Stepped}
+use Rattle.permutation.specs.Reading.{byInversions}
+use Rattle.permutation.specs.Conversions.{toPermutation, toComposition}
+use Rattle.model.specs.declared.Opened.{Opened}
+use Rattle.model.specs.Model.{Call, Event}
+use Rattle.model.specs.Record.{opening, run}
 use Rattle.model.specs.Whole.{book}
 
 pub data Claim : Type 0 where
   -- its compositions in their order
   lists : List (List ℕ) → Claim
-  -- it is accepted, and N
+  -- N
   counts : ℕ → Claim
   -- it is refused with this number
   refused : ℕ → Claim
@@ -27,66 +29,84 @@ pub data Claim : Type 0 where
   serial : List ℕ → ℕ → Claim
   -- after the first comes the second
   next : List ℕ → List ℕ → Claim
-  -- what the model of a ledger on it answers to a list of calls: number, detail, serial, the first parts of the composition
-  answers : List (Call × List ℕ) → Claim
-  -- its permutations in their order, which have its compositions for their inversion vectors
+  -- its permutations in their order
   permutations : List (List ℕ) → Claim
+  -- what a ledger on it answers to a list of calls; of a composition the first parts are written, the others are 0
+  answers : List (Call × List ℕ) → Claim
 
 pub record Row : Type 0 where
   pub bounds : List ℕ
   pub total : ℕ
   pub claim : Claim
 
--- the number of the edition's refusal
-abbrev pub refusalOf : List ℕ → ℕ → ℕ
-refusalOf ms r = firstRefusal (editionChecks ms r) .number
+-- ---- answers as lists
 
--- an answer of the model as a list: number, detail, serial, and the composition in 24 cells
-abbrev pub flatAnswer : Answer → List ℕ
-flatAnswer a = a .number ∷ a .detail ∷ a .serial ∷ a .composition
+abbrev refusalList : Refusal → List ℕ
+refusalList v = v .number ∷ v .detail ∷ []
 
--- what is claimed of an answer: the composition's first parts are written, the others are 0
-abbrev pub padded : List ℕ → List ℕ
+abbrev rankList : Answer → List ℕ
+rankList a = a .number ∷ a .detail ∷ a .serial ∷ []
+
+abbrev stepList : Stepped → List ℕ
+stepList x = x .number ∷ x .detail ∷ x .composition
+
+-- of a call that fills a lent part, the part's bytes too
+abbrev filledList : Refusal × List ℕ → List ℕ
+filledList x = refusalList (x .0) ++ x .1
+
+abbrev eventList : Event → List ℕ
+eventList x = x .reply .number ∷ x .reply .detail ∷ x .reply .serial ∷ x .reply .composition
+
+-- an accepted one
+abbrev accepted : List ℕ → List ℕ
+accepted l = 0 ∷ 0 ∷ l
+
+-- what is claimed of an answer in a ledger, with all its 24 cells
+abbrev padded : List ℕ → List ℕ
 padded l = l ++ replicate (27 - length l) 0
 
-abbrev pub modelAnswers : List ℕ → ℕ → List Call → List (List ℕ)
-modelAnswers ms r cs = map (λ x. flatAnswer (x .reply)) (book ms r cs .trace)
+-- ---- what the definitions give, and what is claimed
 
-abbrev pub callsOf : List (Call × List ℕ) → List Call
-callsOf cs = map (λ x. x .0) cs
+module _ (ms : List ℕ) (r : ℕ) where
+  abbrev edition : List ℕ
+  edition = refusalList (firstRefusal (editionChecks ms r))
 
-abbrev pub claimsOf : List (Call × List ℕ) → List (List ℕ)
-claimsOf cs = map (λ x. padded (x .1)) cs
+  -- each conversion, into a lent part of the right length
+  abbrev permuted : List ℕ → List ℕ
+  permuted g = filledList (toPermutation byInversions ms r g (replicate (length ms + 1) 0))
 
--- the claim of an edition with bounds ms and total r
-abbrev pub Means : List ℕ → ℕ → Claim → Type 0
-Means ms r (lists gs) = order ms r ≡ gs
-Means ms r (counts n) = (refusalOf ms r ≡ 0) × (countOf ms r ≡ n)
-Means ms r (refused number) = refusalOf ms r ≡ number
-Means ms r (serial g s) = serialOf ms r g ≡ s
-Means ms r (next g h) = compositionOf ms r (suc (serialOf ms r g)) ≡ h
-Means ms r (answers cs) = modelAnswers ms r (callsOf cs) ≡ claimsOf cs
-Means ms r (permutations ps) = (map permutationOf (order ms r) ≡ ps) × (map inversionVector ps ≡ order ms r)
+  abbrev unpermuted : List ℕ → List ℕ
+  unpermuted p = filledList (toComposition byInversions ms r p (replicate (length ms) 0))
+
+  -- the opening over a column of N entries
+  abbrev column : List ℕ
+  column = replicate (countOf ms r) 0
+
+  abbrev start : Opened
+  start = opening ms r column
+
+  abbrev pub sides : Claim → List (List ℕ) × List (List ℕ)
+  sides (lists gs) = (edition ∷ order ms r, accepted [] ∷ gs)
+  sides (counts n) = (edition ∷ (countOf ms r ∷ []) ∷ [], accepted [] ∷ (n ∷ []) ∷ [])
+  sides (refused number) = (edition ∷ [], (number ∷ 0 ∷ []) ∷ [])
+  sides (serial g s) = (rankList (rankAnswer ms r g) ∷ [], accepted (s ∷ []) ∷ [])
+  sides (next g h) = (stepList (successorOf ms r g) ∷ [], accepted (cellsOf h) ∷ [])
+  -- both ways
+  sides (permutations ps) = (map permuted (order ms r) ++ map unpermuted ps, map accepted ps ++ map accepted (order ms r))
+  -- the record's own run, and the model
+  sides (answers cs) =
+      let calls = map (λ (x : Call × List ℕ). x .0) cs in
+      let claims = map (λ (x : Call × List ℕ). padded (x .1)) cs in (
+        (start .number ∷ start .detail ∷ [])
+            ∷ (map eventList (run (start .ledger) column calls .trace) ++ map eventList (book ms r calls .trace)),
+        accepted [] ∷ (claims ++ claims),
+      )
+
+abbrev pub given : Row → List (List ℕ)
+given row = sides (row .bounds) (row .total) (row .claim) .0
+
+abbrev pub claimed : Row → List (List ℕ)
+claimed row = sides (row .bounds) (row .total) (row .claim) .1
 
 abbrev pub Holds : Row → Type 0
-Holds row = Means (row .bounds) (row .total) (row .claim)
-
--- two lists of lists are the same
-unfoldable pub sameAll : List (List ℕ) → List (List ℕ) → Bool
-sameAll [] [] = true
-sameAll [] (h ∷ hs) = false
-sameAll (g ∷ gs) [] = false
-sameAll (g ∷ gs) (h ∷ hs) = both (same g h) (sameAll gs hs)
-
--- the test
-abbrev pub test : List ℕ → ℕ → Claim → Bool
-test ms r (lists gs) = sameAll (order ms r) gs
-test ms r (counts n) = both (eqb (refusalOf ms r) 0) (eqb (countOf ms r) n)
-test ms r (refused number) = eqb (refusalOf ms r) number
-test ms r (serial g s) = eqb (serialOf ms r g) s
-test ms r (next g h) = same (compositionOf ms r (suc (serialOf ms r g))) h
-test ms r (answers cs) = sameAll (modelAnswers ms r (callsOf cs)) (claimsOf cs)
-test ms r (permutations ps) = both (sameAll (map permutationOf (order ms r)) ps) (sameAll (map inversionVector ps) (order ms r))
-
-abbrev pub passes : Row → Bool
-passes row = test (row .bounds) (row .total) (row .claim)
+Holds row = given row ≡ claimed row

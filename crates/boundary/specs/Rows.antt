@@ -1,6 +1,6 @@
 -- Document 01, "Boundary copies": the table.
 use mathlib.Core.List.{List, [], _∷_}
-use Prim.Native.Nat.{ℕ, zero, suc}
+use Prim.Native.Nat.{ℕ}
 use Rattle.walsh.specs.Order.{threeTwos, seven}
 use Rattle.model.specs.Model.{peek, claim, void}
 use Rattle.boundary.specs.Row.{Claim, lists, counts, refused, serial, next, answers, permutations, Row}
@@ -45,9 +45,3 @@ rows =
     -- J: the same edition: spoil 1, take 1 for 1007
     ∷ row (1 ∷ 1 ∷ []) 1 (answers ((void 1, 0 ∷ 0 ∷ 1 ∷ 1 ∷ 0 ∷ []) ∷ (claim 1 1007, 18 ∷ 0 ∷ []) ∷ []))
     ∷ []
-
--- row number i, from 0
-abbrev pub rowAt : List Row → ℕ → Row
-rowAt [] i = row [] 0 (lists ([] ∷ []))
-rowAt (x ∷ xs) zero = x
-rowAt (x ∷ xs) (suc i) = rowAt xs i

@@ -85,7 +85,9 @@ pub extern "C" fn huz_batch(
     copies: u64,
     out: &mut [u8],
 ) -> Refusal
-    ensures { λ r. ⌜ _≡_ {A = Refusal × List ℕ} (r, now (out .exit)) (batchOf (now (upper .entry)) total serial copies (now (out .entry))) ⌝ }
+    ensures { λ r.
+        ⌜ _≡_ {A = Refusal × List ℕ} (r, now (out .exit))
+        (batchOf (now (upper .entry)) total serial copies (now (out .entry))) ⌝ }
 {
     step::batch::batch(upper, total, serial, copies, out)
 }
@@ -97,7 +99,9 @@ pub extern "C" fn huz_permutation(
     composition: &[u8],
     out: &mut [u8],
 ) -> Refusal
-    ensures { λ r. ⌜ _≡_ {A = Refusal × List ℕ} (r, now (out .exit)) (toPermutation byInversions (now (upper .entry)) total (now (composition .entry)) (now (out .entry))) ⌝ }
+    ensures { λ r.
+        ⌜ _≡_ {A = Refusal × List ℕ} (r, now (out .exit))
+        (toPermutation byInversions (now (upper .entry)) total (now (composition .entry)) (now (out .entry))) ⌝ }
 {
     permutation::permutation(upper, total, composition, out)
 }
@@ -109,7 +113,9 @@ pub extern "C" fn huz_inversions(
     permutation: &[u8],
     out: &mut [u8],
 ) -> Refusal
-    ensures { λ r. ⌜ _≡_ {A = Refusal × List ℕ} (r, now (out .exit)) (toComposition byInversions (now (upper .entry)) total (now (permutation .entry)) (now (out .entry))) ⌝ }
+    ensures { λ r.
+        ⌜ _≡_ {A = Refusal × List ℕ} (r, now (out .exit))
+        (toComposition byInversions (now (upper .entry)) total (now (permutation .entry)) (now (out .entry))) ⌝ }
 {
     permutation::inversions(upper, total, permutation, out)
 }

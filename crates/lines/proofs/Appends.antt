@@ -4,8 +4,10 @@ use mathlib.Core.List.{List, [], _∷_, _++_, append-assoc, append-nil}
 use Prim.Native.Nat.{ℕ, _+_, _-_, _≤_, _<_}
 use native.Mathlib.Numerals.{add-one}
 use native.Mathlib.Omega.{arith}
-use lib.ListN.{length, getD, take, drop, set, length-append, length-set, take-append-drop, length-take}
-use lib.Seq.{take-all, take-suc, take-suc-set, drop-set-lt, drop-drop}
+use lib.ListN.{length, take, drop, set, length-append, length-set, length-drop, take-append-drop, length-take}
+use lib.Seq.{take-append-seam, take-suc-set, drop-at, drop-set-lt, drop-drop}
+use Rattle.bounds.specs.Places.{copied}
+use Rattle.bounds.proofs.Cells.{copied-front}
 use Rattle.lines.specs.Append.{Appended}
 
 pub nothing : (l : List ℕ) (at : ℕ) → Appended l l at at []
@@ -26,7 +28,9 @@ pub joined : {a b c : List ℕ} {at m e : ℕ} {t u : List ℕ} → Appended a b
 joined {a} {b} {c} {at} {m} {e} {t} {u} p q =
     record {
       front = q .front ∙ ap (λ (l : List ℕ). l ++ u) (p .front) ∙ append-assoc (take at a) t u;
-      rest = q .rest ∙ ap (λ (n : ℕ). drop n b) (sym split) ∙ sym (drop-drop (e - m) m b) ∙ ap (drop (e - m)) (p .rest) ∙ drop-drop (e - m) m a ∙ ap (λ (n : ℕ). drop n a) split;
+      rest =
+          q .rest ∙ ap (λ (n : ℕ). drop n b) (sym split) ∙ sym (drop-drop (e - m) m b)
+          ∙ ap (drop (e - m)) (p .rest) ∙ drop-drop (e - m) m a ∙ ap (λ (n : ℕ). drop n a) split;
       ends = omega (arith, p .ends, q .ends, length-append t u);
       size = q .size ∙ p .size;
     }
@@ -50,11 +54,13 @@ pub within : {a b : List ℕ} {at e : ℕ} {t : List ℕ} → at ≤ length a �
 within {a} {b} {at} {e} {t} h p =
     omega (arith, p .ends, p .size, ap length (p .front), length-append (take at a) t, length-take e b, length-take at a)
 
--- ---- the first i bytes of a text are put
-
-pub text-next : (text a b : List ℕ) (i : ℕ) → Appended a b 0 i (take i text) → i < length text → i < length b
-    → Appended a (set b i (getD text i 0)) 0 (i + 1) (take (i + 1) text)
-text-next text a b i p h l = retold (sym (ap (λ (x : ℕ). take x text) (add-one i) ∙ take-suc text i 0 h)) (joined p (one b i (getD text i 0) l))
-
-pub text-all : (text a b : List ℕ) (i : ℕ) → Appended a b 0 i (take i text) → length text ≤ i → Appended a b 0 i text
-text-all text a b i p h = retold (take-all i text h) p
+-- a copied text
+pub text : (t a b : List ℕ) → length t ≤ length a → b ≡ copied t a → Appended a b 0 (length t) t
+text t a b l e =
+    let is : b ≡ t ++ drop (length t) a = e ∙ copied-front t a l in
+    record {
+      front = rw is (take-append-seam t _);
+      rest = rw is (drop-at t _ (length t) refl);
+      ends = omega arith;
+      size = rw is (length-append t _ ∙ omega (arith, length-drop (length t) a));
+    }

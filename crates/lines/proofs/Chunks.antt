@@ -1,22 +1,23 @@
--- What a caller of `fill` may rely on: the lines fit and are as many as fit, every call goes on, and one behind the other the pieces are the listing.
+-- What a caller of `fill` may rely on: the lines fit and are as many as fit, every call goes on, and one behind the other the chunks are the listing.
 use mathlib.Core.Path.{_≡_, refl, ap}
 use mathlib.Core.List.{List}
 use Prim.Native.Nat.{ℕ, zero, suc, _-_, _≤_, _<_}
 use native.Mathlib.Nat.{not-suc-le-zero, le-of-suc-le-suc}
 use native.Mathlib.Omega.{arith}
-use lib.Dec.{eqb, leb, ltb}
+use lib.Dec.{leb}
 use lib.ListN.{length, getD, length-append}
-use borrow.Author.Tests.{leb-true, leb-false, ltb-false, eqb-false}
+use borrow.Author.Tests.{leb-true, leb-false, ltb-false}
 use Rattle.walsh.specs.Order.{countOf}
 use Rattle.walsh.specs.Serial.{compositionOf}
 use Rattle.walsh.proofs.Cases.{on-test}
 use Rattle.walsh.proofs.Serials.{composition-is}
 use Rattle.bounds.specs.Refusal.{firstRefusal}
 use Rattle.bounds.specs.Edition.{editionChecks}
+use Rattle.bounds.specs.Places.{manyChecks}
 use Rattle.bounds.proofs.Refusals.{passed, is-accepted}
 use Rattle.bounds.proofs.Chains.{accepts-split}
-use Rattle.bounds.proofs.Editions.{neither}
 use Rattle.bounds.proofs.Editions.{edition-shapely}
+use Rattle.bounds.proofs.Places.{serial-passed}
 use Rattle.lines.specs.Lines.{lineAt, linesOf, fitting}
 use Rattle.lines.specs.Chunk.{listChecks, taken, chunkOf, fillOf}
 use Rattle.lines.specs.declared.Chunk.{Chunk}
@@ -38,8 +39,10 @@ module _ (ms : List ℕ) (r : ℕ) where
   unfolding fitting linesOf
   fitting-fits s zero room = omega arith
   fitting-fits s (suc n) room =
-      on-test (leb (length (lineAt ms r s)) room)
-      (λ t. rw t (omega (arith, leb-true (length (lineAt ms r s)) room t, fitting-fits (suc s) n (room - length (lineAt ms r s)), length-append (lineAt ms r s) (linesOf ms r (suc s) (fitting ms r (suc s) n (room - length (lineAt ms r s)))))))
+      let here = length (lineAt ms r s) in
+      let rest = linesOf ms r (suc s) (fitting ms r (suc s) n (room - here)) in
+      on-test (leb here room)
+      (λ t. rw t (omega (arith, leb-true here room t, fitting-fits (suc s) n (room - here), length-append (lineAt ms r s) rest)))
       (λ t. rw t (omega arith))
 
   -- no more lines would fit
@@ -66,20 +69,21 @@ module _ (ms : List ℕ) (r : ℕ) where
     listed : firstRefusal (listChecks ms r s) .number ≡ 0 → Listed
     listed e =
         let p = accepts-split (editionChecks ms r) _ refl e in
-        let q = passed _ _ refl (p .1) in
-        let t = neither (eqb s 0) (ltb (countOf ms r) s) (passed _ _ refl (q .2) .0) in
+        let q = accepts-split (manyChecks ms r) _ refl (p .1) in
+        let inside = serial-passed ms r s (q .1) in
         record {
           few = edition-shapely ms r (p .0) .few;
-          small = ltb-false _ _ (q .0);
-          low = omega (arith, eqb-false s 0 (t .0));
-          high = ltb-false _ _ (t .1);
+          small = ltb-false _ _ (passed _ _ refl (q .0) .0);
+          low = inside .0;
+          high = inside .1;
         }
 
     module _ (before after : List ℕ) (c : Chunk) (e : (c, after) ≡ fillOf ms r s before) where
       pub chunk-accepted : c .number ≡ 0 → Listed × (c ≡ chunkOf ms r s (length before))
       unfolding fillOf
       chunk-accepted z =
-          let p = is-accepted (firstRefusal (listChecks ms r s)) _ _ (λ (y : Chunk × List ℕ). y .0 .number) (λ (y : Chunk × List ℕ). y .0 .detail) refl refl refl (c, after) e z in
+          let p = is-accepted (firstRefusal (listChecks ms r s)) _ _ (λ (y : Chunk × List ℕ). y .0 .number) (λ (y : Chunk × List ℕ). y .0 .detail)
+          refl refl refl (c, after) e z in
           (listed (p .0), ap (λ (y : Chunk × List ℕ). y .0) (p .1))
 
       pub chunk-end : c .number ≡ 0 → c .end ≤ length before
@@ -91,7 +95,9 @@ module _ (ms : List ℕ) (r : ℕ) where
       unfolding lineAt
       line-room l =
           let valid = composition-is ms r s (l .low) (l .high) in
-          omega (arith, l .few, valid .size, line-short s (compositionOf ms r s) (omega (arith, l .small, l .high)) (λ i b. omega (arith, valid .parts .fits i (omega (arith, valid .size)), bytes i)))
+          let byte : (i : ℕ) → i < length (compositionOf ms r s) → getD (compositionOf ms r s) i 0 < 256 =
+          λ i b. omega (arith, valid .parts .fits i (omega (arith, valid .size)), bytes i) in
+          omega (arith, l .few, valid .size, line-short s (compositionOf ms r s) (omega (arith, l .small, l .high)) byte)
 
       pub taken-some : Listed → (size : ℕ) → 117 ≤ size → 0 < taken ms r s size
       taken-some l size h =

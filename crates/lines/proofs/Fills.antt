@@ -1,7 +1,7 @@
 -- The answer of `fill`, case by case.
 use mathlib.Core.Path.{_≡_, refl, sym, _∙_}
 use mathlib.Core.Bool.{true}
-use mathlib.Core.List.{List, _∷_}
+use mathlib.Core.List.{List, _++_}
 use Prim.Native.Nat.{ℕ, _-_, _≤_, _<_}
 use native.Mathlib.Omega.{arith}
 use lib.Dec.{eqb, ltb}
@@ -12,9 +12,9 @@ use Rattle.walsh.specs.Tests.{either}
 use Rattle.walsh.specs.Order.{countOf}
 use Rattle.walsh.specs.Serial.{compositionOf}
 use Rattle.walsh.proofs.Serials.{composition-is}
-use Rattle.bounds.specs.Refusal.{Check, check, refused, firstRefusal}
+use Rattle.bounds.specs.Refusal.{Check, refused, firstRefusal}
 use Rattle.bounds.specs.Edition.{editionChecks, cellsOf}
-use Rattle.bounds.specs.Places.{serialChecks}
+use Rattle.bounds.specs.Places.{serialChecks, manyChecks}
 use Rattle.bounds.proofs.Refusals.{refusal-here, refusal-next, refusal-first, refusal-later, by-refusal, by-acceptance}
 use Rattle.bounds.specs.declared.Refusal.{Refusal}
 use Rattle.rank.specs.Locate.{nearest, locateOf}
@@ -37,7 +37,7 @@ module _ (ms : List ℕ) (r s : ℕ) where
   first = firstRefusal (listChecks ms r s)
 
   abbrev rest : List Check
-  rest = check 14 (ltb 1000000 (countOf ms r)) 0 ∷ serialChecks ms r s
+  rest = manyChecks ms r ++ serialChecks ms r s
 
   by-edition : (n d : ℕ) → edition ≡ refused n d → 0 < n → first ≡ refused n d
   by-edition n d e l = refusal-first (editionChecks ms r) rest (λ z. let q : n ≡ 0 = rw e at z in omega arith) ∙ e
@@ -63,8 +63,9 @@ module _ (ms : List ℕ) (r s : ℕ) where
   answer n d c out e l ec = sym (by-refusal first _ _ n d e l ∙ rw (e, ec))
 
   module _ (x : Located) (e : x ≡ locateOf ms r s) where
-    pub fill-edition : (c : Chunk) (out : List ℕ) → 0 < x .number → c ≡ refusedChunk (refused (x .number) (x .detail)) → (c, out) ≡ fillOf ms r s out
-    fill-edition c out l ec = answer (x .number) (x .detail) c out (by-edition (x .number) (x .detail) (located-refused ms r s x e l) l) l ec
+    pub fill-edition : (c : Chunk) (out : List ℕ) → 0 < x .number → c ≡ refusedChunk (refused (x .number) (x .detail))
+        → (c, out) ≡ fillOf ms r s out
+    fill-edition c out l ec = answer _ _ c out (by-edition _ _ (located-refused ms r s x e l) l) l ec
 
     module _ (z : x .number ≡ 0) where
       told : (edition .number ≡ 0) × (x .count ≡ countOf ms r) × (x .composition ≡ nearest ms r s)
@@ -74,13 +75,15 @@ module _ (ms : List ℕ) (r s : ℕ) where
       fill-many c out h ec = answer 14 0 c out (by-count (told .0) (omega (arith, told .1))) (omega arith) ec
 
       module _ (h : x .count ≤ 1000000) where
-        outside : (c : Chunk) (out : List ℕ) → either (eqb s 0) (ltb (countOf ms r) s) ≡ true → c ≡ refusedChunk (refused 6 0) → (c, out) ≡ fillOf ms r s out
+        outside : (c : Chunk) (out : List ℕ) → either (eqb s 0) (ltb (countOf ms r) s) ≡ true → c ≡ refusedChunk (refused 6 0)
+            → (c, out) ≡ fillOf ms r s out
         outside c out t ec = answer 6 0 c out (by-serial (told .0) (omega (arith, told .1)) t) (omega arith) ec
 
         pub fill-zero : (c : Chunk) (out : List ℕ) → s ≡ 0 → c ≡ refusedChunk (refused 6 0) → (c, out) ≡ fillOf ms r s out
         fill-zero c out es ec = outside c out (rw (eq-eqb s 0 es)) ec
 
-        pub fill-over : (c : Chunk) (out : List ℕ) → (s ≡ 0 → ⊥) → x .count < s → c ≡ refusedChunk (refused 6 0) → (c, out) ≡ fillOf ms r s out
+        pub fill-over : (c : Chunk) (out : List ℕ) → (s ≡ 0 → ⊥) → x .count < s → c ≡ refusedChunk (refused 6 0)
+            → (c, out) ≡ fillOf ms r s out
         fill-over c out ne l ec = outside c out (rw (ne-eqb s 0 ne, ← told .1) (lt-ltb (x .count) s l)) ec
 
         module _ (low : (s ≡ 0 → ⊥)) (high : s ≤ x .count) where

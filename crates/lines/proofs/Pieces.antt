@@ -7,12 +7,13 @@ use native.Mathlib.Nat.{zero-add, add-zero, add-suc, suc-add}
 use native.Mathlib.Numerals.{add-one}
 use native.Mathlib.Omega.{arith}
 use lib.ListN.{length}
-use borrow.Author.Tests.{le-leb, lt-leb, ne-eqb}
+use borrow.Author.Tests.{le-leb, lt-leb}
 use Rattle.walsh.specs.Order.{Composition, countOf}
-use Rattle.walsh.specs.Serial.{serialOf, compositionOf}
-use Rattle.walsh.proofs.Serials.{composition-is, serial-composition}
+use Rattle.walsh.specs.Serial.{compositionOf}
+use Rattle.walsh.proofs.Serials.{composition-is}
 use Rattle.request.specs.Text.{line}
 use Rattle.step.specs.Advance.{advanceOf}
+use Rattle.step.proofs.Ways.{advance-serial}
 use Rattle.lines.specs.Append.{Appended}
 use Rattle.lines.specs.Lines.{lineAt, linesOf, fitting}
 use Rattle.lines.specs.Chunk.{taken, Ready, Filled}
@@ -24,14 +25,16 @@ module _ (ms : List ℕ) (r : ℕ) where
   unfolding linesOf
   lines-append s zero n = rw (zero-add n, add-zero s)
   lines-append s (suc m) n =
-      rw (suc-add m n, add-suc s m, lines-append (suc s) m n, suc-add s m) (sym (append-assoc (lineAt ms r s) (linesOf ms r (suc s) m) (linesOf ms r (suc (s + m)) n)))
+      rw (suc-add m n, add-suc s m, lines-append (suc s) m n, suc-add s m)
+      (sym (append-assoc (lineAt ms r s) (linesOf ms r (suc s) m) (linesOf ms r (suc (s + m)) n)))
 
   pub lines-snoc : (s n : ℕ) → linesOf ms r s n ++ lineAt ms r (s + n) ≡ linesOf ms r s (n + 1)
   lines-snoc s n = sym (lines-append s n 1 ∙ ap (λ (l : List ℕ). linesOf ms r s n ++ l) (unfold linesOf in append-nil (lineAt ms r (s + n))))
 
   -- ---- how many fit
 
-  pub fitting-here : (s n room : ℕ) → length (lineAt ms r s) ≤ room → fitting ms r s (suc n) room ≡ suc (fitting ms r (suc s) n (room - length (lineAt ms r s)))
+  pub fitting-here : (s n room : ℕ) → length (lineAt ms r s) ≤ room
+      → fitting ms r s (suc n) room ≡ suc (fitting ms r (suc s) n (room - length (lineAt ms r s)))
   unfolding fitting
   fitting-here s n room h = rw (le-leb (length (lineAt ms r s)) room h)
 
@@ -39,14 +42,6 @@ module _ (ms : List ℕ) (r : ℕ) where
   unfolding fitting
   fitting-none s zero room h = refl
   fitting-none s (suc n) room h = rw (lt-leb (length (lineAt ms r s)) room h)
-
--- ---- the step from one line to the next
-
-next-composition : (ms : List ℕ) (r s : ℕ) (b : Bool) (h : List ℕ) → 0 < s → s < countOf ms r → _≡_ {A = Bool × List ℕ} (b, h) (advanceOf ms r (compositionOf ms r s)) → h ≡ compositionOf ms r (s + 1)
-unfolding advanceOf
-next-composition ms r s b h low high e =
-    let is : serialOf ms r (compositionOf ms r s) ≡ s = serial-composition ms r s low (omega arith) in
-    ap (λ (p : Bool × List ℕ). p .1) (rw (is, ne-eqb s (countOf ms r) (λ z. omega arith)) at e)
 
 -- ---- the loop of `put_lines`: the lines before s are put
 
@@ -87,12 +82,14 @@ module _ {ms : List ℕ} {r first count : ℕ} {before start : List ℕ} (ready 
       -- no room for it
       pub filling-full : length after - end < length (line (s ∷ parts)) → Filled ms r first before after (record { next = s; end = end })
       filling-full h =
-          let none : taken ms r s (length before - end) ≡ 0 = fitting-none ms r s _ (length before - end) (omega (arith, ap length line-here, f .put .size)) in
+          let none : taken ms r s (length before - end) ≡ 0 =
+          fitting-none ms r s _ (length before - end) (omega (arith, ap length line-here, f .put .size)) in
           let all : taken ms r first (length before) ≡ s - first = omega (arith, f .left) in
           record { next = omega (arith, f .low); put = rw all (f .put) }
 
-      pub filling-next : {after′ : List ℕ} {e : ℕ} (b : Bool) (parts′ : List ℕ) → length (line (s ∷ parts)) ≤ length after - end → Appended after after′ end e (line (s ∷ parts))
-          → _≡_ {A = Bool × List ℕ} (b, parts′) (advanceOf ms r parts) → Filling ms r first count before after′ parts′ (s + 1) e
+      pub filling-next : {after′ : List ℕ} {e : ℕ} (b : Bool) (parts′ : List ℕ) → length (line (s ∷ parts)) ≤ length after - end
+          → Appended after after′ end e (line (s ∷ parts)) → _≡_ {A = Bool × List ℕ} (b, parts′) (advanceOf ms r parts)
+          → Filling ms r first count before after′ parts′ (s + 1) e
       filling-next {after′} {e} b parts′ room p on =
           let more-lines : suc (countOf ms r) - s ≡ suc (suc (countOf ms r) - (s + 1)) = omega (arith, ready .all) in
           let size : length before - end - length (lineAt ms r s) ≡ length before - e = omega (arith, p .ends, ap length line-here) in
@@ -104,13 +101,16 @@ module _ {ms : List ℕ} {r first count : ℕ} {before start : List ℕ} (ready 
           record {
             low = omega (arith, f .low);
             high = omega arith;
-            here = λ h. next-composition ms r s b parts′ (omega (arith, ready .low, f .low)) (omega (arith, ready .all)) (rw (f .here more) at on);
+            here =
+                λ h. ap (λ (x : Bool × List ℕ). x .1)
+                (rw (f .here more) at on ∙ advance-serial ms r s (omega (arith, ready .low, f .low)) (omega (arith, ready .all)));
             put = retold (rw line-here (rw (at, next) at (lines-snoc ms r first (s - first)))) (joined (f .put) p);
             left = omega (arith, f .left, one, f .low);
           }
 
   -- all lines are put
-  pub filling-all : {after parts : List ℕ} {s end : ℕ} → Filling ms r first count before after parts s end → count < s → Filled ms r first before after (record { next = s; end = end })
+  pub filling-all : {after parts : List ℕ} {s end : ℕ} → Filling ms r first count before after parts s end → count < s
+      → Filled ms r first before after (record { next = s; end = end })
   unfolding fitting
   filling-all {after} {parts} {s} {end} f h =
       let none : suc (countOf ms r) - s ≡ 0 = omega (arith, ready .all) in

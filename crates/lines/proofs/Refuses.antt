@@ -20,6 +20,10 @@ put-all {a} {b} {text} {e} p =
     let ends : e ≡ length text = omega (arith, p .ends) in
     rw (le-leb (length text) (length a) (omega (arith, within (omega arith) p)), ← ends) (ap (λ (l : List ℕ). (e, l)) (whole p))
 
+-- "`refused`, a space"
+abbrev pub word : List ℕ
+word = 114 ∷ 101 ∷ 102 ∷ 117 ∷ 115 ∷ 101 ∷ 100 ∷ 32 ∷ []
+
 module _ (n : ℕ) where
   pub length-refusal : length (refusalLine n) ≡ 9 + length (decimal n)
   unfolding refusalLine line lineEnd
@@ -29,7 +33,7 @@ module _ (n : ℕ) where
   unfolding refusalOf
   refusal-none out h = put-none (refusalLine n) out (omega (arith, length-refusal))
 
-  pub refusal-all : {a b c d : List ℕ} {m e : ℕ} → Appended a b 0 m (114 ∷ 101 ∷ 102 ∷ 117 ∷ 115 ∷ 101 ∷ 100 ∷ 32 ∷ []) → Appended b c m e (decimal n) → Appended c d e (e + 1) (10 ∷ [])
+  pub refusal-all : {a b c d : List ℕ} {m e : ℕ} → Appended a b 0 m word → Appended b c m e (decimal n) → Appended c d e (e + 1) (10 ∷ [])
       → (e + 1, d) ≡ refusalOf n a
   unfolding refusalOf refusalLine line lineEnd
   refusal-all p q r = put-all (joined p (joined q r))

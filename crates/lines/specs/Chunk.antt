@@ -1,23 +1,22 @@
 -- What a call answers that fills a buffer with lines (document 01, "Listing program" and "Refusals by place of checking").
 use mathlib.Core.Path.{_≡_}
-use mathlib.Core.List.{List, [], _∷_, _++_}
+use mathlib.Core.List.{List, [], _++_}
 use Prim.Native.Nat.{ℕ, zero, suc, _+_, _-_, _≤_, _<_}
-use lib.Dec.{ltb}
 use lib.ListN.{length, drop}
 use Rattle.walsh.specs.Order.{countOf}
 use Rattle.walsh.specs.Serial.{compositionOf}
-use Rattle.bounds.specs.Refusal.{Check, check, firstRefusal, decided}
+use Rattle.bounds.specs.Refusal.{Check, firstRefusal, decided}
 use Rattle.bounds.specs.Edition.{editionChecks}
-use Rattle.bounds.specs.Places.{serialChecks}
+use Rattle.bounds.specs.Places.{serialChecks, manyChecks}
 use Rattle.bounds.specs.declared.Refusal.{Refusal}
 use Rattle.lines.specs.Lines.{linesOf, fitting}
 use Rattle.lines.specs.Append.{Appended}
 use Rattle.lines.specs.declared.Chunk.{Chunk}
 use Rattle.lines.specs.declared.Piece.{Piece}
 
--- "N over 1,000,000 is 14."
+-- the places 'edition' and 'serial given', and between them "N over 1,000,000 is 14."
 abbrev pub listChecks : List ℕ → ℕ → ℕ → List Check
-listChecks ms r s = editionChecks ms r ++ (check 14 (ltb 1000000 (countOf ms r)) 0 ∷ serialChecks ms r s)
+listChecks ms r s = editionChecks ms r ++ (manyChecks ms r ++ serialChecks ms r s)
 
 -- how many of the lines from serial s to the last fit whole into so many bytes, and their text
 abbrev pub taken : List ℕ → ℕ → ℕ → ℕ → ℕ
@@ -47,9 +46,9 @@ fillOf ms r s out = filledBy (firstRefusal (listChecks ms r s)) ms r s out
 
 -- what so many calls write, one behind the other, with a buffer of so many bytes: each goes on at the serial that the one before it answered.
 -- That this is the whole listing is proved in proofs/Whole.antt.
-unfoldable pub piecesOf : List ℕ → ℕ → ℕ → ℕ → ℕ → List ℕ
-piecesOf ms r size zero s = []
-piecesOf ms r size (suc calls) s = text ms r s size ++ piecesOf ms r size calls (s + taken ms r s size)
+unfoldable pub chunksOf : List ℕ → ℕ → ℕ → ℕ → ℕ → List ℕ
+chunksOf ms r size zero s = []
+chunksOf ms r size (suc calls) s = text ms r s size ++ chunksOf ms r size calls (s + taken ms r s size)
 
 -- ---- for the code: where the listing goes on, and what it has done then
 

@@ -41,7 +41,7 @@ fn put_pair(n: u64, out: &mut [u8], at: usize) -> usize
     at + 2
 }
 
-// Any number.
+// Puts any number in decimal.
 fn put_decimal(n: u64, out: &mut [u8], at: usize) -> usize
     requires { ⌜ at + length (decimal n) ≤ length (now out) ⌝ }
     ensures { λ e. ⌜ Appended (now (out .entry)) (now (out .exit)) at e (decimal n) ⌝ }
@@ -126,7 +126,8 @@ fn line_len(serial: u64, parts: &[u8]) -> usize
     len
 }
 
-// Whether that line has room: at once where the longest has, of 20 digits, 3 digits a part with a space in front, and the line feed.
+// Whether that line fits into `room` bytes. The longest possible line is tried first: 20 digits, 3 digits a part with a space in front, and the
+// line feed.
 fn fits(serial: u64, parts: &[u8], room: usize) -> bool
     requires { ⌜ length (now parts) ≤ 24 ⌝ }
     ensures { λ r. ⌜ r ≡ leb (length (line (serial ∷ now (parts .entry)))) room ⌝ }
@@ -182,7 +183,7 @@ pub fn fill(upper: &[u8], total: u32, serial: u64, out: &mut [u8]) -> Chunk
     if 0 < l.number {
         return refused(l.number, l.detail);
     }
-    if 1000000 < l.count {
+    if bounds::MOST_ENTRIES < l.count {
         return refused(14, 0);
     }
     if serial == 0 {
@@ -203,29 +204,16 @@ pub fn fill(upper: &[u8], total: u32, serial: u64, out: &mut [u8]) -> Chunk
     }
 }
 
-// Puts a text at the beginning of out.
-fn put_text(text: &[u8], out: &mut [u8]) -> usize
-    requires { ⌜ length (now text) ≤ length (now out) ⌝ }
-    ensures { λ e. ⌜ Appended (now (out .entry)) (now (out .exit)) 0 e (now (text .entry)) ⌝ }
-{
-    let mut i = 0;
-    while i < text.len() {
-        out[i] = text[i];
-        i += 1;
-    }
-    i
-}
-
 // Puts the line of a refusal at the beginning of out, and answers where it ends; 0 where it has no room.
-pub fn refusal(number: u32, out: &mut [u8]) -> usize
+pub fn refusal_line(number: u32, out: &mut [u8]) -> usize
     ensures { λ r. ⌜ (r, now (out .exit)) ≡ refusalOf number (now (out .entry)) ⌝ }
 {
     let n = number as u64;
     if out.len() < 9 + digits(n) {
         return 0;
     }
-    let word = put_text(b"refused ", out);
-    let end = put_decimal(n, out, word);
+    bounds::copy(b"refused ", out);
+    let end = put_decimal(n, out, 8);
     out[end] = 10;
     end + 1
 }

@@ -5,7 +5,7 @@ use libc::STDOUT_FILENO;
 // Prints the line of a refusal.
 fn refuse(number: u32) {
     let mut text = [0u8; 32];
-    let end = lines::refusal(number, &mut text);
+    let end = lines::refusal_line(number, &mut text);
     io::write_all(STDOUT_FILENO, &text[..end]);
 }
 

@@ -7,7 +7,7 @@ use native.Mathlib.Numerals.{add-one}
 use native.Mathlib.Omega.{arith}
 use lib.ListN.{length, getD, drop, set, replicate, length-append, length-drop, length-map, drop-of-length-le}
 use lib.Seq.{drop-cons, getD-at, set-at}
-use Rattle.request.specs.Request.{held, cellsOf}
+use Rattle.request.specs.Request.{held, requestCells}
 use Rattle.request.specs.Scan.{grownOf, valueOf, isEnd, found, none, scan, lineOf}
 use Rattle.request.specs.declared.Number.{Number}
 use Rattle.request.specs.declared.Number.the-variants.{Empty, Value, Bad}
@@ -35,22 +35,22 @@ pub record Reading (s : List ℕ) (from : ℕ) (upper : List ℕ) (n : Number) (
   pub ns : List ℕ
   pub same : scan ns n (drop at s) ≡ scan [] Empty (drop from s)
   pub count : parts ≡ length ns
-  pub cells : upper ≡ cellsOf (map held ns)
+  pub cells : upper ≡ requestCells (map held ns)
   pub room : 2 * parts + width n ≤ at
 
 map-snoc : (ns : List ℕ) (v : ℕ) → map held (ns ++ (v ∷ [])) ≡ map held ns ++ (held v ∷ [])
 map-snoc [] v = refl
 map-snoc (n ∷ ns) v = ap (λ (l : List ℕ). held n ∷ l) (map-snoc ns v)
 
-cells-snoc : (ms : List ℕ) (x : ℕ) → length ms < 128 → set (cellsOf ms) (length ms) x ≡ cellsOf (ms ++ (x ∷ []))
-unfolding cellsOf
+cells-snoc : (ms : List ℕ) (x : ℕ) → length ms < 128 → set (requestCells ms) (length ms) x ≡ requestCells (ms ++ (x ∷ []))
+unfolding requestCells
 cells-snoc ms x h =
     let e : 128 - length ms ≡ suc (128 - (length ms + 1)) = omega arith in
     rw (e, length-append ms (x ∷ []))
     (set-at ms 0 (replicate (128 - (length ms + 1)) 0) x (length ms) refl ∙ sym (append-assoc ms (x ∷ []) (replicate (128 - (length ms + 1)) 0)))
 
 pub reading-none : (s : List ℕ) (from : ℕ) (upper : List ℕ) → upper ≡ replicate 128 0 → Reading s from upper Empty 0 from
-unfolding cellsOf
+unfolding requestCells
 reading-none s from upper e = record { ns = []; same = refl; count = refl; cells = e; room = omega arith }
 
 module _ {s : List ℕ} {from : ℕ} {upper : List ℕ} {n : Number} {parts at : ℕ} (r : Reading s from upper n parts at) where
@@ -86,7 +86,7 @@ module _ {s : List ℕ} {from : ℕ} {upper : List ℕ} {n : Number} {parts at :
       pub read-room : length s ≤ 256 → parts < 128
       read-room l = omega (arith, r .room, width-value n (omega arith))
 
-      stored : length s ≤ 256 → set upper parts x ≡ cellsOf (map held (r .ns ++ (v ∷ [])))
+      stored : length s ≤ 256 → set upper parts x ≡ requestCells (map held (r .ns ++ (v ∷ [])))
       stored l =
           rw (r .cells, ex, map-snoc (r .ns) v, r .count, ← length-map (r .ns) held)
           (cells-snoc (map held (r .ns)) (held v) (omega (arith, read-room l, r .count, length-map (r .ns) held)))

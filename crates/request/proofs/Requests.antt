@@ -6,7 +6,7 @@ use native.Mathlib.Omega.{arith}
 use lib.ListN.{length, getD, take, drop, replicate, length-append, length-map, take-append-drop}
 use lib.Seq.{drop-at}
 use Rattle.request.specs.Text.{line}
-use Rattle.request.specs.Request.{title, Asks, held, cellsOf, refused, Parsed, asks, other}
+use Rattle.request.specs.Request.{title, Asks, held, requestCells, refused, Parsed, asks, other}
 use Rattle.request.specs.Scan.{Scanned, found, none, scan, lineOf}
 use Rattle.request.specs.declared.Request.{Request}
 use Rattle.request.specs.declared.Line.{Line}
@@ -39,7 +39,7 @@ asks-once {s} {ms} {ms′} {r} {r′} q q′ =
     let l : line (r ∷ []) ≡ line (r′ ∷ []) = cc in
     let end : ℕ = length s - length (line (r ∷ [])) in
     let t : found (r ∷ []) [] ≡ found (r′ ∷ []) [] = sym (asks-total q end refl) ∙ asks-total q′ end (rw l) in
-    ((cc), (cc))
+    (cc, cc)
 
 -- ---- refused
 
@@ -152,6 +152,6 @@ module _ (s : List ℕ) (size : length s ≤ 256) (long : 6 ≤ length s) (first
 
 -- the bounds are cells
 pub parsed-few : {s : List ℕ} {x : Request} → Parsed s x → x .parts ≤ length (x .upper)
-unfolding cellsOf
+unfolding requestCells
 parsed-few (asks ms r q) = omega (arith, length-map ms held, length-append (map held ms) (replicate (128 - length (map held ms)) 0))
 parsed-few (other h) = omega arith

@@ -32,11 +32,11 @@ abbrev pub held : ℕ → ℕ
 held m = min m 255
 
 -- 128 cells; at most 124 ceilings fit into 256 bytes
-unfoldable pub cellsOf : List ℕ → List ℕ
-cellsOf ms = ms ++ replicate (128 - length ms) 0
+unfoldable pub requestCells : List ℕ → List ℕ
+requestCells ms = ms ++ replicate (128 - length ms) 0
 
 abbrev pub accepted : List ℕ → ℕ → Request
-accepted ms r = record { number = 0; parts = length ms; upper = cellsOf (map held ms); total = r }
+accepted ms r = record { number = 0; parts = length ms; upper = requestCells (map held ms); total = r }
 
 -- "22: not the form below"
 abbrev pub refused : Request

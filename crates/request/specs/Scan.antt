@@ -5,7 +5,7 @@ use Prim.Native.Nat.{ℕ, _+_, _-_, _*_}
 use lib.Dec.{ltb, eqb}
 use lib.ListN.{length, getD, replicate}
 use Rattle.walsh.specs.Tests.{either}
-use Rattle.request.specs.Request.{held, cellsOf}
+use Rattle.request.specs.Request.{held, requestCells}
 use Rattle.request.specs.declared.Number.{Number}
 use Rattle.request.specs.declared.Number.the-variants.{Empty, Value, Bad}
 use Rattle.request.specs.declared.Line.{Line}
@@ -45,5 +45,5 @@ scan ns n (b ∷ bs) =
 
 -- what the code answers of a line in a text of so many bytes
 abbrev pub lineOf : ℕ → Scanned → Line
-lineOf size (found ns bs) = record { parts = length ns; upper = cellsOf (map held ns); last = getD ns (length ns - 1) 0; end = size - length bs }
+lineOf size (found ns bs) = record { parts = length ns; upper = requestCells (map held ns); last = getD ns (length ns - 1) 0; end = size - length bs }
 lineOf size none = record { parts = 0; upper = replicate 128 0; last = 0; end = 0 }

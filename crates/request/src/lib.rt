@@ -4,7 +4,7 @@ ghost use mathlib.Core.List.{[]};
 ghost use Prim.Native.Nat.{_≤_, _<_};
 ghost use lib.ListN.{length, drop};
 ghost use Rattle.request.specs.declared.Number.the-variants.{Empty};
-ghost use Rattle.request.specs.Request.{held, Parsed};
+ghost use Rattle.request.specs.Request.{held, refused, Parsed};
 ghost use Rattle.request.specs.Scan.{withDigit, grownOf, valueOf, isEnd, none, scan, lineOf};
 
 // The bounds asked for, each as a byte (255 for any above), and the total; or the number 22, with all else 0.
@@ -134,7 +134,7 @@ fn read_line(s: &[u8], from: usize) -> Line
 }
 
 fn refuse() -> Request
-    ensures { λ r. ⌜ r ≡ Rattle.request.specs.Request.refused ⌝ }
+    ensures { λ r. ⌜ r ≡ refused ⌝ }
 {
     Request {
         number: 22,

@@ -9,13 +9,14 @@ use borrow.Author.Tests.{ne-eqb}
 use Rattle.walsh.specs.Order.{Composition, countOf}
 use Rattle.walsh.specs.Serial.{serialOf, compositionOf}
 use Rattle.bounds.specs.Refusal.{Check, refused, firstRefusal}
-use Rattle.bounds.specs.Edition.{editionChecks, cellsOf}
+use Rattle.bounds.specs.Edition.{editionChecks, cellsOf, blank}
 use Rattle.bounds.specs.Places.{compositionChecks}
 use Rattle.bounds.specs.declared.Refusal.{Refusal}
 use Rattle.bounds.proofs.Refusals.{refusal-here, refusal-next}
 use Rattle.bounds.proofs.Chains.{answer-first, answer-later}
 use Rattle.bounds.proofs.Compositions.{composition-passed}
-use Rattle.step.specs.Turn.{Turn, shiftedBy, Shifted, nextSerial, endChecks, stepOf}
+use Rattle.step.specs.Steps.{endChecks, nextSerial, stepOf}
+use Rattle.step.specs.Turn.{Turn, shiftedBy, Shifted}
 use Rattle.step.specs.declared.Stepped.{Stepped}
 use Rattle.step.proofs.Ways.{way-reached, moving, way-on, way-off}
 
@@ -28,19 +29,19 @@ module _ (back : Bool) (ms : List ℕ) (r : ℕ) (g : List ℕ) where
 
   -- by the whole table
   refused-by : (v : Refusal) → v ≡ firstRefusal (editionChecks ms r ++ (given ++ ends)) → (v .number ≡ 0 → ⊥)
-      → record { number = v .number; detail = v .detail; composition = cellsOf [] } ≡ stepOf back ms r g
+      → record { number = v .number; detail = v .detail; composition = blank } ≡ stepOf back ms r g
   unfolding stepOf
   refused-by v e some = rw (← e, ne-eqb (v .number) 0 some)
 
   -- refused as an edition
   pub step-edition : (v : Refusal) → v ≡ firstRefusal (editionChecks ms r) → 0 < v .number
-      → record { number = v .number; detail = v .detail; composition = cellsOf [] } ≡ stepOf back ms r g
+      → record { number = v .number; detail = v .detail; composition = blank } ≡ stepOf back ms r g
   step-edition v e some = refused-by v (answer-first (editionChecks ms r) (given ++ ends) e (λ z. omega arith)) (λ z. omega arith)
 
   module _ (edition : Refusal) (ee : edition ≡ firstRefusal (editionChecks ms r)) (ez : edition .number ≡ 0) where
     -- what was given is refused
     pub step-given : (v : Refusal) → v ≡ firstRefusal (compositionChecks ms r g) → 0 < v .number
-        → record { number = v .number; detail = v .detail; composition = cellsOf [] } ≡ stepOf back ms r g
+        → record { number = v .number; detail = v .detail; composition = blank } ≡ stepOf back ms r g
     step-given v e some =
         refused-by v (answer-later (editionChecks ms r) (given ++ ends) ee refl ez (answer-first given ends e (λ z. omega arith))) (λ z. omega arith)
 

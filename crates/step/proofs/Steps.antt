@@ -20,8 +20,7 @@ use Rattle.bounds.specs.Places.{compositionChecks}
 use Rattle.bounds.proofs.Refusals.{is-accepted, passed}
 use Rattle.bounds.proofs.Chains.{Accepts, accepts-split}
 use Rattle.bounds.proofs.Compositions.{composition-passed, composition-passes}
-use Rattle.step.specs.Steps.{successorOf, predecessorOf}
-use Rattle.step.specs.Turn.{nextSerial, endChecks, stepOf}
+use Rattle.step.specs.Steps.{endChecks, nextSerial, stepOf, successorOf, predecessorOf}
 use Rattle.step.specs.declared.Stepped.{Stepped}
 use Rattle.step.proofs.Answers.{step-goes}
 use Rattle.step.proofs.Cells.{cells-front}
@@ -120,26 +119,22 @@ module _ (ms : List ℕ) (r : ℕ) (g : List ℕ) where
   abbrev pub before : List ℕ
   before = take (length ms) (predecessorOf ms r g .composition)
 
-  pub forward-backward : successorOf ms r g .number ≡ 0 → predecessorOf ms r (after) ≡ record { number = 0; detail = 0; composition = cellsOf g }
-  unfolding successorOf predecessorOf stepOf
+  pub forward-backward : successorOf ms r g .number ≡ 0 → predecessorOf ms r after ≡ record { number = 0; detail = 0; composition = cellsOf g }
   forward-backward ok = returned false ms r g ok
 
-  pub backward-forward : predecessorOf ms r g .number ≡ 0 → successorOf ms r (before) ≡ record { number = 0; detail = 0; composition = cellsOf g }
-  unfolding successorOf predecessorOf stepOf
+  pub backward-forward : predecessorOf ms r g .number ≡ 0 → successorOf ms r before ≡ record { number = 0; detail = 0; composition = cellsOf g }
   backward-forward ok = returned true ms r g ok
 
-  pub forward-near : successorOf ms r g .number ≡ 0 → Adjacent (length ms) g (after)
-  unfolding successorOf stepOf
+  pub forward-near : successorOf ms r g .number ≡ 0 → Adjacent (length ms) g after
   forward-near ok = near false ms r g ok
 
-  pub backward-near : predecessorOf ms r g .number ≡ 0 → Adjacent (length ms) g (before)
-  unfolding predecessorOf stepOf
+  pub backward-near : predecessorOf ms r g .number ≡ 0 → Adjacent (length ms) g before
   backward-near ok = near true ms r g ok
 
 -- two compositions with the same successor are the same
 pub forward-once : (ms : List ℕ) (r : ℕ) (g h : List ℕ) → successorOf ms r g .number ≡ 0 → successorOf ms r h .number ≡ 0
     → successorOf ms r g ≡ successorOf ms r h → g ≡ h
-unfolding successorOf stepOf cellsOf
+unfolding cellsOf
 forward-once ms r g h okg okh e =
     let n = length ms in
     let vg = at false ms r g okg .valid in

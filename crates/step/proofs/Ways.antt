@@ -13,7 +13,8 @@ use Rattle.walsh.specs.Serial.{serialOf, compositionOf}
 use Rattle.walsh.proofs.Serials.{serial-composition}
 use Rattle.walsh.proofs.Successors.{successor-at, successor-none, predecessor-at, predecessor-none}
 use Rattle.step.specs.Advance.{advanceOf}
-use Rattle.step.specs.Turn.{Moving, Turn, nextSerial}
+use Rattle.step.specs.Steps.{nextSerial}
+use Rattle.step.specs.Turn.{Moving, Turn}
 
 pub way-reached : (back : Bool) (r w : ℕ) → w ≡ cond back (r + 1) r → r ≤ w
 way-reached true r w e = omega arith

@@ -1,38 +1,53 @@
 -- Document 01, "Serial and mix": "Forward and backward step give the mix one serial on or back.", and "Refusals by place of checking", places
 -- 'edition', 'mix given' and 'step': "Look, take, spoil and step answer a mix as 24 cells, those past n being 0. A refused one answers such a mix
 -- all zeros".
+use mathlib.Core.Path.{_≡_, refl}
+use mathlib.Core.Bool.{Bool, true, false, cond}
 use mathlib.Core.List.{List, [], _∷_, _++_}
 use Prim.Native.Nat.{ℕ, _+_, _-_}
 use lib.Dec.{eqb}
-use Rattle.walsh.specs.Order.{countOf}
-use Rattle.walsh.specs.Serial.{serialOf, compositionOf}
+use Rattle.walsh.specs.Order.{listing, order, count, countOf, threeTwos}
+use Rattle.walsh.specs.Serial.{same, placeOf, serialOf, compositionOf}
 use Rattle.bounds.specs.Refusal.{Check, check, firstRefusal, decided}
-use Rattle.bounds.specs.Edition.{editionChecks, cellsOf}
+use Rattle.bounds.specs.Edition.{firstOutside, editionChecks, cellsOf, blank}
 use Rattle.bounds.specs.Places.{compositionChecks}
 use Rattle.bounds.specs.declared.Refusal.{Refusal}
 use Rattle.step.specs.declared.Stepped.{Stepped}
 
--- the place 'step': "last mix forward"
-abbrev pub lastChecks : List ℕ → ℕ → List ℕ → List Check
-lastChecks ms r g = check 9 (eqb (serialOf ms r g) (countOf ms r)) 0 ∷ []
-
--- "first backward"
-abbrev pub firstChecks : List ℕ → ℕ → List ℕ → List Check
-firstChecks ms r g = check 9 (eqb (serialOf ms r g) 1) 0 ∷ []
+-- the place 'step': "last mix forward, first backward"
+abbrev pub endChecks : Bool → List ℕ → ℕ → List ℕ → List Check
+endChecks back ms r g = check 9 (eqb (serialOf ms r g) (cond back 1 (countOf ms r))) 0 ∷ []
 
 -- the composition h, and all zeros with the number and detail of a refusal
 abbrev pub steppedBy : Refusal → List ℕ → Stepped
 steppedBy v h =
     decided v
     (record { number = 0; detail = 0; composition = cellsOf h })
-    (record { number = v .number; detail = v .detail; composition = cellsOf [] })
+    (record { number = v .number; detail = v .detail; composition = blank })
 
--- one serial on from g
-unfoldable pub successorOf : List ℕ → ℕ → List ℕ → Stepped
-successorOf ms r g =
-    steppedBy (firstRefusal (editionChecks ms r ++ (compositionChecks ms r g ++ lastChecks ms r g))) (compositionOf ms r (serialOf ms r g + 1))
+-- one serial on from s or back
+abbrev pub nextSerial : Bool → ℕ → ℕ
+nextSerial back s = cond back (s - 1) (s + 1)
 
--- one serial back
-unfoldable pub predecessorOf : List ℕ → ℕ → List ℕ → Stepped
-predecessorOf ms r g =
-    steppedBy (firstRefusal (editionChecks ms r ++ (compositionChecks ms r g ++ firstChecks ms r g))) (compositionOf ms r (serialOf ms r g - 1))
+-- the step from g
+unfoldable pub stepOf : Bool → List ℕ → ℕ → List ℕ → Stepped
+stepOf back ms r g =
+    steppedBy (firstRefusal (editionChecks ms r ++ (compositionChecks ms r g ++ endChecks back ms r g)))
+    (compositionOf ms r (nextSerial back (serialOf ms r g)))
+
+-- forward and backward
+abbrev pub successorOf : List ℕ → ℕ → List ℕ → Stepped
+successorOf ms r g = stepOf false ms r g
+
+abbrev pub predecessorOf : List ℕ → ℕ → List ℕ → Stepped
+predecessorOf ms r g = stepOf true ms r g
+
+-- ---- the seven compositions of bounds 2 2 2 with total 3: 9 after the last and before the first, computed
+
+the-last : successorOf threeTwos 3 (0 ∷ 1 ∷ 2 ∷ []) .number ≡ 9
+unfolding stepOf firstRefusal firstOutside serialOf placeOf compositionOf same order listing countOf count
+the-last = refl
+
+the-first : predecessorOf threeTwos 3 (2 ∷ 1 ∷ 0 ∷ []) .number ≡ 9
+unfolding stepOf firstRefusal firstOutside serialOf placeOf compositionOf same order listing countOf count
+the-first = refl

@@ -1,17 +1,14 @@
 -- What the functions inside the step promise. The parts of g have sums to the right that are counted from a total w: r forward, r + 1 backward.
 use mathlib.Core.Path.{_≡_}
 use mathlib.Core.Bool.{Bool, true, false, cond}
-use mathlib.Core.List.{List, [], _∷_, _++_}
+use mathlib.Core.List.{List}
 use Prim.Native.Nat.{ℕ, suc, _+_, _-_, _*_, _≤_, _<_}
-use lib.Dec.{eqb, ltb}
+use lib.Dec.{ltb}
 use lib.ListN.{length, getD}
 use Rattle.walsh.specs.Sums.{sumTo}
-use Rattle.walsh.specs.Order.{isOdd, least, most, countOf}
-use Rattle.walsh.specs.Serial.{serialOf, compositionOf}
+use Rattle.walsh.specs.Order.{isOdd, least, most}
 use Rattle.walsh.specs.Step.{AtLast, Pivot, stepAt}
-use Rattle.bounds.specs.Refusal.{Check, check, refused, firstRefusal}
-use Rattle.bounds.specs.Edition.{editionChecks}
-use Rattle.bounds.specs.Places.{compositionChecks}
+use Rattle.bounds.specs.Refusal.{refused}
 use Rattle.step.specs.Steps.{steppedBy}
 use Rattle.step.specs.declared.Found.{Found}
 use Rattle.step.specs.declared.Stepped.{Stepped}
@@ -57,17 +54,3 @@ pub record Shifted (ms : List ℕ) (w : ℕ) (g : List ℕ) (x : Stepped) : Type
   pub left : List ℕ
   pub turned : Turned ms w g on left
   pub is : x ≡ shiftedBy on left
-
--- ---- both ways at once
-
--- from the serial s, backward or forward
-abbrev pub nextSerial : Bool → ℕ → ℕ
-nextSerial back s = cond back (s - 1) (s + 1)
-
--- the serial at which a way ends
-abbrev pub endChecks : Bool → List ℕ → ℕ → List ℕ → List Check
-endChecks back ms r g = check 9 (eqb (serialOf ms r g) (cond back 1 (countOf ms r))) 0 ∷ []
-
-unfoldable pub stepOf : Bool → List ℕ → ℕ → List ℕ → Stepped
-stepOf back ms r g =
-    steppedBy (firstRefusal (editionChecks ms r ++ (compositionChecks ms r g ++ endChecks back ms r g))) (compositionOf ms r (nextSerial back (serialOf ms r g)))

@@ -75,7 +75,9 @@ fn values_left(v: usize, lo: usize, hi: usize, falling: bool) -> usize
 
 fn run_of(upper: &[u8], total: usize, parts: &[u8]) -> Run
     requires { ⌜ (1 < length (now upper)) × (1 < length (now parts)) ⌝ }
-    ensures { λ r. ⌜ (r .first ≡ getD (now (parts .entry)) 0 0) × (r .second ≡ getD (now (parts .entry)) 1 0) × Running (now (upper .entry)) total r ⌝ }
+    ensures { λ r.
+        ⌜ (r .first ≡ getD (now (parts .entry)) 0 0) × (r .second ≡ getD (now (parts .entry)) 1 0)
+        × Running (now (upper .entry)) total r ⌝ }
 {
     let first = parts[0];
     let second = parts[1];
@@ -113,9 +115,10 @@ fn moved(run: Run) -> Run
     }
 }
 
-// The next composition: by the run where it can go on, or else by a step of the parts, with which a new run begins.
+// Goes on to the next composition: by the run where it can move, or else by a step of the parts, with which a new run begins.
 fn onward(upper: &[u8], total: usize, run: Run, parts: &mut [u8]) -> Run
-    requires { ⌜ (1 < length (now upper)) × (length (now upper) ≤ 24) × (total ≤ 255) × (length (now parts) ≡ length (now upper)) × Running (now upper) total run ⌝ }
+    requires { ⌜ (1 < length (now upper)) × (length (now upper) ≤ 24) × (total ≤ 255) × (length (now parts) ≡ length (now upper))
+        × Running (now upper) total run ⌝ }
     ensures { λ r. ⌜ Onward (now (upper .entry)) total (shown run (now (parts .entry))) r (now (parts .exit)) ⌝ }
 {
     if 0 < run.more {
@@ -170,14 +173,13 @@ fn write(upper: &[u8], total: usize, first: [u8; 24], copies: u64, out: &mut [u8
 
 // Writes `copies` compositions from that of `serial` on into `out`, or answers the refusal and writes nothing. One table serves them all.
 pub fn batch(upper: &[u8], total: u32, serial: u64, copies: u64, out: &mut [u8]) -> Refusal
-    ensures { λ r. ⌜ _≡_ {A = Refusal × List ℕ} (r, now (out .exit)) (batchOf (now (upper .entry)) total serial copies (now (out .entry))) ⌝ }
+    ensures { λ r.
+        ⌜ _≡_ {A = Refusal × List ℕ} (r, now (out .exit))
+        (batchOf (now (upper .entry)) total serial copies (now (out .entry))) ⌝ }
 {
     let first = locate(upper, total, serial);
     if 0 < first.number {
-        return Refusal {
-            number: first.number,
-            detail: first.detail,
-        };
+        return refused(first.number, first.detail);
     }
     let room = room_refusal(first.count, upper.len(), serial, copies, out.len());
     if 0 < room.number {

@@ -13,16 +13,16 @@ use walsh::over;
 use walsh::wide;
 ghost use mathlib.Core.Path.{_≡_};
 ghost use mathlib.Core.Bool.{cond};
-ghost use mathlib.Core.List.{[], _++_};
+ghost use mathlib.Core.List.{_++_};
 ghost use Prim.Native.Nat.{_+_, _≤_, _<_};
 ghost use lib.Dec.{ltb};
 ghost use lib.ListN.{length, drop};
 ghost use Rattle.walsh.specs.Sums.{sumTo};
 ghost use Rattle.walsh.specs.Step.{firstOf};
-ghost use Rattle.bounds.specs.Edition.{cellsOf};
-ghost use Rattle.step.specs.Steps.{successorOf, predecessorOf};
+ghost use Rattle.bounds.specs.Edition.{blank};
+ghost use Rattle.step.specs.Steps.{stepOf, successorOf, predecessorOf};
 ghost use Rattle.step.specs.Advance.{Advances};
-ghost use Rattle.step.specs.Turn.{Found-at, Turned, Shifted, stepOf};
+ghost use Rattle.step.specs.Turn.{Found-at, Turned, Shifted};
 
 // A composition in 24 cells, or a refusal's number and detail with all else 0.
 #[repr(C)]
@@ -81,7 +81,8 @@ fn pivot(upper: &[u8], total: usize, parts: &[u8]) -> Found
 
 // Fills the first k parts with the first composition of `rest`; the parts to the right sum to `right`, the k bounds to `left`.
 fn refill(upper: &[u8], k: usize, left: usize, rest: usize, right: usize, parts: &mut [u8])
-    requires { ⌜ (0 < k) × (k ≤ length (now upper)) × (k ≤ length (now parts)) × (left ≡ sumTo (now upper) k) × (rest ≤ left) × (left < 65536) × (right < 8589934592) ⌝ }
+    requires { ⌜ (0 < k) × (k ≤ length (now upper)) × (k ≤ length (now parts)) × (left ≡ sumTo (now upper) k)
+        × (rest ≤ left) × (left < 65536) × (right < 8589934592) ⌝ }
     ensures { λ _. ⌜ now (parts .exit) ≡ firstOf (now (upper .entry)) k rest right ++ drop k (now (parts .entry)) ⌝ }
 {
     let mut under = left;
@@ -100,7 +101,8 @@ fn refill(upper: &[u8], k: usize, left: usize, rest: usize, right: usize, parts:
     parts[0] = rem as u8;
 }
 
-// The step in place, or false where every part is at its last value. Where the parts are no composition, the rest may not fit: then false too.
+// Makes the step in place and answers true, or answers false and changes nothing where every part is at its last value. It goes forward where
+// `total` is the total, backward where it is one more. Where the parts are no composition, the rest may not fit: then false too.
 fn turn(upper: &[u8], total: usize, parts: &mut [u8]) -> bool
     requires { ⌜ (0 < length (now upper)) × (length (now upper) ≤ 24) × (length (now parts) ≡ length (now upper)) × (total ≤ 4294967296) ⌝ }
     ensures { λ r. ⌜ Turned (now (upper .entry)) total (now (parts .entry)) r (now (parts .exit)) ⌝ }
@@ -120,8 +122,8 @@ fn turn(upper: &[u8], total: usize, parts: &mut [u8]) -> bool
     true
 }
 
-// The next composition, in place of the one that is lent, or false and nothing changed where that is the last. Parts that are no composition are
-// left as they are or get some other values.
+// The forward step in place, for a caller that knows the parts to be a composition: true and the next composition, or false and nothing changed
+// where there is none. Parts that are no composition are left as they are or get some other values.
 pub fn advance(upper: &[u8], total: u32, parts: &mut [u8]) -> bool
     ensures { λ r. ⌜ Advances (now (upper .entry)) total (now (parts .entry)) r (now (parts .exit)) ⌝ }
 {
@@ -138,8 +140,9 @@ pub fn advance(upper: &[u8], total: u32, parts: &mut [u8]) -> bool
     turn(upper, total as usize, parts)
 }
 
+// The answer of a refused step.
 fn stopped(number: u32, detail: u64) -> Stepped
-    ensures { λ r. ⌜ r ≡ record { number = number; detail = detail; composition = cellsOf [] } ⌝ }
+    ensures { λ r. ⌜ r ≡ record { number = number; detail = detail; composition = blank } ⌝ }
 {
     Stepped {
         number,
@@ -148,7 +151,7 @@ fn stopped(number: u32, detail: u64) -> Stepped
     }
 }
 
-// The total from which the sums to the right are counted.
+// The total that `turn` is to be given: one more for the backward step.
 fn side(total: u32, back: bool) -> usize
     ensures { λ r. ⌜ (r ≡ cond back (total + 1) total) × (r ≤ 4294967296) ⌝ }
 {
@@ -159,7 +162,7 @@ fn side(total: u32, back: bool) -> usize
     }
 }
 
-// The step from parts that are not to be changed.
+// The step over a copy of the parts, in 24 cells; 9 where there is none.
 fn shift(upper: &[u8], total: usize, parts: &[u8]) -> Stepped
     requires { ⌜ (0 < length (now upper)) × (length (now upper) ≤ 24) × (length (now parts) ≡ length (now upper)) × (total ≤ 4294967296) ⌝ }
     ensures { λ r. ⌜ Shifted (now (upper .entry)) total (now (parts .entry)) r ⌝ }
@@ -176,7 +179,7 @@ fn shift(upper: &[u8], total: usize, parts: &[u8]) -> Stepped
     stopped(9, 0)
 }
 
-// Both ways in one.
+// The step with its checks, forward or backward.
 fn step(upper: &[u8], total: u32, composition: &[u8], back: bool) -> Stepped
     ensures { λ r. ⌜ r ≡ stepOf back (now (upper .entry)) total (now (composition .entry)) ⌝ }
 {

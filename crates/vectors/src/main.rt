@@ -23,6 +23,22 @@ fn count(s: &[u8], from: usize) -> usize
     e.at
 }
 
+// a record that nobody has checked: e, number of parts, 24 cells, total: number, detail, N
+fn count_record(s: &[u8], from: usize) -> usize
+    ensures { λ r. ⌜ from ≤ r ⌝ }
+{
+    let mut upper = [0u8; 24];
+    let parts = read::number(s, from);
+    let e = read::bounded_by(s, parts.at, &mut upper);
+    let c = count::check_record(bounds::Bounds {
+        parts: parts.value as usize,
+        upper,
+        total: e.total,
+    });
+    show::three(c.number, c.detail, c.count);
+    e.at
+}
+
 // table: t, k, r: M(k, r), and nothing outside the table
 fn table(s: &[u8], from: usize) -> usize
     ensures { λ r. ⌜ from ≤ r ⌝ }
@@ -159,6 +175,7 @@ fn command(s: &[u8], letter: u8, from: usize) -> usize
 {
     match letter {
         b'c' => count(s, from),
+        b'e' => count_record(s, from),
         b't' => table(s, from),
         b'r' => rank(s, from),
         b'u' => unrank(s, from),

@@ -15,7 +15,7 @@ use prog.Wp.{Heap, Calls, Loops, WpFn, Tables}
 use ghost.Atoms.{Atoms}
 use contract.Monad.{Fun, fact}
 use contract.Running.{givenOf, tables, tablesOf}
-use types.Kit.{Given, ‵, raw, some, later, _⊛_, ⋆, _$_, _∵_, !, qed, by, move, keep, use1, use2, split, join, pick, suffices, frame, await, done}
+use types.Kit.{Given, ‵, raw, some, later, _⊛_, ⋆, _$_, _∵_, !, qed, by, move, keep, drop, use1, use2, split, join, pick, suffices, frame, await, done}
 use types.Kit.{fsplit, fjoin, feqL}
 use types.Run.{look, init, forget, stop, hop, fld, from, load, addr, and-then, no-more, assigns, land, returns}
 use types.Run.{enter, alloc1, alloc0, params1, pass1, pass0, free1, free0}
@@ -78,7 +78,18 @@ module _ {M : Type 1} (𝓤 : URA M) (H : Heap 𝓤) (A : Atoms 𝓤) (W : Given
   abbrev vals : List Val × (List Val × (List Val × (List Val × Unit {0})))
   vals = (vptr b o ∷ [], (s ∷ [], (vint w64 n ∷ [], (vint w32 v ∷ [], tt))))
 
-  -- what both triples bind outside
+  -- the serial that is asked for
+  abbrev asked : ℕ
+  asked = n
+
+  asked-fits : asked < 2 ^ 64
+  asked-fits = n-fits
+
+  -- what the core is given
+  abbrev asks : Arg
+  asks = (a .0, (a .1 .0, (asked, (v, tt))))
+
+  -- what the triple binds outside, and the core's
   abbrev bound : walkOf 𝓤 H A here.ended stayed (here.clauses 𝓤 H A mem run) .Ghost
   bound = (((κ, (κ′, tt)), (q, (q′, tt)), tt, a, vals), tt)
 
@@ -86,19 +97,22 @@ module _ {M : Type 1} (𝓤 : URA M) (H : Heap 𝓤) (A : Atoms 𝓤) (W : Given
   Post = walkOf 𝓤 H A here.ended stayed (here.clauses 𝓤 H A mem run) .post bound
 
   abbrev to-core : Core 𝓤 H A mem run .Ghost
-  to-core = (((κ, (κ′, tt)), (q, (q′, tt)), tt, a, vals), tt)
+  to-core = (((κ, (κ′, tt)), (q, (q′, tt)), tt, asks, (vptr b o ∷ [], (s ∷ [], (vint w64 asked ∷ [], (vint w32 v ∷ [], tt))))), tt)
 
   goes : ent 𝓤 (onEntry 𝓤 H A here.signature (κ, (κ′, tt)) (q, (q′, tt)) a vals) (Core 𝓤 H A mem run .pre to-core)
   goes =
       qed W ((‵ (flft κ q) ⊛ ‵ (flft κ′ q′) ⊛ ‵ ftrue) ∷ ‵ (owns (MutRef (named 0) κ L.the-row ∷ MutSlice (named 1) κ′ u32 ∷ u64 ∷ u32 ∷ []) a vals) ∷ []) ∵
-      join ! $ frame ! $ done !
+      move ! (1 ∷ []) $ fsplit ! $ move ! (1 ∷ []) $ fsplit ! $ move ! (1 ∷ []) $ drop ! $ nothing ! $
+      owned ! u32 (Is u32) (uint-makes 𝓤 H A W w32) v _ (refl, v-fits) $ fjoin ! $
+      owned ! u64 (Is u64) (uint-makes 𝓤 H A W w64) asked _ (refl, asked-fits) $ fjoin ! $
+      move ! (1 ∷ 0 ∷ []) $ fjoin ! $ move ! (1 ∷ 0 ∷ []) $ fjoin ! $ move ! (1 ∷ 0 ∷ []) $ join ! $ frame ! $ done !
 
   -- what a list of last values has, in the parameters' order
   abbrev Last : Type 0
   Last = Ledger × (List ℕ × (Unit {0} × (Unit {0} × Unit {0})))
 
   abbrev Did : Answer → Last → Type 0
-  Did r z = _≡_ {A = Claimed × List ℕ} (record { answer = r; ledger = z .0 }, z .1 .0) (calling h ys (Call.claim n v))
+  Did r z = _≡_ {A = Claimed × List ℕ} (record { answer = r; ledger = z .0 }, z .1 .0) (calling h ys (Call.claim asked v))
 
   exits : (r : Answer) (w : Val) (z : Last) → Did r z → length (z .1 .0) ≡ length ys
       → ent 𝓤 (⋆ 𝓤 H A (‵ (N.the-row .own r (w ∷ [])) ∷ (‵ (flft κ q) ⊛ ‵ (flft κ′ q′) ⊛ ‵ ftrue)
@@ -132,9 +146,9 @@ module _ {M : Type 1} (𝓤 : URA M) (H : Heap 𝓤) (A : Atoms 𝓤) (W : Given
         (and-then ! (load ! (from ! (stop !)) (look ! 5 refl)) (and-then ! (load ! (from ! (stop !)) (look ! 1 refl))
         (and-then ! (load ! (from ! (stop !)) (look ! 9 refl)) (and-then ! (load ! (from ! (stop !)) (look ! 7 refl)) (no-more !)))))
         (λ w. use1 W (later (some (λ (r : Answer). ((‵ (flft κ q) ⊛ ‵ (flft κ′ q′) ⊛ ‵ ftrue) ⊛ ‵ (N.the-row .own r (w ∷ [])))
-        ⊛ raw (ensured 𝓤 H A core.ended (core.clauses 𝓤 H A mem run) (κ, (κ′, tt)) a tt r)))) (id⊢ 𝓤 _) $ await ! tt $ pick ! (λ r.
+        ⊛ raw (ensured 𝓤 H A core.ended (core.clauses 𝓤 H A mem run) (κ, (κ′, tt)) asks tt r)))) (id⊢ 𝓤 _) $ await ! tt $ pick ! (λ r.
         -- what the core ensures, at some last values
-        split ! $ move ! (1 ∷ []) $ use1 W (some (λ (z : Last). ‵ (lasts core.ended (κ, (κ′, tt)) a z) ⊛ raw (fact 𝓤 (Did r z)))) (id⊢ 𝓤 _) $ pick ! (λ z.
+        split ! $ move ! (1 ∷ []) $ use1 W (some (λ (z : Last). ‵ (lasts core.ended (κ, (κ′, tt)) asks z) ⊛ raw (fact 𝓤 (Did r z)))) (id⊢ 𝓤 _) $ pick ! (λ z.
         split ! $ move ! (1 ∷ []) $ heard ! (Did r z) (λ e. fsplit ! $ move ! (1 ∷ []) $ fsplit ! $ fsplit ! $ move ! (1 ∷ []) $ feqL ! (λ l.
         move ! (3 ∷ []) $ split ! $ move ! (1 ∷ []) $ peeks ! N.the-row (Is N.the-row) (shows 𝓤 H A N.the-row) r (w ∷ []) (λ is.
         -- [the answer's; the tokens; the last column; …; the last record; _7; …; _6; …; _5; …; _4; …; _3; …; _2; …; _1; …; room for _0; …]

@@ -7,6 +7,39 @@ use Rattle.lines.proofs.Lengths.{decimal-myriad, length-myriad}
 use Rattle.lines.proofs.put_serial.Statement.{statement}
 use Rattle.lines.proofs.put_serial.Tie as tie
 
+-- room for the second pair, and for the last
+put-pair-requires : tie.Need-put-pair-requires
+put-pair-requires c κs =
+    let high = c .before .before .before in
+    let start = high .before .before .before .before in
+    let p = high .put-number .ensures in
+    (omega arith, omega (arith, p .ends, p .size, start .pre, length-myriad (start .args .n) (omega arith)))
+
+put-pair-requires-2 : tie.Need-put-pair-requires-2
+put-pair-requires-2 c κs =
+    let middle = c .before .before .before in
+    let high = middle .before .before .before .before in
+    let start = high .before .before .before .before in
+    let p = high .put-number .ensures in
+    let q = middle .put-pair .ensures in
+    (omega arith, omega (arith, p .ends, p .size, q .ends, q .size, start .pre, length-myriad (start .args .n) (omega arith)))
+
+same-length-2 : tie.Need-same-length-2
+same-length-2 c =
+    let last = c .before .before in
+    let middle = last .before .before .before .before in
+    let high = middle .before .before .before .before in
+    last .put-pair2 .kept .1 .0 ∙ middle .put-pair .kept .1 .0 ∙ high .put-number .kept .1 .0
+
+returns-2 : tie.Need-returns-2
+returns-2 c =
+    let last = c .before .before in
+    let middle = last .before .before .before .before in
+    let high = middle .before .before .before .before in
+    let start = high .before .before .before .before in
+    retold (sym (decimal-myriad (start .args .n) (omega arith)))
+    (joined (high .put-number .ensures) (joined (middle .put-pair .ensures) (last .put-pair2 .ensures)))
+
 pub put-serial-spec : {M : Type 1} → statement M
 put-serial-spec =
     tie.close
@@ -15,10 +48,7 @@ put-serial-spec =
     (λ c. search needs)
     (λ c. search needs)
     (λ c κs. omega (arith, c .before .before .before .pre, length-myriad (c .before .before .before .args .n) (omega arith)))
-    (λ c κs. let p = c .before .before .before .put-number .ensures in (omega arith, omega (arith, p .ends, p .size, c .before .before .before .before .before .before .before .pre, length-myriad (c .before .before .before .before .before .before .before .args .n) (omega arith))))
-    (λ c κs.
-    let p = c .before .before .before .before .before .before .before .put-number .ensures in
-    let q = c .before .before .before .put-pair .ensures in
-    (omega arith, omega (arith, p .ends, p .size, q .ends, q .size, c .before .before .before .before .before .before .before .before .before .before .before .pre, length-myriad (c .before .before .before .before .before .before .before .before .before .before .before .args .n) (omega arith))))
-    (λ c. c .before .before .put-pair2 .kept .1 .0 ∙ c .before .before .before .before .before .before .put-pair .kept .1 .0 ∙ c .before .before .before .before .before .before .before .before .before .before .put-number .kept .1 .0)
-    (λ c. retold (sym (decimal-myriad (c .before .before .before .before .before .before .before .before .before .before .before .before .before .before .args .n) (omega arith))) (joined (c .before .before .before .before .before .before .before .before .before .before .put-number .ensures) (joined (c .before .before .before .before .before .before .put-pair .ensures) (c .before .before .put-pair2 .ensures)))))
+    put-pair-requires
+    put-pair-requires-2
+    same-length-2
+    returns-2)

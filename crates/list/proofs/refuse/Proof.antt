@@ -10,8 +10,8 @@ use Rattle.list.proofs.refuse.Statement.{statement}
 use Rattle.list.proofs.refuse.Tie as tie
 
 -- the line ends in the buffer
-inside : (c : tie.After-text2) → c .before .refusal .result ≤ length (c .before .refusal .last .1 .0)
-inside c = omega (arith, refusal-end _ _ _ _ (c .before .refusal .ensures), c .before .refusal .kept .1 .0)
+inside : (c : tie.After-text2) → c .before .refusal-line .result ≤ length (c .before .refusal-line .last .1 .0)
+inside c = omega (arith, refusal-end _ _ _ _ (c .before .refusal-line .ensures), c .before .refusal-line .kept .1 .0)
 
 pub refuse-spec : {M : Type 1} → statement M
 refuse-spec =
@@ -20,6 +20,6 @@ refuse-spec =
     (λ c. search needs)
     (λ c κs. search needs)
     (λ c. inside c)
-    (λ c. sym (length-take-le (c .before .before .refusal .result) (c .before .before .refusal .last .1 .0) (inside (c .before))))
+    (λ c. sym (length-take-le (c .before .before .refusal-line .result) (c .before .before .refusal-line .last .1 .0) (inside (c .before))))
     (λ c κs. search needs)
     (λ c. search needs))

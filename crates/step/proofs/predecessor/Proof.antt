@@ -1,12 +1,9 @@
 -- `step::predecessor` meets its contract.
 use borrow.Author.Needs.{needs}
-use Rattle.step.specs.Steps.{predecessorOf}
-use Rattle.step.specs.Turn.{stepOf}
 use Rattle.step.proofs.predecessor.Statement.{statement}
 use Rattle.step.proofs.predecessor.Tie as tie
 
 returns : tie.Need-returns
-unfolding predecessorOf stepOf
 returns c = c .step .ensures
 
 pub predecessor-spec : {M : Type 1} → statement M

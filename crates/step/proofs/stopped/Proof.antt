@@ -1,11 +1,9 @@
 -- `step::stopped` meets its contract.
 use mathlib.Core.Path.{refl}
-use Rattle.bounds.specs.Edition.{cellsOf}
 use Rattle.step.proofs.stopped.Statement.{statement}
 use Rattle.step.proofs.stopped.Tie as tie
 
 returns : tie.Need-returns
-unfolding cellsOf
 returns c = refl
 
 pub stopped-spec : {M : Type 1} → statement M

@@ -1,12 +1,9 @@
 -- `step::successor` meets its contract.
 use borrow.Author.Needs.{needs}
-use Rattle.step.specs.Steps.{successorOf}
-use Rattle.step.specs.Turn.{stepOf}
 use Rattle.step.proofs.successor.Statement.{statement}
 use Rattle.step.proofs.successor.Tie as tie
 
 returns : tie.Need-returns
-unfolding successorOf stepOf
 returns c = c .step .ensures
 
 pub successor-spec : {M : Type 1} → statement M

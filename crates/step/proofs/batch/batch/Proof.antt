@@ -18,8 +18,9 @@ use Rattle.step.proofs.batch.batch.Tie as tie
 
 returns : tie.Need-returns
 returns c =
-    let first = c .before .before .locate in
-    batch-edition _ _ _ _ _ (sym (located-refused _ _ _ (first .result) (first .ensures) (c .if1 .taken))) (c .if1 .taken)
+    let first = c .before .before .before .locate in
+    let some = c .before .if1 .taken in
+    rw (c .refused .ensures) (batch-edition _ _ _ _ _ (sym (located-refused _ _ _ (first .result) (first .ensures) some)) some)
 
 -- an accepted edition
 accepted : (c : tie.Else1) →
@@ -76,6 +77,7 @@ pub batch-spec : {M : Type 1} → statement M
 batch-spec =
     tie.close
     (tie.spec
+    (λ c κs. search needs)
     (λ c κs. search needs)
     returns
     (λ c κs. shape-at c .some)

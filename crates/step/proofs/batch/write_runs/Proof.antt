@@ -95,7 +95,7 @@ loop-again c =
       same-len-mid (l .at) (l .at + n - l .at) (l .out) ys (put .kept .1 .1 .0) ∙ l .inv .1,
       simp (length-append, length-drop) (omega (arith, size, start .pre .1 .few)),
       omega (arith, part-next (l .j) n),
-      put-taken (l .out) ys _ (l .at) n (omega (arith, within-at inside)) (put .kept .1 .1 .0 ∙ part-length (l .out) (l .at) n (within-at inside)) ∙ (cc),
+      put-taken (l .out) ys _ (l .at) n (omega (arith, within-at inside)) (put .kept .1 .1 .0 ∙ part-length (l .out) (l .at) n (within-at inside)) ∙ cc,
       on .ensures .running,
       λ more. rw (take-at h (drop n (l .parts)) n size)
           (on .ensures .next (s + l .j) (omega (arith, serial-pos ms (a .total) _ (start .pre .1 .valid))) (omega (arith, start .pre .1 .within)) here)
