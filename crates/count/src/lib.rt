@@ -96,7 +96,7 @@ fn few_parts(upper: &[u8], total: usize) -> usize
 
 // The first of the refusals 1 to 5 that holds, for calls that need no N: where a bound on N that costs nothing is within the limit, nothing is
 // counted.
-pub fn edition_refusal(upper: &[u8], total: u32) -> Refusal
+pub fn bounds_refusal(upper: &[u8], total: u32) -> Refusal
     ensures { λ r. ⌜ r ≡ firstRefusal (editionChecks (now (upper .entry)) total) ⌝ }
 {
     let s = bounds::shape(upper, total);

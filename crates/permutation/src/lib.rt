@@ -129,7 +129,7 @@ fn fill_permutation(g: &[u8], out: &mut [u8])
 fn staircase_refusal(upper: &[u8], total: u32) -> Refusal
     ensures { λ r. ⌜ r ≡ firstRefusal (editionChecks (now (upper .entry)) total ++ staircaseChecks (now (upper .entry))) ⌝ }
 {
-    let limits = count::edition_refusal(upper, total);
+    let limits = count::bounds_refusal(upper, total);
     if limits.number != 0 {
         return limits;
     }

@@ -3,7 +3,7 @@
 // one more, so every part runs the other way.
 pub mod batch;
 
-use count::edition_refusal;
+use count::bounds_refusal;
 use places::composition_refusal;
 use walsh::first_value;
 use walsh::is_odd;
@@ -183,7 +183,7 @@ fn shift(upper: &[u8], total: usize, parts: &[u8]) -> Stepped
 fn step(upper: &[u8], total: u32, composition: &[u8], back: bool) -> Stepped
     ensures { λ r. ⌜ r ≡ stepOf back (now (upper .entry)) total (now (composition .entry)) ⌝ }
 {
-    let limits = edition_refusal(upper, total);
+    let limits = bounds_refusal(upper, total);
     if 0 < limits.number {
         return stopped(limits.number, limits.detail);
     }

@@ -13,18 +13,18 @@ use Rattle.step.proofs.step.Tie as tie
 returns : tie.Need-returns
 returns c =
     let e = c .before .before .before in
-    c .stopped .ensures ∙ step-edition _ _ _ _ (e .edition-refusal .result) (e .edition-refusal .ensures) (c .before .if1 .taken)
+    c .stopped .ensures ∙ step-edition _ _ _ _ (e .bounds-refusal .result) (e .bounds-refusal .ensures) (c .before .if1 .taken)
 
 returns-2 : tie.Need-returns-2
 returns-2 c =
     let g = c .before .before .before in
     let e = g .before .before .before in
     c .stopped2 .ensures
-    ∙ step-given _ _ _ _ (e .edition-refusal .result) (e .edition-refusal .ensures) (omega arith) (g .composition-refusal .result) (g .composition-refusal .ensures) (c .before .if2 .taken)
+    ∙ step-given _ _ _ _ (e .bounds-refusal .result) (e .bounds-refusal .ensures) (omega arith) (g .composition-refusal .result) (g .composition-refusal .ensures) (c .before .if2 .taken)
 
 -- what was given is a composition of an accepted edition
 shape-at : (c : tie.Else1) → Shapely (c .before .before .before .before .before .args .upper .now) (c .before .before .before .before .before .args .total)
-shape-at c = edition-shapely _ _ (ap (λ (v : Refusal). v .number) (sym (c .before .before .edition-refusal .ensures)) ∙ omega arith)
+shape-at c = edition-shapely _ _ (ap (λ (v : Refusal). v .number) (sym (c .before .before .bounds-refusal .ensures)) ∙ omega arith)
 
 valid-at : (c : tie.Else2) →
     let a = c .before .before .before .before .before .before .before .before .args in
@@ -32,7 +32,7 @@ valid-at : (c : tie.Else2) →
 valid-at c =
     let g = c .before .before in
     let e = g .before .before .before in
-    valid (e .before .before .before .args .back) _ _ _ (e .edition-refusal .result) (e .edition-refusal .ensures) (omega arith) (g .composition-refusal .result) (g .composition-refusal .ensures) (omega arith)
+    valid (e .before .before .before .args .back) _ _ _ (e .bounds-refusal .result) (e .bounds-refusal .ensures) (omega arith) (g .composition-refusal .result) (g .composition-refusal .ensures) (omega arith)
 
 shift-requires : tie.Need-shift-requires
 shift-requires c κs =
@@ -43,7 +43,7 @@ returns-3 : tie.Need-returns-3
 returns-3 c =
     let g = c .before .before .before .before in
     let e = g .before .before .before in
-    step-shifted _ _ _ _ (e .edition-refusal .result) (e .edition-refusal .ensures) (omega arith) (g .composition-refusal .result) (g .composition-refusal .ensures) (omega arith) (c .before .side .result) (c .before .side .ensures .0) (c .shift .result) (c .shift .ensures)
+    step-shifted _ _ _ _ (e .bounds-refusal .result) (e .bounds-refusal .ensures) (omega arith) (g .composition-refusal .result) (g .composition-refusal .ensures) (omega arith) (c .before .side .result) (c .before .side .ensures .0) (c .shift .result) (c .shift .ensures)
 
 pub step-spec : {M : Type 1} → statement M
 step-spec =

@@ -1,4 +1,4 @@
--- `count::edition_refusal` meets its contract.
+-- `count::bounds_refusal` meets its contract.
 use mathlib.Core.Path.{_≡_, sym, _∙_}
 use mathlib.Core.List.{List}
 use Prim.Native.Nat.{ℕ, _≤_, _<_}
@@ -13,8 +13,8 @@ use Rattle.band.specs.Band.{cap}
 use Rattle.count.specs.Row.{Within}
 use Rattle.bounds.proofs.Answers.{shaped-refused, shaped-accepted, edition-refused, edition-none}
 use Rattle.band.proofs.Answers.{number-refusal}
-use Rattle.count.proofs.edition_refusal.Statement.{statement}
-use Rattle.count.proofs.edition_refusal.Tie as tie
+use Rattle.count.proofs.bounds_refusal.Statement.{statement}
+use Rattle.count.proofs.bounds_refusal.Tie as tie
 
 returns : tie.Need-returns
 returns c =
@@ -48,8 +48,8 @@ returns-3 c =
     let a = c .before .before .before .before .before .before .before .before .args in
     c .refused3 .ensures ∙ number-refusal (now (a .upper)) (a .total) (n .result) (n .ensures)
 
-pub edition-refusal-spec : {M : Type 1} → statement M
-edition-refusal-spec =
+pub bounds-refusal-spec : {M : Type 1} → statement M
+bounds-refusal-spec =
     tie.close
     (tie.spec
     (λ c κs. search needs)
