@@ -47,16 +47,13 @@ fits-end high r x e l = omega arith
 pub fits-behind : (low m t n : ℕ) → low + m < t → t ≤ n → n ≤ 255 → Fits w64 (m + 1) × (m + 1 ≤ t)
 fits-behind low m t n a b d = (omega arith, omega arith)
 
--- ---- the ends of a row, and the smaller of two numbers
+-- ---- the ends of a row
 
 pub low-small : (low r x : ℕ) → low ≡ r - x → r ≤ 255 → low ≤ 255
 low-small low r x e l = omega arith
 
 pub high-small : (high r x : ℕ) → high ≡ min r x → r ≤ 255 → high ≤ 255
 high-small high r x e l = omega arith
-
-pub least-le : (l a b : ℕ) → l ≡ min a b → l ≤ a + b
-least-le l a b e = omega arith
 
 -- ---- a test has one answer
 

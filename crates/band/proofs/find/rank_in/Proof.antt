@@ -1,6 +1,6 @@
 -- `band::find::rank_in` meets its contract.
-use mathlib.Core.Path.{_≡_, sym, _∙_}
-use Prim.Native.Nat.{ℕ, _<_}
+use mathlib.Core.Path.{sym, _∙_}
+use Prim.Native.Nat.{_<_}
 use native.Mathlib.Omega.{arith}
 use lib.Arith.{le-zero}
 use denote.Ref.{now}
@@ -8,6 +8,7 @@ use borrow.Author.Needs.{needs}
 use Rattle.walsh.specs.Order.{Composition}
 use Rattle.bounds.proofs.Compositions.{composition-passed}
 use Rattle.bounds.proofs.Refusals.{same-number}
+use Rattle.band.specs.Band.{cap}
 use Rattle.band.proofs.Parts.{rank-small}
 use Rattle.band.proofs.Finds.{found-composition, found-place}
 use Rattle.band.proofs.find.rank_in.Statement.{statement}
@@ -30,11 +31,9 @@ composition-at c =
 add-serial : tie.Need-add-t11
 add-serial c =
     let s = c .before .before .before .before .before .before .before in
-    let l = below (c .place .ensures) (rank-small _ _ (s .args .last) _ (s .pre .filled) _ (composition-at (c .before) .parts)) in
+    let small = rank-small _ _ (s .args .last) _ (s .pre .filled) _ (composition-at (c .before) .parts) in
+    let l : c .place .result < cap = rw (c .place .ensures) small in
     omega arith
-  where
-    below : {x y : ℕ} → x ≡ y → y < 9223372036854775808 → x < 9223372036854775808
-    below e l = omega arith
 
 returns-2 : tie.Need-returns-2
 returns-2 c =

@@ -4,6 +4,7 @@ use mathlib.Core.Path.{_≡_, sym, subst}
 use mathlib.Core.Bool.{true, false}
 use native.Mathlib.Omega.{arith}
 use native.Mathlib.Nat.{le-of-lt, add-zero, le-trans, le-refl}
+use lib.ListN.{length}
 use denote.Ref.{now}
 use mir.Val.{Fits}
 use mir.Syntax.{w64}
@@ -11,7 +12,7 @@ use Rattle.band.proofs.Numbers.{fits-behind}
 use Rattle.band.proofs.Bands.{band-ends, low-high}
 use Rattle.band.proofs.Rows.{above-none}
 use Rattle.band.proofs.Slides.{moved-within, behind-in, slid-leaves, slid-over, slid-under}
-use Rattle.band.specs.Band.{InBand, lowest, highest}
+use Rattle.band.specs.Band.{InBand, lowest, highest, bandSize, Row-holds, IsRow}
 use Rattle.band.specs.Window.{Slid}
 use Rattle.walsh.specs.Order.{count}
 use borrow.Author.Needs.{needs}
@@ -71,61 +72,16 @@ below-at c y h ey =
     slid-under (now (c .args .upper)) (c .args .total) (c .args .k) (c .args .t) (c .args .m) (c .args .w) 0 y (c .pre .4 .window) (c .pre .1)
     (under-at c h) ey
 
-at-requires : tie.Need-cell-requires
-at-requires c κs =
-    let s = c .before .before .before .before in
-    let p = s .pre .0 in (
-      le-of-lt (p .part),
-      le-of-lt (p .few),
-      p .small,
-      p .from,
-      leave-at (c .before .before .before .before)
-          (c .if2 .taken),
-      p .room,
-      s .pre .4 .rows _ (le-refl _),
-    )
-
-at-requires-2 : tie.Need-cell-requires-2
-at-requires-2 c κs =
-    let s = c .before .before .before .before .before in
-    let p = s .pre .0 in (
-      le-of-lt (p .part),
-      le-of-lt (p .few),
-      p .small,
-      p .from,
-      enter-at (c .before .before .before .before .before)
-          (c .before .before .if1 .taken),
-      p .room,
-      s .pre .4 .rows _ (le-refl _),
-    )
-
-at-requires-3 : tie.Need-cell-requires-3
-at-requires-3 c κs =
-    let s = c .before .before .before .before in
-    let p = s .pre .0 in (
-      le-of-lt (p .part),
-      le-of-lt (p .few),
-      p .small,
-      p .from,
-      enter-at (c .before .before .before .before)
-          (c .before .if1 .taken),
-      p .room,
-      s .pre .4 .rows _ (le-refl _),
-    )
-
-at-requires-4 : tie.Need-cell-requires-4
-at-requires-4 c κs =
-    let s = c .before .before .before .before in
-    let p = s .pre .0 in (
-      le-of-lt (p .part),
-      le-of-lt (p .few),
-      p .small,
-      p .from,
-      leave-at (c .before .before .before .before)
-          (c .if3 .taken),
-      p .room,
-      s .pre .4 .rows _ (le-refl _),
-    )
+-- `cell` may be asked for a sum of row k
+asks-at : (c : tie.Start) (t : ℕ)
+    → let a = c .args in
+    let ms = now (a .upper) in
+    InBand ms (a .total) (a .k) t
+    → (a .k ≤ length ms) × (a .k ≤ 24) × (a .total ≤ 255) × IsRow ms (a .total) (a .k) (a .row) × InBand ms (a .total) (a .k) t
+    × (bandSize ms (a .total) ≤ length (now (a .cells))) × Row-holds ms (a .total) (now (a .cells)) (a .k) 256
+asks-at c t b =
+    let p = c .pre .0 in
+    (le-of-lt (p .part), le-of-lt (p .few), p .small, p .from, b, p .room, c .pre .4 .rows _ (le-refl _))
 
 returns : tie.Need-returns
 returns c =
@@ -154,16 +110,16 @@ step-spec =
     (tie.spec
     (λ c. back-at (c .before .before .before .before) (c .if2 .taken) .0)
     (λ c. back-at (c .before .before .before .before) (c .if2 .taken) .1)
-    at-requires
-    at-requires-2
+    (λ c κs. let s = c .before .before .before .before in asks-at s _ (leave-at s (c .if2 .taken)))
+    (λ c κs. let s = c .before .before .before .before .before in asks-at s _ (enter-at s (c .before .before .if1 .taken)))
     (λ c κs. search needs)
     returns
-    at-requires-3
+    (λ c κs. let s = c .before .before .before .before in asks-at s _ (enter-at s (c .before .if1 .taken)))
     (λ c. search needs)
     (λ c. below-at (c .before .before .before .before .before) (c .cell3 .result) (c .before .if2 .left) (c .cell3 .ensures .0))
     (λ c. back-at (c .before .before .before .before) (c .if3 .taken) .0)
     (λ c. back-at (c .before .before .before .before) (c .if3 .taken) .1)
-    at-requires-4
+    (λ c κs. let s = c .before .before .before .before in asks-at s _ (leave-at s (c .if3 .taken)))
     (λ c. rest-at (c .before .before .before .before .before) (c .cell4 .result) (c .before .if3 .taken) (c .cell4 .ensures .0))
     returns-3
     returns-4)
