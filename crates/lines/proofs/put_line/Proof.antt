@@ -82,4 +82,5 @@ put-line-spec =
     (λ c. length-set (c .before .loop .out) (c .before .loop .end) 10 ∙ sizes (c .before))
     (λ c.
     let serial = c .before .before .before .before in
-    lined-end (serial .before .before .before .before .args .serial) (serial .put-serial .ensures) (c .before .loop .inv .2) (omega arith) (one _ _ 10 (room c))))
+    let start = serial .before .before .before .before in
+    lined-end (start .args .serial) (serial .put-serial .ensures) (c .before .loop .inv .2) (omega arith) (one _ _ 10 (room c))))
