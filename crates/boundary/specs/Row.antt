@@ -1,5 +1,6 @@
 -- Document 01, "Boundary copies": a row of the table is an edition and what is claimed of it. Both what the definitions give and what is claimed
--- are written as lists of numbers; the row holds if they are the same. An answer is its number, its detail and what it answers.
+-- are written as lists of numbers; the row holds if they are the same. An answer is its number, its detail and what it answers. Every claim but
+-- `refused` also says that nothing is refused.
 use mathlib.Core.Path.{_≡_}
 use mathlib.Core.List.{List, [], _∷_, _++_, map}
 use Prim.Native.Nat.{ℕ, _+_, _-_}

@@ -18,7 +18,8 @@ module _ (parts : List ℕ) (i : ℕ) where
   end-last : length parts ≤ i → lineEnd (drop i parts) ≡ 10 ∷ []
   end-last h = rw (drop-of-length-le parts h) (unfold lineEnd in refl)
 
-  pub length-next : i < length parts → length (lineEnd (drop i parts)) ≡ 1 + (length (decimal (getD parts i 0)) + length (lineEnd (drop (i + 1) parts)))
+  pub length-next : i < length parts
+      → length (lineEnd (drop i parts)) ≡ 1 + (length (decimal (getD parts i 0)) + length (lineEnd (drop (i + 1) parts)))
   length-next h = omega (arith, ap length (end-next h), length-append (decimal (getD parts i 0)) (lineEnd (drop (i + 1) parts)))
 
   pub length-last : length parts ≤ i → length (lineEnd (drop i parts)) ≡ 1
@@ -35,7 +36,8 @@ length-end [] h = omega arith
 length-end (p ∷ parts) h =
     omega (arith, length-append (decimal p) (lineEnd parts), length-byte p (h 0 (omega arith)), length-end parts (λ i l. h (suc i) (omega arith)))
 
-pub line-short : (n : ℕ) (parts : List ℕ) → n < 18446744073709551616 → ((i : ℕ) → i < length parts → getD parts i 0 < 256) → length (line (n ∷ parts)) ≤ 21 + 4 * length parts
+pub line-short : (n : ℕ) (parts : List ℕ) → n < 18446744073709551616 → ((i : ℕ) → i < length parts → getD parts i 0 < 256)
+    → length (line (n ∷ parts)) ≤ 21 + 4 * length parts
 line-short n parts h b = omega (arith, length-line n parts, length-serial n h, length-end parts b)
 
 -- ---- the first i parts are put, each with a space in front
@@ -61,8 +63,8 @@ lined-next {parts} {a} {b} {c} {d} {at} {m} {i} {e} l h p q =
     }
 
 -- the serial, its parts and the line feed
-pub lined-end : (n : ℕ) {parts a b c d : List ℕ} {at m e i : ℕ} → Appended a b at m (decimal n) → Lined parts b c m e i → length parts ≤ i → Appended c d e (e + 1) (10 ∷ [])
-    → Appended a d at (e + 1) (line (n ∷ parts))
+pub lined-end : (n : ℕ) {parts a b c d : List ℕ} {at m e i : ℕ} → Appended a b at m (decimal n) → Lined parts b c m e i → length parts ≤ i
+    → Appended c d e (e + 1) (10 ∷ []) → Appended a d at (e + 1) (line (n ∷ parts))
 unfolding line
 lined-end n {parts} {a} {b} {c} {d} {at} {m} {e} {i} p l h q =
     retold (ap (λ (x : List ℕ). decimal n ++ x) (rw (← end-last parts i h) (l .is))) (joined p (joined (l .put) q))

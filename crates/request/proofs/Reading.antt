@@ -91,7 +91,8 @@ module _ {s : List ℕ} {from : ℕ} {upper : List ℕ} {n : Number} {parts at :
           rw (r .cells, ex, map-snoc (r .ns) v, r .count, ← length-map (r .ns) held)
           (cells-snoc (map held (r .ns)) (held v) (omega (arith, read-room l, r .count, length-map (r .ns) held)))
 
-      pub read-next : length s ≤ 256 → (b : ℕ) → b ≡ getD s at 0 → isEnd b ≡ true → (b ≡ 10 → ⊥) → Reading s from (set upper parts x) Empty (parts + 1) (at + 1)
+      pub read-next : length s ≤ 256 → (b : ℕ) → b ≡ getD s at 0 → isEnd b ≡ true → (b ≡ 10 → ⊥)
+          → Reading s from (set upper parts x) Empty (parts + 1) (at + 1)
       read-next l b eb end ten =
           record {
             ns = r .ns ++ (v ∷ []);

@@ -137,7 +137,8 @@ record Line-of (ns : List ℕ) (n : Number) (bs ms rest : List ℕ) : Type 0 whe
   small : Small ms
   some : 0 < length ms
 
-last-line : (ns : List ℕ) (v : ℕ) (bs ms rest : List ℕ) → Small ns → v ≤ 999 → found (ns ++ (v ∷ [])) bs ≡ found ms rest → Line-of ns (Value v) (10 ∷ bs) ms rest
+last-line : (ns : List ℕ) (v : ℕ) (bs ms rest : List ℕ) → Small ns → v ≤ 999 → found (ns ++ (v ∷ [])) bs ≡ found ms rest
+    → Line-of ns (Value v) (10 ∷ bs) ms rest
 last-line ns v bs ms rest s h e =
     let m : ms ≡ ns ++ (v ∷ []) = cc in
     let r : rest ≡ bs = cc in
@@ -183,7 +184,8 @@ sound (b ∷ bs) ns n ms rest s e = go (sound bs ns (grownOf n b) ms rest s) (λ
         (λ u. rw (is-value n l, eqb-true b 10 u) (last-line ns (valueOf n) bs ms rest s l (sym (scan-last ns n bs l) ∙ rw (eqb-true b 10 u) at e)))
         (λ u.
         let ten = eqb-false b 10 u in
-        rw (is-value n l, end-is b t ten) (next-line ns (valueOf n) bs ms rest (next (valueOf n) (small-snoc ns (valueOf n) s l) (sym (scan-next ns n bs b t l ten) ∙ e))))))
+        rw (is-value n l, end-is b t ten)
+        (next-line ns (valueOf n) bs ms rest (next (valueOf n) (small-snoc ns (valueOf n) s l) (sym (scan-next ns n bs b t l ten) ∙ e))))))
         (λ t. grown-line ns n b bs ms rest (grown (sym (scan-grow ns n bs b t) ∙ e)))
 
 pub scan-sound : (bs ms rest : List ℕ) → scan [] Empty bs ≡ found ms rest → (bs ≡ line ms ++ rest) × Small ms × (0 < length ms)

@@ -25,7 +25,8 @@ pub record Ranged (all n s c have : ℕ) : Type 0 where
   pub few : s + c ≤ all + 1
   pub room : have ≡ c * n
 
-pub ranged : (all n s c have : ℕ) {v : Refusal} → v ≡ firstRefusal (rangeChecks all s c ++ lentChecks (c * n) have) → v .number ≡ 0 → Ranged all n s c have
+pub ranged : (all n s c have : ℕ) {v : Refusal} → v ≡ firstRefusal (rangeChecks all s c ++ lentChecks (c * n) have) → v .number ≡ 0
+    → Ranged all n s c have
 ranged all n s c have e z =
     let p6 = passed _ _ refl (ap (λ (w : Refusal). w .number) (sym e) ∙ z) in
     let p13 = passed _ _ refl (p6 .2) in
@@ -40,10 +41,12 @@ module _ (ms : List ℕ) (r s c : ℕ) (out : List ℕ) where
   abbrev range : List Check
   range = batchChecks ms r s c ++ lentChecks (c * length ms) (length out)
 
-  pub batch-edition : {v : Refusal} → v ≡ firstRefusal (editionChecks ms r) → 0 < v .number → _≡_ {A = Refusal × List ℕ} (v, out) (batchOf ms r s c out)
+  pub batch-edition : {v : Refusal} → v ≡ firstRefusal (editionChecks ms r) → 0 < v .number
+      → _≡_ {A = Refusal × List ℕ} (v, out) (batchOf ms r s c out)
   unfolding batchOf
   batch-edition {v} e some =
-      filling-refused (editionChecks ms r ++ range) (copiesOf ms r s c) out (answer-first (editionChecks ms r) range e (λ z. omega arith)) (λ z. omega arith)
+      filling-refused (editionChecks ms r ++ range) (copiesOf ms r s c) out
+      (answer-first (editionChecks ms r) range e (λ z. omega arith)) (λ z. omega arith)
 
   -- past the edition: `all` is N
   module _ (accepted : firstRefusal (editionChecks ms r) .number ≡ 0) {all : ℕ} (count : all ≡ countOf ms r) {v : Refusal}

@@ -4,7 +4,8 @@ use mathlib.Core.Bool.{Bool, true, false, true≢false}
 use mathlib.Core.List.{List, [], _++_, append-assoc}
 use Prim.Native.Nat.{ℕ, zero, suc, _+_, _-_, _*_, _/_, _%_, _≤_, _<_}
 use mathlib.Core.Logic.{_⊎_, inl, inr}
-use native.Mathlib.Nat.{not-suc-le-zero, le-of-suc-le-suc, eq-or-lt-of-le, zero-mul, mul-le-mul-right, suc-mul, mul-mod-left, mul-div-left, div-add-mod'}
+use native.Mathlib.Nat.{not-suc-le-zero, le-of-suc-le-suc, eq-or-lt-of-le, zero-mul, mul-le-mul-right, suc-mul}
+use native.Mathlib.Nat.{mul-mod-left, mul-div-left, div-add-mod'}
 use native.Mathlib.Numerals.{add-one}
 use native.Mathlib.Omega.{arith}
 use lib.Dec.{eqb}
@@ -79,7 +80,8 @@ module _ (ms : List ℕ) (r : ℕ) where
         length-append (copiesOf ms r s c) (compositionOf ms r (s + c))
         ∙ omega (arith, copies-length c (omega arith), copy-size c (omega arith), suc-mul c (length ms))
 
-    pub copy-at : (c j : ℕ) → s + c ≤ countOf ms r + 1 → j < c → take (length ms) (drop (j * length ms) (copiesOf ms r s c)) ≡ compositionOf ms r (s + j)
+    pub copy-at : (c j : ℕ) → s + c ≤ countOf ms r + 1 → j < c
+        → take (length ms) (drop (j * length ms) (copiesOf ms r s c)) ≡ compositionOf ms r (s + j)
     unfolding copiesOf
     copy-at zero j h l = absurd (not-suc-le-zero l)
     copy-at (suc c) j h l = go (copy-at c j (omega arith)) (eq-or-lt-of-le (le-of-suc-le-suc l))
@@ -96,8 +98,10 @@ module _ (ms : List ℕ) (r : ℕ) where
         size : length all ≡ c * n
         size = copies-length c (omega arith)
 
-        go : (j < c → take n (drop (j * n) all) ≡ compositionOf ms r (s + j)) → (j ≡ c) ⊎ (j < c) → take n (drop (j * n) (all ++ last)) ≡ compositionOf ms r (s + j)
+        go : (j < c → take n (drop (j * n) all) ≡ compositionOf ms r (s + j)) → (j ≡ c) ⊎ (j < c)
+            → take n (drop (j * n) (all ++ last)) ≡ compositionOf ms r (s + j)
         go below (inl e) = rw (e, drop-at all last (c * n) size) (take-all n last (omega (arith, copy-size c (omega arith))))
         go below (inr m) =
             let w = part-within j c n m in
-            rw (drop-append-le (j * n) all last (omega (arith, size))) (take-append-le n (drop (j * n) all) last (simp length-drop (omega (arith, size))) ∙ below m)
+            rw (drop-append-le (j * n) all last (omega (arith, size)))
+            (take-append-le n (drop (j * n) all) last (simp length-drop (omega (arith, size))) ∙ below m)

@@ -36,7 +36,8 @@ pub record Small (under m rem v : ℕ) : Type 0 where
   pub whole : v ≤ rem
   pub fits : rem - v ≤ under - m
 
-pub first-small : (under m rem lo hi v : ℕ) (falling : Bool) → m ≤ under → rem ≤ under → lo ≡ rem - (under - m) → hi ≡ min m rem → v ≡ firstValue lo hi falling
+pub first-small : (under m rem lo hi v : ℕ) (falling : Bool) → m ≤ under → rem ≤ under → lo ≡ rem - (under - m)
+    → hi ≡ min m rem → v ≡ firstValue lo hi falling
     → Small under m rem v
 first-small under m rem lo hi v falling inside fits elo ehi ev = rw ev (go falling)
   where

@@ -32,8 +32,9 @@ left-moves lo hi v more true some l = lt-ltb lo v (omega arith)
 left-moves lo hi v more false some l = lt-ltb v hi (omega arith)
 
 -- what `run_of` computes
-pub run-begins : (ms : List ℕ) (r a b wa wb right lo hi m0 m1 v more : ℕ) (falling : Bool) → wa ≡ a → wb ≡ b → right ≡ r - (wa + wb) → falling ≡ isOdd right
-    → (m0 ≡ getD ms 0 0) × (m0 ≤ 255) → lo ≡ wa + wb - m0 → (m1 ≡ getD ms 1 0) × (m1 ≤ 255) → hi ≡ min m1 (wa + wb) → v ≡ b → more ≡ valuesLeft lo hi falling v
+pub run-begins : (ms : List ℕ) (r a b wa wb right lo hi m0 m1 v more : ℕ) (falling : Bool) → wa ≡ a → wb ≡ b → right ≡ r - (wa + wb)
+    → falling ≡ isOdd right → (m0 ≡ getD ms 0 0) × (m0 ≤ 255) → lo ≡ wa + wb - m0 → (m1 ≡ getD ms 1 0) × (m1 ≤ 255) → hi ≡ min m1 (wa + wb)
+    → v ≡ b → more ≡ valuesLeft lo hi falling v
     → Running ms r (record { first = a; second = b; falling = falling; more = more })
 run-begins ms r a b wa wb right lo hi m0 m1 v more falling ea eb er ef (e0, b0) elo (e1, b1) ehi ev em =
     record {
@@ -89,7 +90,8 @@ two-parts (x ∷ []) h = absurd (omega arith)
 two-parts (x ∷ y ∷ g) h = refl
 
 -- part 0 takes what part 1 leaves
-step-one : (ms : List ℕ) (r a b : ℕ) (rest : List ℕ) (u : ℕ) → u ≡ nextValue (isOdd (r - sumTo (a ∷ b ∷ rest) 2)) b → sumTo (a ∷ b ∷ rest) 2 - u ≤ sumTo ms 1
+step-one : (ms : List ℕ) (r a b : ℕ) (rest : List ℕ) (u : ℕ) → u ≡ nextValue (isOdd (r - sumTo (a ∷ b ∷ rest) 2)) b
+    → sumTo (a ∷ b ∷ rest) 2 - u ≤ sumTo ms 1
     → stepAt ms r (a ∷ b ∷ rest) 1 ≡ (a + b - u) ∷ u ∷ rest
 unfolding stepAt
 step-one ms r a b rest u eu fits =
@@ -118,7 +120,8 @@ module _ (ms : List ℕ) (r k : ℕ) (x : Run) (parts : List ℕ) (wide : 1 < le
   can =
       let m0 : ℕ = getD ms 0 0 in
       let hi : ℕ = min (getD ms 1 0) (sumOf x) in
-      sym (can-here ms r g 1 m0 (x .first) (getD ms 1 0) (x .second) (r - sumOf x) (sumOf x - m0) hi (x .falling) _ (sym (sum-one ms 1 refl)) (sym (sum-one g 1 refl)) refl refl refl refl refl (run .way) refl)
+      sym (can-here ms r g 1 m0 (x .first) (getD ms 1 0) (x .second) (r - sumOf x) (sumOf x - m0) hi (x .falling) _
+      (sym (sum-one ms 1 refl)) (sym (sum-one g 1 refl)) refl refl refl refl refl (run .way) refl)
       ∙ left-moves (sumOf x - m0) hi (x .second) (x .more) (x .falling) more (run .left)
 
   pivot : Pivot ms r g 1
@@ -131,14 +134,16 @@ module _ (ms : List ℕ) (r k : ℕ) (x : Run) (parts : List ℕ) (wide : 1 < le
   fits =
       let rem : ℕ = sumTo g 2 in
       rest-fits ms 1 rem (y .second)
-      (rw u-is (next-low (least ms 1 rem) (most ms 1 rem) (isOdd (r - rem)) (x .second) (composition-low (upTo ms r g (moving ms r g valid r (le-refl r)) 1 wide)) (part-moves ms r g 1 can)))
+      (rw u-is (next-low (least ms 1 rem) (most ms 1 rem) (isOdd (r - rem)) (x .second)
+      (composition-low (upTo ms r g (moving ms r g valid r (le-refl r)) 1 wide)) (part-moves ms r g 1 can)))
 
   -- the next composition
   pub run-next : shown (movedOf x) parts ≡ compositionOf ms r (k + 1)
   run-next =
       let first : y .first ≡ x .first + x .second - y .second = omega (arith, to .sum) in
       rw first (sym (step-one ms r (x .first) (x .second) (drop 2 parts) (y .second) u-is fits)
-      ∙ successor-at ms r g valid 1 wide pivot .1 ∙ ap (λ (s : ℕ). compositionOf ms r (s + 1)) (ap (serialOf ms r) is ∙ serial-composition ms r k some (omega arith)))
+      ∙ successor-at ms r g valid 1 wide pivot .1
+      ∙ ap (λ (s : ℕ). compositionOf ms r (s + 1)) (ap (serialOf ms r) is ∙ serial-composition ms r k some (omega arith)))
 
 -- ---- a single part has one composition
 

@@ -101,7 +101,8 @@ module _ (back : Bool) (ms : List ℕ) (r : ℕ) (g : List ℕ) (ok : stepOf bac
       let pos = serial-pos ms r g (at .valid) in
       let le = serial-le ms r g (at .valid) in
       rw answer-is
-      (sym (step-goes (not back) ms r h (firstRefusal (editionChecks ms r)) refl (at .edition) (refused 0 0) (sym (composition-passes ms r h valid)) refl (rw serial (to-on ms r (s back ms r g) pos le back)))
+      (sym (step-goes (not back) ms r h (firstRefusal (editionChecks ms r)) refl (at .edition) (refused 0 0)
+      (sym (composition-passes ms r h valid)) refl (rw serial (to-on ms r (s back ms r g) pos le back)))
       ∙ rw (serial, to-back ms r (s back ms r g) pos le back, composition-serial ms r g (at .valid)))
 
   near : Adjacent (length ms) g (answer back ms r g)
@@ -139,7 +140,8 @@ forward-once ms r g h okg okh e =
     let n = length ms in
     let vg = at false ms r g okg .valid in
     let vh = at false ms r h okh .valid in
-    let same : predecessorOf ms r (after ms r g) ≡ predecessorOf ms r (after ms r h) = ap (λ (x : Stepped). predecessorOf ms r (take n (x .composition))) e in
+    let same : predecessorOf ms r (after ms r g) ≡ predecessorOf ms r (after ms r h) =
+    ap (λ (x : Stepped). predecessorOf ms r (take n (x .composition))) e in
     let cells : cellsOf g ≡ cellsOf h =
     ap (λ (x : Stepped). x .composition) (sym (forward-backward ms r g okg) ∙ same ∙ forward-backward ms r h okh) in
     sym (take-at g _ n (vg .size)) ∙ ap (take n) cells ∙ take-at h _ n (vh .size)

@@ -31,7 +31,8 @@ room : (t : ℕ) (c : put-decimal-lts.After-slice-known2 (put-decimal-below t, p
     → c .before .before .put-decimal .result < length (c .before .before .put-decimal .last .1 .0)
 room t c =
     let p = c .before .before .put-decimal .ensures in
-    omega (arith, p .ends, p .size, length-more (c .before .before .before .before .before .before .args .n) (omega arith), c .before .before .before .before .before .before .pre .1)
+    let start = c .before .before .before .before .before .before in
+    omega (arith, p .ends, p .size, length-more (start .args .n) (omega arith), start .pre .1)
 
 pub +put-decimal-spec : {M : Type 1} → statement M
 +put-decimal-spec = close μ-put-decimal λ t. put-decimal-lts.spec (
@@ -47,11 +48,18 @@ pub +put-decimal-spec : {M : Type 1} → statement M
     (λ c. search needs)
     (λ c.
     let x = c .before .before .args in
-    retold (sym (decimal-small (x .n) (omega arith))) (one _ (x .at) (48 + x .n) (omega (arith, length-small (x .n) (omega arith), c .before .before .pre .1))))
-    (λ c κs. (omega (arith, c .before .before .before .pre .0), omega (arith, c .before .before .before .pre .1, length-more (c .before .before .before .args .n) (omega arith))))
+    let small = length-small (x .n) (omega arith) in
+    retold (sym (decimal-small (x .n) (omega arith))) (one _ (x .at) (48 + x .n) (omega (arith, small, c .before .before .pre .1))))
+    (λ c κs.
+    let start = c .before .before .before in
+    (omega (arith, start .pre .0), omega (arith, start .pre .1, length-more (start .args .n) (omega arith))))
     (λ c. search needs)
     (λ c. search needs)
     (λ c. room t c)
     (λ c. omega (arith, room t c))
-    (λ c. length-set (c .before .before .put-decimal .last .1 .0) (c .before .before .put-decimal .result) (48 + c .before .before .before .before .before .before .args .n % 10) ∙ c .before .before .put-decimal .kept .1 .0)
-    (λ c. retold (sym (decimal-more (c .before .before .before .before .before .before .args .n) (omega arith))) (joined (c .before .before .put-decimal .ensures) (one _ _ (48 + c .before .before .before .before .before .before .args .n % 10) (room t c))))
+    (λ c.
+    let front = c .before .before .put-decimal in
+    length-set (front .last .1 .0) (front .result) (48 + c .before .before .before .before .before .before .args .n % 10) ∙ front .kept .1 .0)
+    (λ c.
+    let n = c .before .before .before .before .before .before .args .n in
+    retold (sym (decimal-more n (omega arith))) (joined (c .before .before .put-decimal .ensures) (one _ _ (48 + n % 10) (room t c))))

@@ -14,7 +14,8 @@ use Rattle.lines.proofs.fits.Tie as tie
 returns : tie.Need-returns
 returns c =
     let x = c .before .before .args in
-    let short = line-short (x .serial) (now (x .parts)) (c .before .before .fits .serial .fits) (λ i l. omega (arith, c .before .shared-slice-known .given i)) in
+    let byte = c .before .shared-slice-known .given in
+    let short = line-short (x .serial) (now (x .parts)) (c .before .before .fits .serial .fits) (λ i l. omega (arith, byte i)) in
     sym (le-leb (length (line (x .serial ∷ now (x .parts)))) (x .room) (omega (arith, short)))
 
 pub fits-spec : {M : Type 1} → statement M

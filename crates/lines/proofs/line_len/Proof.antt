@@ -20,9 +20,9 @@ abbrev μ-loop : tie.MeasureT-loop
 
 loop-again : tie.Need-loop-again Inv-loop μ-loop
 loop-again c =
-    let l = c .before .before .before .before .loop in
-    let d = c .digits2 .ensures in
-    (omega arith, omega (arith, d .0, ap (λ x. length (decimal x)) (c .before .long .ensures), length-next (now (c .before .before .before .before .before .before .before .args .parts)) (l .i) (omega arith)), omega arith)
+    let at = c .before .before .before .before in
+    let next = length-next (now (at .before .before .before .args .parts)) (at .loop .i) (omega arith) in
+    (omega arith, omega (arith, c .digits2 .ensures .0, ap (λ x. length (decimal x)) (c .before .long .ensures), next), omega arith)
 
 pub line-len-spec : {M : Type 1} → statement M
 line-len-spec =
@@ -32,7 +32,9 @@ line-len-spec =
     μ-loop
     (λ c κs. search needs)
     (λ c. search needs)
-    (λ c. (omega arith, omega (arith, length-line (c .before .before .args .serial) (now (c .before .before .args .parts)), c .digits .ensures .0), omega arith))
+    (λ c.
+    let x = c .before .before .args in
+    (omega arith, omega (arith, length-line (x .serial) (now (x .parts)), c .digits .ensures .0), omega arith))
     (λ c. search needs)
     (λ c κs. search needs)
     (λ c κs. search needs)

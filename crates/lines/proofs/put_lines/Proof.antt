@@ -25,22 +25,28 @@ few c =
     omega (arith, filling-valid p (c .before .loop .inv .1) (omega arith) .size, p .few)
 
 -- there is room for the line
-room : (c : tie.Else1 Inv-loop μ-loop) → length (line (c .before .before .before .before .loop .s ∷ c .before .before .before .before .loop .parts)) ≤ length (c .before .before .before .before .loop .out) - c .before .before .before .before .loop .end
+room : (c : tie.Else1 Inv-loop μ-loop) →
+    let l = c .before .before .before .before .loop in
+    length (line (l .s ∷ l .parts)) ≤ length (l .out) - l .end
 room c = leb-true _ _ (sym (c .before .fits2 .ensures) ∙ not-false (c .before .fits2 .result) (c .if1 .left))
 
 returns : tie.Need-returns Inv-loop μ-loop
 returns c =
-    filling-full (c .before .before .before .before .before .before .before .before .pre) (c .before .before .before .before .loop .inv .1) (omega arith)
+    let at = c .before .before .before .before in
+    filling-full (at .before .before .before .before .pre) (at .loop .inv .1) (omega arith)
     (leb-false _ _ (sym (c .before .fits2 .ensures) ∙ not-true (c .before .fits2 .result) (c .if1 .taken)))
 
 loop-again : tie.Need-loop-again Inv-loop μ-loop
 loop-again c =
-    let p = c .before .before .before .before .before .before .before .before .before .before .before .before .before .before .before .before .before .pre in
-    let l = c .before .before .before .before .before .before .before .before .before .before .before .before .before .loop in
+    let at = c .before .before .before .before .before .before .before .before .before .before .before .before .before in
+    let p = at .before .before .before .before .pre in
+    let l = at .loop in
+    let line = c .before .before .before .before .before .before in
     let valid = filling-valid p (l .inv .1) (omega arith) in
     let on = c .before .before .advance in (
       on .kept .1 .1 .0 ∙ l .inv .0,
-      filling-next p (l .inv .1) (omega arith) (on .result) _ (room (c .before .before .before .before .before .before .before .before .before)) (c .before .before .before .before .before .before .put-line .ensures) (on .ensures .next (p .few) valid),
+      filling-next p (l .inv .1) (omega arith) (on .result) _ (room (line .before .before .before)) (line .put-line .ensures)
+          (on .ensures .next (p .few) valid),
     )
 
 pub put-lines-spec : {M : Type 1} → statement M
@@ -55,9 +61,13 @@ put-lines-spec =
     (λ c. c .before .before .before .before .loop .inv .0)
     (λ c. c .before .before .before .before .loop .inv .1 .put .size)
     returns
-    (λ c κs. omega (arith, room (c .before .before), filling-end (c .before .before .before .before .before .before .before .before .before .before .pre) (c .before .before .before .before .before .before .loop .inv .1)))
+    (λ c κs.
+    let at = c .before .before .before .before .before .before in
+    omega (arith, room (c .before .before), filling-end (at .before .before .before .before .pre) (at .loop .inv .1)))
     (λ c κs. search needs)
-    (λ c. omega (arith, c .before .before .before .before .before .before .before .before .before .before .before .before .before .before .before .before .before .pre .small))
+    (λ c.
+    let at = c .before .before .before .before .before .before .before .before .before .before .before .before .before in
+    omega (arith, at .before .before .before .before .pre .small))
     (λ c. omega arith)
     loop-again
     (λ c. c .before .loop .inv .0)

@@ -12,7 +12,8 @@ use Rattle.lines.proofs.put_number.Tie as tie
 returns : tie.Need-returns
 returns c =
     let x = c .before .before .args in
-    retold (sym (decimal-small (x .n) (omega arith))) (one _ (x .at) (48 + x .n) (omega (arith, length-small (x .n) (omega arith), c .before .before .pre)))
+    let small = length-small (x .n) (omega arith) in
+    retold (sym (decimal-small (x .n) (omega arith))) (one _ (x .at) (48 + x .n) (omega (arith, small, c .before .before .pre)))
 
 pub put-number-spec : {M : Type 1} → statement M
 put-number-spec =
@@ -24,9 +25,13 @@ put-number-spec =
     (λ c. search needs)
     (λ c. search needs)
     returns
-    (λ c κs. (omega arith, omega (arith, length-pair (c .before .before .before .before .args .n) (omega arith) (omega arith), c .before .before .before .before .pre)))
+    (λ c κs.
+    let start = c .before .before .before .before in
+    (omega arith, omega (arith, length-pair (start .args .n) (omega arith) (omega arith), start .pre)))
     (λ c. search needs)
-    (λ c. retold (sym (decimal-pair (c .before .before .before .before .before .before .before .args .n) (omega arith) (omega arith))) (c .before .before .put-pair .ensures))
+    (λ c.
+    let start = c .before .before .before .before .before .before .before in
+    retold (sym (decimal-pair (start .args .n) (omega arith) (omega arith))) (c .before .before .put-pair .ensures))
     (λ c κs. search needs)
     (λ c. search needs)
     (λ c. search needs))

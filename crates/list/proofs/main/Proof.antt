@@ -18,6 +18,8 @@ main-spec =
     (λ c κs. search needs)
     (λ c. search needs)
     (λ c. parsed-few (c .before .before .before .parse .ensures))
-    (λ c. sym (length-take-le (c .before .before .before .before .parse .result .parts) (c .before .before .before .before .parse .result .upper) (parsed-few (c .before .before .before .before .parse .ensures))))
+    (λ c.
+    let asked = c .before .before .before .before .parse in
+    sym (length-take-le (asked .result .parts) (asked .result .upper) (parsed-few (asked .ensures))))
     (λ c κs. search needs)
     (λ c. search needs))

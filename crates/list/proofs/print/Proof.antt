@@ -17,14 +17,19 @@ abbrev μ-loop : tie.MeasureT-loop
 μ-loop upper total buffer₀ serial₀ buffer serial = 1000001 - serial
 
 -- the lines end in the buffer
-inside : (c : tie.Else1 Inv-loop μ-loop) → c .before .before .before .before .fill .result .end ≤ length (c .before .before .before .before .fill .last .1 .1 .1 .0)
-inside c = omega (arith, chunk-end _ _ _ _ _ _ (c .before .before .before .before .fill .ensures) (omega arith), c .before .before .before .before .fill .kept .1 .1 .1 .0)
+inside : (c : tie.Else1 Inv-loop μ-loop) →
+    let chunk = c .before .before .before .before .fill in
+    chunk .result .end ≤ length (chunk .last .1 .1 .1 .0)
+inside c =
+    let chunk = c .before .before .before .before .fill in
+    omega (arith, chunk-end _ _ _ _ _ _ (chunk .ensures) (omega arith), chunk .kept .1 .1 .1 .0)
 
 loop-less : tie.Need-loop-less Inv-loop μ-loop
 loop-less c =
-    let l = c .before .before .before .before .before .before .before .before .before .before .before .loop in
+    let at = c .before .before .before .before .before .before .before .before .before .before .before in
+    let byte = at .before .before .before .shared-slice-known .given in
     let a = chunk-accepted _ _ _ _ _ _ (c .before .before .before .before .before .before .before .before .before .fill .ensures) (omega arith) in
-    let some = taken-some _ _ _ (λ i. omega (arith, c .before .before .before .before .before .before .before .before .before .before .before .before .before .before .shared-slice-known .given i)) (a .0) (length (l .buffer)) (omega arith) in
+    let some = taken-some _ _ _ (λ i. omega (arith, byte i)) (a .0) (length (at .loop .buffer)) (omega arith) in
     omega (arith, some, a .0 .small, a .0 .high, ap (λ (x : Chunk). x .next) (a .1), ap (λ (x : Chunk). x .count) (a .1))
 
 pub print-spec : {M : Type 1} → statement M
@@ -40,9 +45,11 @@ print-spec =
     (λ c κs. search needs)
     (λ c. search needs)
     (λ c. inside c)
-    (λ c. sym (length-take-le (c .before .before .before .before .before .fill .result .end) (c .before .before .before .before .before .fill .last .1 .1 .1 .0) (inside (c .before))))
+    (λ c. sym (length-take-le _ _ (inside (c .before))))
     (λ c κs. search needs)
     (λ c. search needs)
     (λ c. search needs)
     loop-less
-    (λ c. c .before .before .before .before .before .before .before .before .before .fill .kept .1 .1 .1 .0 ∙ c .before .before .before .before .before .before .before .before .before .before .before .loop .inv))
+    (λ c.
+    let chunk = c .before .before .before .before .before .before .before .before .before in
+    chunk .fill .kept .1 .1 .1 .0 ∙ chunk .before .before .loop .inv))

@@ -43,9 +43,11 @@ parse-spec =
     (λ c κs. search needs)
     (λ c.
     let total = c .before .before .before in
-    refused-total _ _ (c .refuse5 .ensures) _ (total .before .before .before .read-line .ensures) _ (total .read-line2 .ensures) (c .before .if5 .taken))
+    let bounds = total .before .before .before in
+    refused-total _ _ (c .refuse5 .ensures) _ (bounds .read-line .ensures) _ (total .read-line2 .ensures) (c .before .if5 .taken))
     (λ c κs. search needs)
     (λ c.
     let total = c .before .before .before .before .before in
-    refused-behind _ _ (c .refuse6 .ensures) _ (total .before .before .before .read-line .ensures) _ (total .read-line2 .ensures) (c .before .if6 .taken))
+    let bounds = total .before .before .before in
+    refused-behind _ _ (c .refuse6 .ensures) _ (bounds .read-line .ensures) _ (total .read-line2 .ensures) (c .before .if6 .taken))
     returns-7)

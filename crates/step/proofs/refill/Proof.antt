@@ -98,7 +98,8 @@ returns : tie.Need-returns Inv-loop μ-loop
 returns c =
     let turn = c .before in
     let start = turn .before .before .before in
-    refill-end (start .args .upper .now) (turn .loop .parts) (turn .loop .i) (turn .loop .rem) (turn .loop .t) (omega arith) (omega (arith, turn .loop .inv .6)) (omega arith)
+    let l = turn .loop in
+    refill-end (start .args .upper .now) (l .parts) (l .i) (l .rem) (l .t) (omega arith) (omega (arith, l .inv .6)) (omega arith)
     ∙ turn .loop .inv .7
 
 pub refill-spec : {M : Type 1} → statement M

@@ -24,7 +24,9 @@ lent c =
     let g = s .args .parts .now in
     ap (take (length (s .args .upper .now))) (packed c) ∙ rw (← (s .pre .2)) (cells-back g)
 
-size : (c : tie.After-pack) → let a = c .before .before .before .args in length (take (length (a .upper .now)) (c .pack .result)) ≡ length (a .upper .now)
+size : (c : tie.After-pack) →
+    let n = length (c .before .before .before .args .upper .now) in
+    length (take n (c .pack .result)) ≡ n
 size c = ap length (lent c) ∙ c .before .before .before .pre .2
 
 -- what the turn left

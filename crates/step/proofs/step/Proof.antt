@@ -17,22 +17,25 @@ returns c =
 
 returns-2 : tie.Need-returns-2
 returns-2 c =
-    let g = c .before .before .before in
-    let e = g .before .before .before in
+    let given = c .before .before .before in
+    let g = given .composition-refusal in
+    let e = given .before .before .before .bounds-refusal in
     c .stopped2 .ensures
-    ∙ step-given _ _ _ _ (e .bounds-refusal .result) (e .bounds-refusal .ensures) (omega arith) (g .composition-refusal .result) (g .composition-refusal .ensures) (c .before .if2 .taken)
+    ∙ step-given _ _ _ _ (e .result) (e .ensures) (omega arith) (g .result) (g .ensures) (c .before .if2 .taken)
 
 -- what was given is a composition of an accepted edition
-shape-at : (c : tie.Else1) → Shapely (c .before .before .before .before .before .args .upper .now) (c .before .before .before .before .before .args .total)
+shape-at : (c : tie.Else1) → let a = c .before .before .before .before .before .args in Shapely (a .upper .now) (a .total)
 shape-at c = edition-shapely _ _ (ap (λ (v : Refusal). v .number) (sym (c .before .before .bounds-refusal .ensures)) ∙ omega arith)
 
 valid-at : (c : tie.Else2) →
     let a = c .before .before .before .before .before .before .before .before .args in
     Composition (a .upper .now) (a .total) (a .composition .now)
 valid-at c =
-    let g = c .before .before in
-    let e = g .before .before .before in
-    valid (e .before .before .before .args .back) _ _ _ (e .bounds-refusal .result) (e .bounds-refusal .ensures) (omega arith) (g .composition-refusal .result) (g .composition-refusal .ensures) (omega arith)
+    let given = c .before .before in
+    let edition = given .before .before .before in
+    let g = given .composition-refusal in
+    let e = edition .bounds-refusal in
+    valid (edition .before .before .before .args .back) _ _ _ (e .result) (e .ensures) (omega arith) (g .result) (g .ensures) (omega arith)
 
 shift-requires : tie.Need-shift-requires
 shift-requires c κs =
@@ -41,9 +44,12 @@ shift-requires c κs =
 
 returns-3 : tie.Need-returns-3
 returns-3 c =
-    let g = c .before .before .before .before in
-    let e = g .before .before .before in
-    step-shifted _ _ _ _ (e .bounds-refusal .result) (e .bounds-refusal .ensures) (omega arith) (g .composition-refusal .result) (g .composition-refusal .ensures) (omega arith) (c .before .side .result) (c .before .side .ensures .0) (c .shift .result) (c .shift .ensures)
+    let given = c .before .before .before .before in
+    let g = given .composition-refusal in
+    let e = given .before .before .before .bounds-refusal in
+    let w = c .before .side in
+    step-shifted _ _ _ _ (e .result) (e .ensures) (omega arith) (g .result) (g .ensures) (omega arith)
+    (w .result) (w .ensures .0) (c .shift .result) (c .shift .ensures)
 
 pub step-spec : {M : Type 1} → statement M
 step-spec =

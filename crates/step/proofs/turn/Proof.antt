@@ -54,7 +54,8 @@ same-length-3 : tie.Need-same-length-3
 same-length-3 c =
     let next = c .before .before .before .before .before .before .before .before in
     let at = next .before .before .before .before in
-    c .before .before .refill .kept .1 .1 .1 .1 .1 .0 ∙ length-set (at .before .before .before .before .args .parts .now) (at .pivot .result .at) (next .next-value .result)
+    c .before .before .refill .kept .1 .1 .1 .1 .1 .0
+    ∙ length-set (at .before .before .before .before .args .parts .now) (at .pivot .result .at) (next .next-value .result)
 
 returns-3 : tie.Need-returns-3
 returns-3 c =

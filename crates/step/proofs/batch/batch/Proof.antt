@@ -28,7 +28,7 @@ accepted : (c : tie.Else1) →
     Accepts (editionChecks (a .upper .now) (a .total)) × Locates (a .upper .now) (a .total) (a .serial) (c .before .before .locate .result)
 accepted c = let first = c .before .before .locate in located-accepted _ _ _ (first .result) (first .ensures) (omega arith)
 
-shape-at : (c : tie.Else1) → Shapely (c .before .before .before .before .before .args .upper .now) (c .before .before .before .before .before .args .total)
+shape-at : (c : tie.Else1) → let a = c .before .before .before .before .before .args in Shapely (a .upper .now) (a .total)
 shape-at c = edition-shapely _ _ (accepted c .0)
 
 returns-2 : tie.Need-returns-2
@@ -43,12 +43,14 @@ range-at : (c : tie.Else2) →
 range-at c =
     let a = c .before .before .before .before .before .before .before .before .args in
     let room = c .before .before .room-refusal in
-    rw (accepted (c .before .before .before) .1 .count) at (ranged _ (length (a .upper .now)) (a .serial) (a .copies) (length (a .out .now)) (room .ensures) (omega arith))
+    rw (accepted (c .before .before .before) .1 .count) at
+    (ranged _ (length (a .upper .now)) (a .serial) (a .copies) (length (a .out .now)) (room .ensures) (omega arith))
 
 -- the composition that the copies begin with
 first-at : (c : tie.Else2) →
     let a = c .before .before .before .before .before .before .before .before .args in
-    take (length (a .upper .now)) (c .before .before .before .before .before .locate .result .composition) ≡ compositionOf (a .upper .now) (a .total) (a .serial)
+    let first = c .before .before .before .before .before .locate .result in
+    take (length (a .upper .now)) (first .composition) ≡ compositionOf (a .upper .now) (a .total) (a .serial)
 first-at c =
     let a = c .before .before .before .before .before .before .before .before .args in
     let p = range-at c in
@@ -62,7 +64,14 @@ write-requires c κs =
     let s = shape-at (e .before .before .before) in
     let valid = composition-is (a .upper .now) (a .total) (a .serial) (p .some) (p .within) in
     let number = serial-composition (a .upper .now) (a .total) (a .serial) (p .some) (p .within) in
-    record { some = s .some; few = s .few; small = s .small; valid = rw (first-at e) valid; within = rw (first-at e, number) (p .few); room = p .room }
+    record {
+      some = s .some;
+      few = s .few;
+      small = s .small;
+      valid = rw (first-at e) valid;
+      within = rw (first-at e, number) (p .few);
+      room = p .room;
+    }
 
 returns-3 : tie.Need-returns-3
 returns-3 c =

@@ -38,22 +38,30 @@ returns-2 c =
     let h : List ℕ = t .turn .last .1 .1 .0 in
     let new = c .run-of .ensures in
     let wide : 1 < length h = omega (arith, left-at t, start .pre .0) in
+    let stored = set-two (a .parts .now) (a .run .first) (a .run .second) (omega (arith, start .pre .3, start .pre .0)) in
     record {
       running = new .2;
       next = λ k some l is.
           rw (new .0, new .1) (two-parts h wide)
-          ∙ turn-next (a .upper .now) (a .total) k some l (set-two (a .parts .now) (a .run .first) (a .run .second) (omega (arith, start .pre .3, start .pre .0)) ∙ is) (t .turn .ensures);
+          ∙ turn-next (a .upper .now) (a .total) k some l (stored ∙ is) (t .turn .ensures);
     }
 
 pub onward-spec : {M : Type 1} → statement M
 onward-spec =
     tie.close
     (tie.spec
-    (λ c κs. let start = c .before .before .before .before in moves-to (start .args .upper .now) (start .args .total) (start .args .run) (start .pre .4) (c .if1 .taken) .can)
+    (λ c κs.
+    let start = c .before .before .before .before in
+    moves-to (start .args .upper .now) (start .args .total) (start .args .run) (start .pre .4) (c .if1 .taken) .can)
     returns
     (λ c. search needs)
     (λ c. search needs)
-    (λ c κs. let start = c .before .before .before .before .before in (omega (arith, start .pre .0), start .pre .1, size-at (c .before), omega (arith, start .pre .2)))
-    (λ c κs. let start = c .before .before .before .before .before .before .before .before .before in (start .pre .0, omega (arith, left-at (c .before .before .before), start .pre .0)))
-    (λ c. left-at (c .before .before .before .before) ∙ sym (c .before .before .before .before .before .before .before .before .before .before .pre .3))
+    (λ c κs.
+    let start = c .before .before .before .before .before in
+    (omega (arith, start .pre .0), start .pre .1, size-at (c .before), omega (arith, start .pre .2)))
+    (λ c κs.
+    let turned = c .before .before .before in
+    let start = turned .before .before .before .before .before .before in
+    (start .pre .0, omega (arith, left-at turned, start .pre .0)))
+    (λ c. let turned = c .before .before .before .before in left-at turned ∙ sym (turned .before .before .before .before .before .before .pre .3))
     returns-2)

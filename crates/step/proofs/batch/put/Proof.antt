@@ -9,7 +9,8 @@ use Rattle.step.proofs.batch.put.Tie as tie
 returns : tie.Need-returns
 returns c =
     let start = c .before .before .before .before .before .before in
-    rw (c .before .before .copy .ensures ∙ copied-same _ _ (start .pre .1)) (set-two (start .args .parts .now) (start .args .run .first) (start .args .run .second) (start .pre .0))
+    rw (c .before .before .copy .ensures ∙ copied-same _ _ (start .pre .1))
+    (set-two (start .args .parts .now) (start .args .run .first) (start .args .run .second) (start .pre .0))
 
 pub put-spec : {M : Type 1} → statement M
 put-spec =

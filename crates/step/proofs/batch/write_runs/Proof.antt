@@ -90,15 +90,17 @@ loop-again c =
     let next = copies-next ms (a .total) s (l .j) in
     let done = l .inv .4 in
     let written = put .ensures in
+    let low = serial-pos ms (a .total) _ (start .pre .1 .valid) in
     let then : s + l .j + 1 ≡ s + (l .j + 1) = omega arith in (
       omega arith,
       same-len-mid (l .at) (l .at + n - l .at) (l .out) ys (put .kept .1 .1 .0) ∙ l .inv .1,
       simp (length-append, length-drop) (omega (arith, size, start .pre .1 .few)),
       omega (arith, part-next (l .j) n),
-      put-taken (l .out) ys _ (l .at) n (omega (arith, within-at inside)) (put .kept .1 .1 .0 ∙ part-length (l .out) (l .at) n (within-at inside)) ∙ cc,
+      put-taken (l .out) ys _ (l .at) n (omega (arith, within-at inside)) (put .kept .1 .1 .0 ∙ part-length (l .out) (l .at) n (within-at inside))
+          ∙ cc,
       on .ensures .running,
       λ more. rw (take-at h (drop n (l .parts)) n size)
-          (on .ensures .next (s + l .j) (omega (arith, serial-pos ms (a .total) _ (start .pre .1 .valid))) (omega (arith, start .pre .1 .within)) here)
+          (on .ensures .next (s + l .j) (omega (arith, low)) (omega (arith, start .pre .1 .within)) here)
           ∙ ap (compositionOf ms (a .total)) then,
     )
 
@@ -110,7 +112,8 @@ returns c =
     let n = length (a .upper .now) in
     let e : l .j ≡ a .copies = omega arith in
     let all : l .j * n ≡ a .copies * n = ap (λ (k : ℕ). k * n) e in
-    sym (take-all (l .at) (l .out) (omega (arith, start .pre .1 .room))) ∙ l .inv .4 ∙ ap (copiesOf (a .upper .now) (a .total) (from (a .upper .now) (a .total) (a .first))) e
+    let s = from (a .upper .now) (a .total) (a .first) in
+    sym (take-all (l .at) (l .out) (omega (arith, start .pre .1 .room))) ∙ l .inv .4 ∙ ap (copiesOf (a .upper .now) (a .total) s) e
 
 pub write-runs-spec : {M : Type 1} → statement M
 write-runs-spec =
@@ -128,7 +131,10 @@ write-runs-spec =
     (λ c. search needs)
     (λ c. search needs)
     (λ c. within-at (c .before))
-    (λ c κs. let i = c .before .before in (omega (arith, front-at i, i .before .before .before .before .before .before .pre .0), part-length _ _ _ (within-at i) ∙ sym (front-at i)))
+    (λ c κs.
+    let inside = c .before .before in
+    let start = inside .before .before .before .before .before .before in
+    (omega (arith, front-at inside, start .pre .0), part-length _ _ _ (within-at inside) ∙ sym (front-at inside)))
     (λ c. omega (arith, c .before .before .before .before .before .before .before .before .before .before .before .pre .1 .few))
     (λ c. sym (front-at (c .before .before .before .before .before .before)))
     onward-requires
