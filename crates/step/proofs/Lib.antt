@@ -1,5 +1,6 @@
-pub mod Turns
 pub mod Refills
+pub mod Pivots
+pub mod Turns
 pub mod Ways
 pub mod Answers
 pub mod Cells
