@@ -8,3 +8,4 @@ pub mod Steps
 pub mod Runs
 pub mod Copies
 pub mod Batches
+pub mod Consequences
