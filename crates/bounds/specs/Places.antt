@@ -25,9 +25,13 @@ compositionChecks ms r g =
     ∷ check 8 (isOther ms r g) 0
     ∷ []
 
+-- "serial outside 1..N", where N is n
+abbrev pub outside : ℕ → ℕ → Bool
+outside n s = either (eqb s 0) (ltb n s)
+
 -- the place 'serial given'
 abbrev pub serialChecks : List ℕ → ℕ → ℕ → List Check
-serialChecks ms r s = check 6 (either (eqb s 0) (ltb (countOf ms r) s)) 0 ∷ []
+serialChecks ms r s = check 6 (outside (countOf ms r) s) 0 ∷ []
 
 -- "N over 1,000,000", in the place 'opening' and for a listing
 abbrev pub manyChecks : List ℕ → ℕ → List Check

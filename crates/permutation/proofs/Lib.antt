@@ -11,3 +11,4 @@ pub mod ByInversions
 pub mod Mahonian
 pub mod Tables
 pub mod RoundTrips
+pub mod Consequences

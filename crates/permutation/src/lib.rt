@@ -19,13 +19,13 @@ ghost use Rattle.permutation.specs.Permutation.{IsPermutation, isPermuta
 ghost use Rattle.permutation.specs.Values.{aloneOf, HasValues};
 
 // The inversion vector of a permutation of at most 25 entries, followed by zeros, and its sum. (A copy of 32 bytes is faster than one of 25.)
-struct Found {
+struct SummedVector {
     vector: [u8; 32],
     sum: u32,
 }
 
 // The refusal of a permutation; where it is none, the inversion vector.
-struct Vectored {
+struct Converted {
     refusal: Refusal,
     vector: [u8; 32],
 }
@@ -70,7 +70,7 @@ fn is_permutation(p: &[u8], k: usize) -> bool
 }
 
 // The inversion vector, from the last place to the first: the values below the entry are counted in the set of those behind it.
-fn find_inversions(p: &[u8]) -> Found
+fn find_inversions(p: &[u8]) -> SummedVector
     requires { ⌜ (length (now p) ≤ 25) × IsPermutation (length (now p)) (now p) ⌝ }
     ensures { λ r. ⌜ (take (length (now (p .entry)) - 1) (r .vector) ≡ inversionVector (now (p .entry))) × (r .sum ≡ inversions (now (p .entry))) ⌝ }
 {
@@ -86,7 +86,7 @@ fn find_inversions(p: &[u8]) -> Found
         sum += smaller;
         behind = behind | here;
     }
-    Found { vector, sum }
+    SummedVector { vector, sum }
 }
 
 fn lifted(c: u8, x: u8) -> u8
@@ -140,30 +140,30 @@ fn staircase_refusal(upper: &[u8], total: u32) -> Refusal
 }
 
 // A refusal, and no vector.
-fn unread(refusal: Refusal) -> Vectored
+fn without_vector(refusal: Refusal) -> Converted
     ensures { λ r. ⌜ r .refusal ≡ refusal ⌝ }
 {
-    Vectored {
+    Converted {
         refusal,
         vector: [0u8; 32],
     }
 }
 
 // The place 'sheet orders' from 11 on, with the vector that it needs.
-fn read_permutation(upper: &[u8], total: u32, p: &[u8]) -> Vectored
+fn read_permutation(upper: &[u8], total: u32, p: &[u8]) -> Converted
     requires { ⌜ length (now upper) ≤ 24 ⌝ }
     ensures { λ r. ⌜ (r .refusal ≡ firstRefusal (permutationChecks byInversions (now (upper .entry)) total (now (p .entry))))
         × (r .refusal .number ≡ 0 → take (length (now (upper .entry))) (r .vector) ≡ inversionVector (now (p .entry))) ⌝ }
 {
     if !is_permutation(p, upper.len() + 1) {
-        return unread(refused(11, 0));
+        return without_vector(refused(11, 0));
     }
     let found = find_inversions(p);
     if found.sum != total {
-        return unread(refused(12, 0));
+        return without_vector(refused(12, 0));
     }
     let vector = found.vector;
-    Vectored {
+    Converted {
         refusal: refused(0, 0),
         vector,
     }
@@ -185,20 +185,20 @@ fn to_permutation_refusal(upper: &[u8], total: u32, g: &[u8], room: usize) -> Re
 }
 
 // All that can refuse a permutation and a lent part of `room` bytes; where nothing does, the inversion vector.
-fn to_composition(upper: &[u8], total: u32, p: &[u8], room: usize) -> Vectored
+fn to_composition(upper: &[u8], total: u32, p: &[u8], room: usize) -> Converted
     ensures { λ r. ⌜ (r .refusal ≡ firstRefusal (toCompositionChecks byInversions (now (upper .entry)) total (now (p .entry)) room))
         × (r .refusal .number ≡ 0 → take room (r .vector) ≡ inversionVector (now (p .entry))) ⌝ }
 {
     let stairs = staircase_refusal(upper, total);
     if stairs.number != 0 {
-        return unread(stairs);
+        return without_vector(stairs);
     }
     let given = read_permutation(upper, total, p);
     if given.refusal.number != 0 {
         return given;
     }
     let vector = given.vector;
-    Vectored {
+    Converted {
         refusal: lent_refusal(upper.len(), room),
         vector,
     }
@@ -206,25 +206,29 @@ fn to_composition(upper: &[u8], total: u32, p: &[u8], room: usize) -> Vectored
 
 // document 01: mix to order. Fills the lent part with the permutation whose inversion vector is the composition.
 pub fn permutation(upper: &[u8], total: u32, composition: &[u8], out: &mut [u8]) -> Refusal
-    ensures { λ r. ⌜ _≡_ {A = Refusal × List ℕ} (r, now (out .exit)) (toPermutation byInversions (now (upper .entry)) total (now (composition .entry)) (now (out .entry))) ⌝ }
+    ensures { λ r.
+        ⌜ _≡_ {A = Refusal × List ℕ} (r, now (out .exit))
+        (toPermutation byInversions (now (upper .entry)) total (now (composition .entry)) (now (out .entry))) ⌝ }
 {
-    let refused = to_permutation_refusal(upper, total, composition, out.len());
-    if refused.number != 0 {
-        return refused;
+    let answer = to_permutation_refusal(upper, total, composition, out.len());
+    if answer.number != 0 {
+        return answer;
     }
     fill_permutation(composition, out);
-    refused
+    answer
 }
 
 // document 01: order to mix. Fills the lent part with the inversion vector of the permutation.
 pub fn inversions(upper: &[u8], total: u32, permutation: &[u8], out: &mut [u8]) -> Refusal
-    ensures { λ r. ⌜ _≡_ {A = Refusal × List ℕ} (r, now (out .exit)) (toComposition byInversions (now (upper .entry)) total (now (permutation .entry)) (now (out .entry))) ⌝ }
+    ensures { λ r.
+        ⌜ _≡_ {A = Refusal × List ℕ} (r, now (out .exit))
+        (toComposition byInversions (now (upper .entry)) total (now (permutation .entry)) (now (out .entry))) ⌝ }
 {
-    let found = to_composition(upper, total, permutation, out.len());
-    if found.refusal.number != 0 {
-        return found.refusal;
+    let converted = to_composition(upper, total, permutation, out.len());
+    if converted.refusal.number != 0 {
+        return converted.refusal;
     }
-    let vector = found.vector;
+    let vector = converted.vector;
     bounds::copy(&vector, out);
-    found.refusal
+    converted.refusal
 }

@@ -1,3 +1,4 @@
 pub mod Locations
 pub mod Calls
 pub mod RoundTrips
+pub mod Consequences

@@ -16,8 +16,10 @@ use Rattle.bounds.proofs.Refusals.{refusal-here, refusal-next}
 use Rattle.bounds.proofs.Chains.{answer-first, answer-later}
 use Rattle.bounds.proofs.Compositions.{composition-passed}
 use Rattle.step.specs.Steps.{endChecks, nextSerial, stepOf}
-use Rattle.step.specs.Turn.{Turn, shiftedBy, Shifted}
+use Rattle.step.specs.Advance.{turnOf}
+use Rattle.step.specs.Turn.{shiftedBy}
 use Rattle.step.specs.declared.Stepped.{Stepped}
+use Rattle.step.proofs.Turns.{Turn, turned}
 use Rattle.step.proofs.Ways.{way-reached, moving, way-on, way-off}
 
 module _ (back : Bool) (ms : List ℕ) (r : ℕ) (g : List ℕ) where
@@ -60,10 +62,10 @@ module _ (back : Bool) (ms : List ℕ) (r : ℕ) (g : List ℕ) where
           let none : refused 0 0 ≡ firstRefusal (editionChecks ms r ++ (given ++ ends)) = table (sym (refusal-next _ [] on)) in
           rw (← none)
 
-      turned : (b : Bool) (h : List ℕ) → Turn ms (cond back (r + 1) r) g b h → shiftedBy b h ≡ stepOf back ms r g
-      turned true h t = let on = way-on ms r g valid back h t in rw (on .1) (step-goes (on .0))
-      turned false h t = refused-by (refused 9 0) (table (sym (refusal-here _ [] (way-off ms r g valid back h t)))) (λ z. omega arith)
+      gone : (b : Bool) (h : List ℕ) → Turn ms (cond back (r + 1) r) g b h → shiftedBy (b, h) ≡ stepOf back ms r g
+      gone true h t = let on = way-on ms r g valid back h t in rw (on .1) (step-goes (on .0))
+      gone false h t = refused-by (refused 9 0) (table (sym (refusal-here _ [] (way-off ms r g valid back h t)))) (λ z. omega arith)
 
       -- the step itself
-      pub step-shifted : (w : ℕ) → w ≡ cond back (r + 1) r → (x : Stepped) → Shifted ms w g x → x ≡ stepOf back ms r g
-      step-shifted w e x s = s .is ∙ turned (s .on) (s .left) (rw e at (s .turned (moving ms r g valid w (way-reached back r w e))))
+      pub step-shifted : (w : ℕ) → w ≡ cond back (r + 1) r → shiftedBy (turnOf ms w g) ≡ stepOf back ms r g
+      step-shifted w e = rw e (gone _ _ (turned ms (cond back (r + 1) r) g (moving ms r g valid _ (way-reached back r _ refl))))

@@ -17,8 +17,8 @@ use Rattle.walsh.specs.Serial.{compositionOf}
 use Rattle.walsh.proofs.Cases.{on-test}
 use Rattle.walsh.proofs.Serials.{composition-is}
 use Rattle.step.specs.Batch.{copiesOf}
-use Rattle.step.specs.Turn.{Turned}
-use Rattle.step.proofs.Ways.{moving, advanced, advance-serial}
+use Rattle.step.specs.Advance.{turnOf}
+use Rattle.step.proofs.Ways.{turn-forward, advance-serial}
 
 -- ---- c parts of n bytes
 
@@ -61,12 +61,13 @@ module _ (ms : List ℕ) (r : ℕ) where
   copies-next s c = rw add-one
 
   -- a turn from the composition of serial s
-  pub turn-next : (s : ℕ) → 0 < s → s < countOf ms r → {g : List ℕ} {b : Bool} {h : List ℕ} → g ≡ compositionOf ms r s → Turned ms r g b h
+  pub turn-next : (s : ℕ) → 0 < s → s < countOf ms r → {g : List ℕ} {b : Bool} {h : List ℕ} → g ≡ compositionOf ms r s
+      → _≡_ {A = Bool × List ℕ} (b, h) (turnOf ms r g)
       → h ≡ compositionOf ms r (s + 1)
   turn-next s some l {g} {b} {h} e t =
       let valid = composition-is ms r s some (omega arith) in
-      let turn = (rw e at t) (moving ms r (compositionOf ms r s) valid r (omega arith)) in
-      ap (λ (p : Bool × List ℕ). p .1) (advanced ms r (compositionOf ms r s) valid b h turn ∙ advance-serial ms r s some l)
+      ap (λ (p : Bool × List ℕ). p .1)
+      (t ∙ ap (turnOf ms r) e ∙ turn-forward ms r (compositionOf ms r s) valid ∙ advance-serial ms r s some l)
 
   -- "copy j of the batch, j from 0, is written from byte j × n"
   module _ (s : ℕ) (some : 0 < s) where

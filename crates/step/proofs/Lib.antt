@@ -1,5 +1,6 @@
-pub mod Turns
 pub mod Refills
+pub mod Pivots
+pub mod Turns
 pub mod Ways
 pub mod Answers
 pub mod Cells
@@ -7,3 +8,4 @@ pub mod Steps
 pub mod Runs
 pub mod Copies
 pub mod Batches
+pub mod Consequences

@@ -16,12 +16,13 @@ use Rattle.walsh.proofs.Complete.{composition-low}
 use Rattle.walsh.proofs.Ends.{next-low, rest-fits}
 use Rattle.walsh.proofs.Serials.{composition-is, serial-composition, composition-serial}
 use Rattle.walsh.proofs.Successors.{successor-at, successor-none}
-use Rattle.step.specs.Turn.{canMove}
+use Rattle.step.specs.Advance.{canMove}
 use Rattle.step.specs.Run.{valuesLeft, sumOf, Running, movedOf, CanMove, shown, Asked, copiesFrom}
 use Rattle.step.specs.Batch.{copiesOf}
 use Rattle.step.specs.declared.batch.Run.{Run}
 use Rattle.step.proofs.Refills.{sum-one, refill-end}
-use Rattle.step.proofs.Turns.{first-stays, part-moves, can-here, upTo}
+use Rattle.step.proofs.Pivots.{can-here}
+use Rattle.step.proofs.Turns.{first-stays, part-moves, upTo}
 use Rattle.step.proofs.Ways.{moving}
 
 -- ---- numbers

@@ -92,6 +92,11 @@ module _ (back : Bool) (ms : List ℕ) (r : ℕ) (g : List ℕ) (ok : stepOf bac
   answer-is : answer back ms r g ≡ compositionOf ms r (to back ms r g)
   answer-is = cells-front ms r (to back ms r g) _ (inside .0) (inside .1) (ap (λ (x : Stepped). x .composition) (at .is))
 
+  -- where an accepted step leads
+  pub step-to : Accepts (editionChecks ms r) × (0 < to back ms r g) × (to back ms r g ≤ countOf ms r)
+      × (answer back ms r g ≡ compositionOf ms r (to back ms r g))
+  step-to = (at .edition, inside .0, inside .1, answer-is)
+
   -- the step the other way leads back
   returned : stepOf (not back) ms r (answer back ms r g) ≡ record { number = 0; detail = 0; composition = cellsOf g }
   returned =

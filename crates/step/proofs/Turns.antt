@@ -1,19 +1,22 @@
--- Finding the part that moves, and moving it, in the code's numbers.
+-- Moving a part: the turn of any bytes in the code's numbers, and what it is for a composition.
 use mathlib.Core.Path.{_≡_, refl, _∙_}
-use mathlib.Core.Bool.{Bool, true, false, cond, true≢false}
-use mathlib.Core.List.{List, _∷_, _++_}
-use Prim.Native.Nat.{ℕ, zero, suc, _+_, _-_, _≤_, _<_, min}
+use mathlib.Core.Bool.{Bool, true, false, cond, true≢false, false≢true}
+use mathlib.Core.List.{List, _++_}
+use Prim.Native.Nat.{ℕ, zero, suc, _+_, _-_, _≤_, _<_}
 use native.Mathlib.Omega.{arith}
 use lib.Dec.{ltb}
 use lib.ListN.{length, getD, set, drop}
-use borrow.Author.Tests.{ltb-true, ltb-false}
+use borrow.Author.Tests.{ltb-true, ltb-false, lt-ltb, le-ltb, le-leb, lt-leb}
 use Rattle.walsh.specs.Sums.{sumTo}
 use Rattle.walsh.specs.Order.{CompositionTo, isOdd, least, most}
-use Rattle.walsh.specs.Step.{lastValue, nextValue, firstOf, AtLast, stepAt}
+use Rattle.walsh.specs.Step.{lastValue, nextValue, firstOf, AtLast, Pivot, stepAt}
+use Rattle.walsh.proofs.Cases.{on-less}
 use Rattle.walsh.proofs.Complete.{composition-low, composition-high}
 use Rattle.walsh.proofs.Ends.{next-low, rest-fits}
-use Rattle.step.specs.Turn.{Moving, canMove, Found-at, Turn}
-use Rattle.step.specs.declared.Found.{Found}
+use Rattle.step.specs.Advance.{canMove, pivotOf, restAt, turnAt, turnOf}
+use Rattle.step.specs.Turn.{PivotAt}
+use Rattle.step.specs.declared.PivotSums.{PivotSums}
+use Rattle.step.proofs.Pivots.{pivot-first}
 use Rattle.step.proofs.Refills.{drop-set}
 
 -- ---- a value v among lo..hi
@@ -32,14 +35,75 @@ module _ (lo hi v : ℕ) where
   value-within true s e l h = omega arith
   value-within false s e l h = omega (arith, ltb-true v hi e)
 
--- ---- a part of g
+-- ---- the turn of any bytes: u is the next value of the part that was found
+
+module _ (ms : List ℕ) (w : ℕ) (g : List ℕ) (f : PivotSums) (found : PivotAt ms w g f) where
+  pub found-some : 0 < f .at
+  found-some = omega (arith, found .first, pivot-first ms w g .low)
+
+  pub found-within : 0 < length ms → f .at ≤ length ms
+  found-within some = omega (arith, found .first, pivot-first ms w g .high)
+
+  pub turn-last : length ms ≤ f .at → _≡_ {A = Bool × List ℕ} (false, g) (turnOf ms w g)
+  unfolding turnAt
+  turn-last e = rw (← (found .first), le-ltb (f .at) (length ms) e)
+
+  module _ (inside : f .at < length ms) (u : ℕ) (eu : u ≡ nextValue (isOdd (f .right)) (getD g (f .at) 0)) where
+    can : canMove ms w g (f .at) ≡ true
+    can = rw (found .first) (pivot-first ms w g .can (omega (arith, found .first)))
+
+    value : u ≡ nextValue (isOdd (w - sumTo g (suc (f .at)))) (getD g (f .at) 0)
+    value = eu ∙ rw (found .right inside)
+
+    rest-is : f .sum - u ≡ restAt w g (f .at)
+    rest-is = rw (found .sum inside, value)
+
+    within : (s : ℕ) → getD g (f .at) 0 ≤ s → most ms (f .at) (sumTo g (suc (f .at))) ≤ s → u ≤ s
+    within s l h =
+        let rem : ℕ = sumTo g (suc (f .at)) in
+        rw value (value-within (least ms (f .at) rem) (most ms (f .at) rem) (getD g (f .at) 0) (isOdd (w - rem)) s can l h)
+
+    -- it is a byte, and no more than the parts up to it
+    pub found-small : getD ms (f .at) 0 ≤ 255 → getD g (f .at) 0 ≤ 255 → (u ≤ 255) × (u ≤ f .sum) × (f .right ≤ w)
+    found-small bytes byte =
+        (within 255 byte (omega arith), rw (found .sum inside) (within _ (omega arith) (omega arith)), rw (found .right inside) (omega arith))
+
+    pub turn-over : f .left < f .sum - u → _≡_ {A = Bool × List ℕ} (false, g) (turnOf ms w g)
+    unfolding turnAt
+    turn-over l =
+        rw (← (found .first), lt-ltb (f .at) (length ms) inside, ← rest-is, ← (found .left), lt-leb (f .sum - u) (f .left) l)
+
+    step-is : length g ≡ length ms → (h : List ℕ)
+        → h ≡ firstOf ms (f .at) (f .sum - u) (f .right + u) ++ drop (f .at) (set g (f .at) u)
+        → h ≡ stepAt ms w g (f .at)
+    unfolding stepAt
+    step-is size h eh = eh ∙ rw (drop-set g (f .at) u (omega arith), found .sum inside, found .right inside, value)
+
+    pub turn-on : length g ≡ length ms → f .sum - u ≤ f .left → (h : List ℕ)
+        → h ≡ firstOf ms (f .at) (f .sum - u) (f .right + u) ++ drop (f .at) (set g (f .at) u)
+        → _≡_ {A = Bool × List ℕ} (true, h) (turnOf ms w g)
+    unfolding turnAt
+    turn-on size l h eh =
+        let is = step-is size h eh in
+        rw (← (found .first), lt-ltb (f .at) (length ms) inside, ← rest-is, ← (found .left), le-leb (f .sum - u) (f .left) l, ← is)
+
+-- ---- parts that are within their bounds and sum to at most w, as those of a composition do
+
+pub record Moving (ms : List ℕ) (w : ℕ) (g : List ℕ) : Type 0 where
+  pub fits : (i : ℕ) → i < length ms → getD g i 0 ≤ getD ms i 0
+  pub reached : sumTo g (length ms) ≤ w
+
+-- the step from g, which answers b and leaves h: at its pivot, or none where every part is at its last value
+pub record Turn (ms : List ℕ) (w : ℕ) (g : List ℕ) (b : Bool) (h : List ℕ) : Type 0 where
+  pub on : b ≡ true → (i : ℕ) × (i < length ms) × Pivot ms w g i × (h ≡ stepAt ms w g i)
+  pub off : b ≡ false → ((j : ℕ) → j < length ms → AtLast ms w g j) × (h ≡ g)
 
 module _ (ms : List ℕ) (w : ℕ) (g : List ℕ) where
   -- the parts up to i
   pub upTo : Moving ms w g → (i : ℕ) → i < length ms → CompositionTo ms (suc i) (sumTo g (suc i)) g
   upTo m i l = record { fits = λ j b. m .fits j (omega arith); sums = refl }
 
-  pub part-stays : (i : ℕ) → i < length ms → canMove ms w g i ≡ false → Moving ms w g → AtLast ms w g i
+  part-stays : (i : ℕ) → i < length ms → canMove ms w g i ≡ false → Moving ms w g → AtLast ms w g i
   part-stays i l e m =
       let rem : ℕ = sumTo g (suc i) in
       value-stays (least ms i rem) (most ms i rem) (getD g i 0) (isOdd (w - rem)) (composition-low (upTo m i l)) (composition-high (upTo m i l)) e
@@ -58,65 +122,35 @@ module _ (ms : List ℕ) (w : ℕ) (g : List ℕ) where
       go false h = omega arith
   first-stays some m (suc j) l = absurd (omega arith)
 
-  -- what the calls of a turn of `pivot` answer
-  pub can-here : (i left before m v right lo hi : ℕ) (falling can : Bool) → left ≡ sumTo ms i → before ≡ sumTo g i → m ≡ getD ms i 0 → v ≡ getD g i 0
-      → right ≡ w - (before + v) → lo ≡ before + v - left → hi ≡ min m (before + v) → falling ≡ isOdd right → can ≡ cond falling (ltb lo v) (ltb v hi)
-      → can ≡ canMove ms w g i
-  can-here i left before m v right lo hi falling can el eb em ev er elo ehi ef e = e ∙ rw (ef, er, elo, ehi, el, eb, em, ev)
+  module _ (m : Moving ms w g) where
+    abbrev at : ℕ
+    at = pivotOf ms w g
 
--- ---- the step at the part that was found, which takes the value u
+    passed-last : (j : ℕ) → j < length ms → j < at → AtLast ms w g j
+    passed-last j l b =
+        on-less j 1
+        (λ a _. first-stays (omega arith) m j a)
+        (λ a _. part-stays j l (pivot-first ms w g .passed j a b) m)
 
-pub record Moved (ms : List ℕ) (w : ℕ) (g : List ℕ) (f : Found) (u : ℕ) : Type 0 where
-  pub inside : f .at < length ms
-  pub taken : u ≤ f .sum
-  pub small : u ≤ 255
-  pub before : f .right ≤ w
-  pub fits : Moving ms w g → f .sum - u ≤ f .left
-  pub next : Moving ms w g → (h : List ℕ) → h ≡ firstOf ms (f .at) (f .sum - u) (f .right + u) ++ drop (f .at) (set g (f .at) u) → Turn ms w g true h
+    at-on : at < length ms → (canMove ms w g at ≡ true) × (turnOf ms w g ≡ (true, stepAt ms w g at))
+    unfolding turnAt
+    at-on l =
+        let can = pivot-first ms w g .can (omega arith) in
+        let rem : ℕ = sumTo g (suc at) in
+        let low = next-low (least ms at rem) (most ms at rem) (isOdd (w - rem)) (getD g at 0) (composition-low (upTo m at l)) (part-moves at can) in
+        (can, rw (lt-ltb at (length ms) l, le-leb (restAt w g at) (sumTo ms at) (rest-fits ms at rem _ low)))
 
-module _ (ms : List ℕ) (w : ℕ) (g : List ℕ) (f : Found) (found : Found-at ms w g f) (inside : f .at < length ms) (size : length g ≡ length ms)
-    (bytes : getD ms (f .at) 0 ≤ 255) (byte : getD g (f .at) 0 ≤ 255) where
-  abbrev rem : ℕ
-  rem = sumTo g (suc (f .at))
+    at-off : length ms ≤ at → turnOf ms w g ≡ (false, g)
+    unfolding turnAt
+    at-off l = rw (le-ltb at (length ms) l)
 
-  abbrev falling : Bool
-  falling = isOdd (w - rem)
-
-  abbrev u : ℕ
-  u = nextValue falling (getD g (f .at) 0)
-
-  within : (s : ℕ) → getD g (f .at) 0 ≤ s → most ms (f .at) rem ≤ s → u ≤ s
-  within s l h = value-within (least ms (f .at) rem) (most ms (f .at) rem) (getD g (f .at) 0) falling s (found .moves inside) l h
-
-  low : Moving ms w g → least ms (f .at) rem ≤ u
-  low m =
-      next-low (least ms (f .at) rem) (most ms (f .at) rem) falling (getD g (f .at) 0) (composition-low (upTo ms w g m (f .at) inside))
-      (part-moves ms w g (f .at) (found .moves inside))
-
-  step-is : firstOf ms (f .at) (rem - u) (w - rem + u) ++ (u ∷ drop (suc (f .at)) g) ≡ stepAt ms w g (f .at)
-  unfolding stepAt
-  step-is = refl
-
-  pub moved : (x : ℕ) → x ≡ nextValue (isOdd (f .right)) (getD g (f .at) 0) → Moved ms w g f x
-  moved x e =
-      let ex : x ≡ u = e ∙ rw (found .right inside) in
-      rw ex (
-      record {
-        inside = inside;
-        taken = rw (found .sum inside) (within rem (omega arith) (omega arith));
-        small = within 255 byte (omega arith);
-        before = rw (found .right inside) (omega arith);
-        fits = λ m. rw (found .sum inside, found .left) (rest-fits ms (f .at) rem u (low m));
-        next = λ m h eh.
-            record {
-              on =
-                  λ t. (
-                    f .at,
-                    inside,
-                    record { done = found .done m; moves = part-moves ms w g (f .at) (found .moves inside) },
-                    eh ∙ rw (found .sum inside, found .right inside, drop-set g (f .at) u (omega arith)) step-is,
-                  );
-              off = λ t. absurd (true≢false t);
-            };
-      }
-      )
+    pub turned : Turn ms w g (turnOf ms w g .0) (turnOf ms w g .1)
+    turned =
+        on-less at (length ms)
+        (λ l _.
+        rw (at-on l .1)
+        (record {
+          on = λ t. (at, l, record { done = λ j b. passed-last j (omega arith) b; moves = part-moves at (at-on l .0) }, refl);
+          off = λ t. absurd (true≢false t);
+        }))
+        (λ l _. rw (at-off l) (record { on = λ t. absurd (false≢true t); off = λ t. (λ j b. passed-last j b (omega arith), refl) }))

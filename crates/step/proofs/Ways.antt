@@ -1,20 +1,24 @@
--- From the step at a part to the step in serials, forward and backward.
-use mathlib.Core.Path.{_≡_, refl}
-use mathlib.Core.Bool.{Bool, true, false, cond, false≢true}
+-- From the step at a part to the step in serials, forward and backward, and the step in place.
+use mathlib.Core.Path.{_≡_, refl, sym, _∙_}
+use mathlib.Core.Bool.{Bool, true, false, cond}
 use mathlib.Core.List.{List}
 use Prim.Native.Nat.{ℕ, _+_, _≤_, _<_}
+use native.Mathlib.Nat.{le-refl}
 use native.Mathlib.Numerals.{add-one}
 use native.Mathlib.Omega.{arith}
-use lib.Dec.{eqb}
+use lib.Dec.{eqb, leb}
 use lib.ListN.{length}
-use borrow.Author.Tests.{eq-eqb, ne-eqb}
+use borrow.Author.Tests.{eq-eqb, ne-eqb, le-ltb, le-leb, lt-leb}
+use Rattle.walsh.specs.Tests.{both}
 use Rattle.walsh.specs.Order.{Composition, countOf}
 use Rattle.walsh.specs.Serial.{serialOf, compositionOf}
+use Rattle.walsh.proofs.Cases.{on-test}
 use Rattle.walsh.proofs.Serials.{serial-composition}
 use Rattle.walsh.proofs.Successors.{successor-at, successor-none, predecessor-at, predecessor-none}
-use Rattle.step.specs.Advance.{advanceOf}
+use Rattle.step.specs.Advance.{advanceOf, pivotOf, turnAt, turnOf, advanceAny, Advances}
 use Rattle.step.specs.Steps.{nextSerial}
-use Rattle.step.specs.Turn.{Moving, Turn}
+use Rattle.step.proofs.Pivots.{pivot-first}
+use Rattle.step.proofs.Turns.{Moving, Turn, turned}
 
 pub way-reached : (back : Bool) (r w : ℕ) → w ≡ cond back (r + 1) r → r ≤ w
 way-reached true r w e = omega arith
@@ -43,15 +47,45 @@ module _ (ms : List ℕ) (r : ℕ) (g : List ℕ) (valid : Composition ms r g) w
   way-off true h t = eq-eqb s 1 (predecessor-none ms r g valid .0 ((rw add-one at t) .off refl .0))
   way-off false h t = eq-eqb s (countOf ms r) (successor-none ms r g valid .0 (t .off refl .0))
 
-  -- the step in place
-  pub advanced : (b : Bool) (h : List ℕ) → Turn ms r g b h → _≡_ {A = Bool × List ℕ} (b, h) (advanceOf ms r g)
+  forward : (b : Bool) (h : List ℕ) → Turn ms r g b h → _≡_ {A = Bool × List ℕ} (b, h) (advanceOf ms r g)
   unfolding advanceOf
-  advanced true h t = let on = way-on false h t in rw (on .0, on .1)
-  advanced false h t = rw (way-off false h t, t .off refl .1)
+  forward true h t = let on = way-on false h t in rw (on .0, on .1)
+  forward false h t = rw (way-off false h t, t .off refl .1)
 
-  -- no parts: the only composition
-  pub advanced-none : length ms ≡ 0 → _≡_ {A = Bool × List ℕ} (false, g) (advanceOf ms r g)
-  advanced-none e = advanced false g (record { on = λ t. absurd (false≢true t); off = λ t. (λ j l. absurd (omega arith), refl) })
+  -- the turn of a composition is the step to the next
+  pub turn-forward : turnOf ms r g ≡ advanceOf ms r g
+  turn-forward = forward (turnOf ms r g .0) (turnOf ms r g .1) (turned ms r g (moving r (le-refl r)))
+
+-- ---- the step in place
+
+module _ (ms : List ℕ) (r : ℕ) (g : List ℕ) where
+  pub any-none : length ms ≡ 0 → _≡_ {A = Bool × List ℕ} (false, g) (advanceAny ms r g)
+  unfolding advanceAny turnAt
+  any-none e =
+      let p : length ms ≤ pivotOf ms r g = omega (arith, pivot-first ms r g .low) in
+      on-test (both (leb (length ms) 24) (eqb (length g) (length ms)))
+      (λ t. rw (t, le-ltb (pivotOf ms r g) (length ms) p))
+      (λ t. rw t)
+
+  pub any-many : 24 < length ms → _≡_ {A = Bool × List ℕ} (false, g) (advanceAny ms r g)
+  unfolding advanceAny
+  any-many l = rw (lt-leb (length ms) 24 l)
+
+  pub any-other : length ms ≤ 24 → (length g ≡ length ms → ⊥) → _≡_ {A = Bool × List ℕ} (false, g) (advanceAny ms r g)
+  unfolding advanceAny
+  any-other few ne = rw (le-leb (length ms) 24 few, ne-eqb (length g) (length ms) ne)
+
+  pub any-turn : length ms ≤ 24 → length g ≡ length ms → turnOf ms r g ≡ advanceAny ms r g
+  unfolding advanceAny
+  any-turn few e = rw (le-leb (length ms) 24 few, eq-eqb (length g) (length ms) e)
+
+  -- the equation for all bytes says of a composition that the next one is left
+  pub advances : {b : Bool} {h : List ℕ} → _≡_ {A = Bool × List ℕ} (b, h) (advanceAny ms r g) → Advances ms r g b h
+  advances e =
+      record {
+        always = e;
+        next = λ few valid. e ∙ sym (any-turn few (valid .size)) ∙ turn-forward ms r g valid;
+      }
 
 -- from the composition of a serial below N
 pub advance-serial : (ms : List ℕ) (r s : ℕ) → 0 < s → s < countOf ms r

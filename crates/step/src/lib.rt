@@ -12,17 +12,17 @@ use walsh::next_value;
 use walsh::over;
 use walsh::wide;
 ghost use mathlib.Core.Path.{_≡_};
-ghost use mathlib.Core.Bool.{cond};
-ghost use mathlib.Core.List.{_++_};
-ghost use Prim.Native.Nat.{_+_, _≤_, _<_};
+ghost use mathlib.Core.Bool.{Bool, cond};
+ghost use mathlib.Core.List.{List, _++_};
+ghost use Prim.Native.Nat.{ℕ, _+_, _≤_, _<_};
 ghost use lib.Dec.{ltb};
 ghost use lib.ListN.{length, drop};
 ghost use Rattle.walsh.specs.Sums.{sumTo};
 ghost use Rattle.walsh.specs.Step.{firstOf};
 ghost use Rattle.bounds.specs.Edition.{blank};
 ghost use Rattle.step.specs.Steps.{stepOf, successorOf, predecessorOf};
-ghost use Rattle.step.specs.Advance.{Advances};
-ghost use Rattle.step.specs.Turn.{Found-at, Turned, Shifted};
+ghost use Rattle.step.specs.Advance.{turnOf, Advances};
+ghost use Rattle.step.specs.Turn.{PivotAt, shiftedBy};
 
 // A composition in 24 cells, or a refusal's number and detail with all else 0.
 #[repr(C)]
@@ -33,7 +33,7 @@ pub struct Stepped {
 }
 
 // Part `at`, the sum of the bounds to its left, that of the parts up to it, itself included, and that of the parts to its right.
-struct Found {
+struct PivotSums {
     at: usize,
     left: usize,
     sum: usize,
@@ -48,9 +48,9 @@ fn moves(v: usize, lo: usize, hi: usize, falling: bool) -> bool
 }
 
 // The first part that is not at its last value, or their number. Part 0 has one value only, what the others leave.
-fn pivot(upper: &[u8], total: usize, parts: &[u8]) -> Found
+fn pivot(upper: &[u8], total: usize, parts: &[u8]) -> PivotSums
     requires { ⌜ (0 < length (now upper)) × (length (now upper) ≤ 24) × (length (now parts) ≡ length (now upper)) ⌝ }
-    ensures { λ r. ⌜ Found-at (now (upper .entry)) total (now (parts .entry)) r ⌝ }
+    ensures { λ r. ⌜ PivotAt (now (upper .entry)) total (now (parts .entry)) r ⌝ }
 {
     let mut left = wide(upper[0]);
     let mut sum = wide(parts[0]);
@@ -61,7 +61,7 @@ fn pivot(upper: &[u8], total: usize, parts: &[u8]) -> Found
         sum += v;
         let right = over(total, sum);
         if moves(v, over(sum, left), lesser(m, sum), is_odd(right)) {
-            return Found {
+            return PivotSums {
                 at: i,
                 left,
                 sum,
@@ -71,7 +71,7 @@ fn pivot(upper: &[u8], total: usize, parts: &[u8]) -> Found
         left += m;
         i += 1;
     }
-    Found {
+    PivotSums {
         at: i,
         left,
         sum,
@@ -101,11 +101,11 @@ fn refill(upper: &[u8], k: usize, left: usize, rest: usize, right: usize, parts:
     parts[0] = rem as u8;
 }
 
-// Makes the step in place and answers true, or answers false and changes nothing where every part is at its last value. It goes forward where
-// `total` is the total, backward where it is one more. Where the parts are no composition, the rest may not fit: then false too.
+// Makes the step in place and answers true, or answers false and changes nothing where no part can move. It goes forward where `total` is the
+// total, backward where it is one more. Where the parts are no composition, the rest may not fit: then false too.
 fn turn(upper: &[u8], total: usize, parts: &mut [u8]) -> bool
     requires { ⌜ (0 < length (now upper)) × (length (now upper) ≤ 24) × (length (now parts) ≡ length (now upper)) × (total ≤ 4294967296) ⌝ }
-    ensures { λ r. ⌜ Turned (now (upper .entry)) total (now (parts .entry)) r (now (parts .exit)) ⌝ }
+    ensures { λ r. ⌜ _≡_ {A = Bool × List ℕ} (r, now (parts .exit)) (turnOf (now (upper .entry)) total (now (parts .entry))) ⌝ }
 {
     let found = pivot(upper, total, parts);
     let i = found.at;
@@ -122,8 +122,8 @@ fn turn(upper: &[u8], total: usize, parts: &mut [u8]) -> bool
     true
 }
 
-// The forward step in place, for a caller that knows the parts to be a composition: true and the next composition, or false and nothing changed
-// where there is none. Parts that are no composition are left as they are or get some other values.
+// The forward step in place, for callers that hold a composition and need not have it checked: true and the next composition, or false and
+// nothing changed where there is none. What becomes of any other bytes is said too (specs/Advance).
 pub fn advance(upper: &[u8], total: u32, parts: &mut [u8]) -> bool
     ensures { λ r. ⌜ Advances (now (upper .entry)) total (now (parts .entry)) r (now (parts .exit)) ⌝ }
 {
@@ -165,7 +165,7 @@ fn side(total: u32, back: bool) -> usize
 // The step over a copy of the parts, in 24 cells; 9 where there is none.
 fn shift(upper: &[u8], total: usize, parts: &[u8]) -> Stepped
     requires { ⌜ (0 < length (now upper)) × (length (now upper) ≤ 24) × (length (now parts) ≡ length (now upper)) × (total ≤ 4294967296) ⌝ }
-    ensures { λ r. ⌜ Shifted (now (upper .entry)) total (now (parts .entry)) r ⌝ }
+    ensures { λ r. ⌜ r ≡ shiftedBy (turnOf (now (upper .entry)) total (now (parts .entry))) ⌝ }
 {
     let n = upper.len();
     let mut cells = bounds::pack(parts);

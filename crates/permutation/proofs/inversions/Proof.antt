@@ -24,7 +24,8 @@ returns-2 c =
     let args = checked .before .before .before .before .args in
     let is = checked .to-composition .ensures in
     let none = test .if1 .left in
-    let room = to-composition-ready byInversions (omega arith) (args .upper .now) (args .total) (args .permutation .now) _ _ (is .0) none (is .1 none) in
+    let room =
+    to-composition-ready byInversions (omega arith) (args .upper .now) (args .total) (args .permutation .now) _ _ (is .0) none (is .1 none) in
     filling-done _ _ _ (is .0) none (copied .copy .ensures ∙ copied-over _ _ room ∙ is .1 none)
 
 pub inversions-spec : {M : Type 1} → statement M

@@ -15,7 +15,7 @@ use Rattle.permutation.proofs.read_permutation.Tie as tie
 returns : tie.Need-returns
 unfolding firstRefusal
 returns c = let test = c .before .before in
-    let is = c .unread .ensures ∙ c .before .refused .ensures in
+    let is = c .without-vector .ensures ∙ c .before .refused .ensures in
     (simp (sym (test .before .is-permutation .ensures) ∙ not-true _ (test .if1 .taken)) is, λ none. absurd (refused-not is (omega arith) none))
 
 -- p is a permutation, and has an entry more than there are bounds
@@ -30,7 +30,7 @@ returns-2 : tie.Need-returns-2
 unfolding firstRefusal
 returns-2 c = let test = c .before .before in
     let found = test .before .before in
-    let is = c .unread2 .ensures ∙ c .before .refused2 .ensures in (
+    let is = c .without-vector2 .ensures ∙ c .before .refused2 .ensures in (
       simp (
         sym (found .before .before .is-permutation .ensures) ∙ not-false _ (found .before .if1 .left),
         ne-eqb _ _ (λ e. test .if2 .taken (found .find-inversions .ensures .1 ∙ e)),

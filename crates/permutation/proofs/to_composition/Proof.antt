@@ -11,7 +11,7 @@ use Rattle.permutation.proofs.to_composition.Tie as tie
 returns : tie.Need-returns
 returns c = let stairs = c .before .before .before in
     let some = c .before .if1 .taken in
-    let is = c .unread .ensures in
+    let is = c .without-vector .ensures in
     (is ∙ answer-first _ _ (stairs .staircase-refusal .ensures) some, λ none. absurd (some (number-of (sym is) ∙ none)))
 
 read-permutation-requires : tie.Need-read-permutation-requires

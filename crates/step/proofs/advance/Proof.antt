@@ -1,24 +1,23 @@
 -- `step::advance` meets its contract.
-use mathlib.Core.Path.{refl}
-use native.Mathlib.Nat.{le-refl}
+use mathlib.Core.Path.{_∙_}
 use native.Mathlib.Omega.{arith}
 use borrow.Author.Needs.{needs}
-use Rattle.step.proofs.Ways.{moving, advanced, advanced-none}
+use Rattle.step.proofs.Ways.{any-none, any-many, any-other, any-turn, advances}
 use Rattle.step.proofs.advance.Statement.{statement}
 use Rattle.step.proofs.advance.Tie as tie
+
+returns-4 : tie.Need-returns-4
+returns-4 c =
+    let t = c .before .before in
+    advances _ _ _ (t .turn .ensures ∙ any-turn _ _ _ (omega arith) (omega (arith, t .before .before .if3 .left)))
 
 pub advance-spec : {M : Type 1} → statement M
 advance-spec =
     tie.close
     (tie.spec
-    (λ c. record { next = λ few valid. advanced-none _ _ _ valid (c .if1 .taken); many = λ l. refl; other = λ ne. refl })
-    (λ c. record { next = λ few valid. absurd (omega arith); many = λ l. refl; other = λ ne. refl })
-    (λ c. record { next = λ few valid. absurd (c .if3 .taken (valid .size)); many = λ l. refl; other = λ ne. refl })
+    (λ c. advances _ _ _ (any-none _ _ _ (c .if1 .taken)))
+    (λ c. advances _ _ _ (any-many _ _ _ (omega arith)))
+    (λ c. advances _ _ _ (any-other _ _ _ (omega arith) (λ e. omega (arith, e, c .if3 .taken))))
     (λ c κs. search needs)
     (λ c. search needs)
-    (λ c.
-    record {
-      next = λ few valid. advanced _ _ _ valid _ _ (c .before .before .turn .ensures (moving _ _ _ valid _ (le-refl _)));
-      many = λ l. absurd (omega arith);
-      other = λ ne. absurd (ne (c .before .before .before .before .if3 .left));
-    }))
+    returns-4)

@@ -1,37 +1,26 @@
--- `step::pivot` meets its contract. Every part passed is at its last value.
-use Prim.Native.Nat.{ℕ, _-_, _*_, _≤_, _<_}
-use mathlib.Core.Path.{_≡_, sym, _∙_}
+-- `step::pivot` meets its contract. The search from part i on finds what the whole search finds.
+use Prim.Native.Nat.{_-_, _*_, _≤_, _<_}
+use mathlib.Core.Path.{_≡_, refl, sym, _∙_}
 use native.Mathlib.Omega.{arith}
 use lib.ListN.{length}
-use borrow.Author.Count.{below-more}
 use borrow.Author.Needs.{needs}
 use Rattle.walsh.specs.Sums.{sumTo}
-use Rattle.walsh.specs.Step.{AtLast}
 use Rattle.walsh.proofs.Lists.{sumTo-step}
-use Rattle.step.specs.Turn.{Moving, canMove}
-use Rattle.step.proofs.Turns.{part-stays, first-stays, can-here}
+use Rattle.step.specs.Advance.{canMove, movingFrom, pivotOf}
+use Rattle.step.proofs.Pivots.{moving-stop, moving-on, moving-end, can-here}
 use Rattle.step.proofs.pivot.Statement.{statement}
 use Rattle.step.proofs.pivot.Tie as tie
 
 abbrev Inv-loop : tie.InvT-loop
 Inv-loop upper total parts left₀ sum₀ i₀ left sum i =
     (0 < i) × (i ≤ length upper) × (left ≡ sumTo upper i) × (sum ≡ sumTo parts i) × (left ≤ 255 * i) × (sum ≤ 255 * i)
-    × (Moving upper total parts → (j : ℕ) → j < i → AtLast upper total parts j)
+    × (movingFrom upper total parts i (length upper - i) ≡ pivotOf upper total parts)
 
 abbrev μ-loop : tie.MeasureT-loop
 μ-loop upper total parts left₀ sum₀ i₀ left sum i = length upper - i
 
 loop-holds : tie.Need-loop-holds Inv-loop μ-loop
-loop-holds c =
-    let start = c .before .before .before .before .before .before in (
-      omega arith,
-      omega arith,
-      omega arith,
-      omega arith,
-      omega arith,
-      omega arith,
-      first-stays (start .args .upper .now) (start .args .total) (start .args .parts .now) (start .pre .0),
-    )
+loop-holds c = (omega arith, omega arith, omega arith, omega arith, omega arith, omega arith, refl)
 
 -- what the calls of a turn answer is whether the part can move
 here : (c : tie.After-moves Inv-loop μ-loop) →
@@ -71,15 +60,14 @@ returns : tie.Need-returns Inv-loop μ-loop
 returns c =
     let part = c .before .before .before .before .before .before in
     let turn = part .before .before .before .before .before in
+    let start = turn .before .before .before .before .before .before .before in
+    let inside : turn .loop .i < length (start .args .upper .now) = omega (arith, part .before .before .before .before .loop-test .taken) in
     record {
-      some = turn .loop .inv .0;
-      within = turn .loop .inv .1;
+      first = moving-stop _ _ _ (turn .loop .i) inside (sym (here (c .before)) ∙ c .if1 .taken) ∙ turn .loop .inv .6;
       left = turn .loop .inv .2;
       small = turn .loop .inv .4;
       sum = λ l. omega (arith, part .wide4 .ensures);
       right = λ l. c .before .before .before .before .before .over .ensures ∙ (omega (arith, part .wide4 .ensures));
-      moves = λ l. sym (here (c .before)) ∙ c .if1 .taken;
-      done = turn .loop .inv .6;
     }
 
 loop-again : tie.Need-loop-again Inv-loop μ-loop
@@ -98,22 +86,18 @@ loop-again c =
       omega (arith, sumTo-step g i),
       omega arith,
       omega arith,
-      λ m. below-more (AtLast ms (start .args .total) g) i (turn .loop .inv .6 m)
-          (part-stays ms (start .args .total) g i inside (sym (here (c .before)) ∙ c .if1 .left) m),
+      moving-on ms (start .args .total) g i inside (sym (here (c .before)) ∙ c .if1 .left) ∙ turn .loop .inv .6,
     )
 
 returns-2 : tie.Need-returns-2 Inv-loop μ-loop
 returns-2 c =
     let turn = c .before in
     record {
-      some = turn .loop .inv .0;
-      within = turn .loop .inv .1;
+      first = moving-end _ _ _ (turn .loop .i) (omega arith) ∙ turn .loop .inv .6;
       left = turn .loop .inv .2;
       small = turn .loop .inv .4;
       sum = λ l. absurd (omega arith);
       right = λ l. absurd (omega arith);
-      moves = λ l. absurd (omega arith);
-      done = turn .loop .inv .6;
     }
 
 pub pivot-spec : {M : Type 1} → statement M

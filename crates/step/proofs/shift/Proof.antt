@@ -1,13 +1,15 @@
 -- `step::shift` meets its contract: the turn is made in n of 24 cells.
 use mathlib.Core.Path.{_≡_, sym, ap, _∙_}
-use mathlib.Core.Bool.{true, false}
+use mathlib.Core.Bool.{Bool}
+use mathlib.Core.List.{List}
+use Prim.Native.Nat.{ℕ}
 use native.Mathlib.Omega.{arith}
 use lib.ListN.{length, take}
 use lib.Seq.{take-all}
 use borrow.Author.Needs.{needs}
 use Rattle.bounds.specs.Edition.{cellsOf}
 use Rattle.bounds.proofs.Cells.{cells-back, cells-replaced}
-use Rattle.step.specs.Turn.{Turned}
+use Rattle.step.specs.Advance.{turnOf}
 use Rattle.step.proofs.shift.Statement.{statement}
 use Rattle.step.proofs.shift.Tie as tie
 
@@ -29,27 +31,23 @@ size : (c : tie.After-pack) →
     length (take n (c .pack .result)) ≡ n
 size c = ap length (lent c) ∙ c .before .before .before .pre .2
 
--- what the turn left
+-- what the turn answers and leaves
 turned : (c : tie.After-turn) →
     let a = c .before .before .before .before .before .args in
-    Turned (a .upper .now) (a .total) (a .parts .now) (c .turn .result) (c .turn .last .1 .1 .0)
+    _≡_ {A = Bool × List ℕ} (c .turn .result, c .turn .last .1 .1 .0) (turnOf (a .upper .now) (a .total) (a .parts .now))
 turned c = rw (lent (c .before .before)) at (c .turn .ensures)
 
 returns : tie.Need-returns
 returns c =
     let t = c .before .before in
     let p = t .before .before in
-    record {
-      on = true;
-      left = t .turn .last .1 .1 .0;
-      turned = rw (c .if1 .taken) at (turned t);
-      is = rw (packed p, cells-replaced _ (t .turn .last .1 .1 .0) _ (p .before .before .before .pre .2) (t .turn .kept .1 .1 .0 ∙ size p));
-    }
+    let h = t .turn .last .1 .1 .0 in
+    rw (← (turned t), c .if1 .taken, packed p, cells-replaced _ h _ (p .before .before .before .pre .2) (t .turn .kept .1 .1 .0 ∙ size p))
 
 returns-2 : tie.Need-returns-2
 returns-2 c =
     let t = c .before .before .before in
-    record { on = false; left = t .turn .last .1 .1 .0; turned = rw (c .before .if1 .left) at (turned t); is = c .stopped .ensures }
+    c .stopped .ensures ∙ rw (← (turned t), c .before .if1 .left)
 
 pub shift-spec : {M : Type 1} → statement M
 shift-spec =

@@ -48,8 +48,8 @@ returns-3 c =
     let g = given .composition-refusal in
     let e = given .before .before .before .bounds-refusal in
     let w = c .before .side in
-    step-shifted _ _ _ _ (e .result) (e .ensures) (omega arith) (g .result) (g .ensures) (omega arith)
-    (w .result) (w .ensures .0) (c .shift .result) (c .shift .ensures)
+    c .shift .ensures
+    ∙ step-shifted _ _ _ _ (e .result) (e .ensures) (omega arith) (g .result) (g .ensures) (omega arith) (w .result) (w .ensures .0)
 
 pub step-spec : {M : Type 1} → statement M
 step-spec =

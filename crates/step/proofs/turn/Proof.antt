@@ -1,54 +1,68 @@
--- `step::turn` meets its contract: law `moved` at the part that was found.
-use mathlib.Core.Path.{refl, _∙_}
-use mathlib.Core.Bool.{false≢true}
+-- `step::turn` meets its contract: the laws of proofs/Turns at each return.
+use Prim.Native.Nat.{_≤_, _<_}
+use mathlib.Core.Path.{_≡_, _∙_}
 use native.Mathlib.Omega.{arith}
-use lib.ListN.{length-set}
+use lib.ListN.{length, getD, length-set}
 use borrow.Author.Needs.{needs}
-use Rattle.step.proofs.Turns.{Moved, moved}
+use Rattle.walsh.specs.Order.{isOdd}
+use Rattle.walsh.specs.Step.{nextValue}
+use Rattle.step.proofs.Turns.{found-some, found-within, found-small, turn-last, turn-over, turn-on}
 use Rattle.step.proofs.turn.Statement.{statement}
 use Rattle.step.proofs.turn.Tie as tie
 
--- nothing is changed where every part is at its last value
+-- no part can move
 returns : tie.Need-returns
-returns c =
-    let found = c .before .pivot .ensures in
-    λ m. record { on = λ t. absurd (false≢true t); off = λ t. (λ j l. found .done m j (omega arith), refl) }
+returns c = turn-last _ _ _ _ (c .before .pivot .ensures) (omega (arith, c .if1 .taken))
 
--- what is known of the part that was found and of its next value
-here : (c : tie.After-next-value) →
+-- the part that was found is one of the parts
+inside : (c : tie.After-next-value) →
+    let at = c .before .before .before .before in
+    at .pivot .result .at < length (at .before .before .before .before .args .upper .now)
+inside c =
+    let at = c .before .before .before .before in
+    omega (arith, found-within _ _ _ _ (at .pivot .ensures) (at .before .before .before .before .pre .0), c .before .before .before .if1 .left)
+
+-- its next value
+value : (c : tie.After-next-value) →
     let at = c .before .before .before .before in
     let start = at .before .before .before .before in
-    Moved (start .args .upper .now) (start .args .total) (start .args .parts .now) (at .pivot .result) (c .next-value .result)
-here c =
+    c .next-value .result ≡ nextValue (isOdd (at .pivot .result .right)) (getD (start .args .parts .now) (at .pivot .result .at) 0)
+value c = c .next-value .ensures ∙ rw (c .before .is-odd .ensures)
+
+small : (c : tie.After-next-value) →
+    let at = c .before .before .before .before in
+    let u = c .next-value .result in
+    (u ≤ 255) × (u ≤ at .pivot .result .sum) × (at .pivot .result .right ≤ at .before .before .before .before .args .total)
+small c =
     let known = c .before .before in
     let at = known .before .before in
-    let start = at .before .before .before .before in
-    let f = at .pivot .result in
-    moved
-    (start .args .upper .now)
-    (start .args .total)
-    (start .args .parts .now)
-    f
-    (at .pivot .ensures)
-    (omega (arith, at .pivot .ensures .within, known .before .if1 .left))
-    (start .pre .2)
-    (omega (arith, at .before .before .before .shared-slice-known .given (f .at)))
-    (omega (arith, known .slice-known2 .given (f .at)))
-    (c .next-value .result)
-    (c .next-value .ensures ∙ rw (c .before .is-odd .ensures))
+    let i = at .pivot .result .at in
+    found-small _ _ _ _ (at .pivot .ensures) (inside c) _ (value c)
+    (omega (arith, at .before .before .before .shared-slice-known .given i))
+    (omega (arith, known .slice-known2 .given i))
 
--- of a composition the rest fits
+-- the rest has no room
 returns-2 : tie.Need-returns-2
-returns-2 c = let p = here (c .before .before .before) in λ m. absurd (omega (arith, p .fits m))
+returns-2 c =
+    let next = c .before .before .before in
+    turn-over _ _ _ _ (next .before .before .before .before .pivot .ensures) (inside next) _ (value next) (omega arith)
 
 refill-requires : tie.Need-refill-requires
 refill-requires c κs =
-    let p = here (c .before .before .before .before .before) in
-    let at = c .before .before .before .before .before .before .before .before .before in
+    let next = c .before .before .before .before .before in
+    let at = next .before .before .before .before in
     let start = at .before .before .before .before in
     let found = at .pivot .ensures in
-    let same = length-set (start .args .parts .now) (at .pivot .result .at) (c .before .before .before .before .before .next-value .result) in
-    (found .some, found .within, omega (arith, same), found .left, omega arith, omega arith, omega arith)
+    let same = length-set (start .args .parts .now) (at .pivot .result .at) (next .next-value .result) in
+    let bytes = small next in (
+      found-some _ _ _ _ found,
+      omega (arith, inside next),
+      omega (arith, inside next, same, start .pre .2),
+      found .left,
+      omega arith,
+      omega (arith, inside next, found .small, start .pre .1),
+      omega arith,
+    )
 
 same-length-3 : tie.Need-same-length-3
 same-length-3 c =
@@ -59,9 +73,11 @@ same-length-3 c =
 
 returns-3 : tie.Need-returns-3
 returns-3 c =
-    let p = here (c .before .before .before .before .before .before .before .before) in
+    let next = c .before .before .before .before .before .before .before .before in
+    let at = next .before .before .before .before in
     let w = c .before .before .refill in
-    λ m. p .next m (w .last .1 .1 .1 .1 .1 .0) (w .ensures)
+    turn-on _ _ _ _ (at .pivot .ensures) (inside next) _ (value next) (at .before .before .before .before .pre .2) (omega arith)
+    (w .last .1 .1 .1 .1 .1 .0) (w .ensures)
 
 pub turn-spec : {M : Type 1} → statement M
 turn-spec =
@@ -70,15 +86,20 @@ turn-spec =
     (λ c κs. search needs)
     (λ c. search needs)
     returns
-    (λ c. search needs)
+    (λ c.
+    let at = c .before .before in
+    let start = at .before .before .before .before in
+    omega (arith, found-within _ _ _ _ (at .pivot .ensures) (start .pre .0), c .before .if1 .left, start .pre .2))
     (λ c κs. search needs)
     (λ c κs. search needs)
-    (λ c. here (c .before) .taken)
+    (λ c. small (c .before) .1)
     (λ c. search needs)
     returns-2
-    (λ c. omega (arith, here (c .before .before .before)))
-    (λ c. search needs)
-    (λ c. omega (arith, here (c .before .before .before .before)))
+    (λ c. omega (arith, small (c .before .before .before)))
+    (λ c.
+    let next = c .before .before .before in
+    omega (arith, inside next, next .before .before .before .before .before .before .before .before .pre .2))
+    (λ c. omega (arith, small (c .before .before .before .before)))
     refill-requires
     same-length-3
     returns-3)
