@@ -1,5 +1,5 @@
 #!/usr/bin/env python3
-"""scripts/build in a small repository with a kit that only pretends: what it says with and without a terminal, when it builds, and several at once."""
+"""scripts/build in a small repository, with a kit that only pretends: what it says with and without a terminal, when it builds, several at once."""
 import os
 import pty
 import shutil
@@ -115,8 +115,9 @@ class Building(unittest.TestCase):
         for _ in range(2):
             status, said = self.build("library")
             self.assertEqual(status, 1)
-            self.assertEqual(said.split("\n")[-3:], ["rt: middle NOT PROVED (exit 1, 0 s)",
-                                                     "huztiral: target/shared/libhuztiral.so is not built; target/build-library.log has all that was said", ""])
+            *_, cause, verdict, end = said.split("\n")
+            self.assertEqual((cause, end), ("rt: middle NOT PROVED (exit 1, 0 s)", ""))
+            self.assertEqual(verdict, "huztiral: target/shared/libhuztiral.so is not built; target/build-library.log has all that was said")
         self.assertEqual(self.read("calls"), "check base middle\n" * 2)
         os.remove(os.path.join(self.folder, "crates/middle/src/wrong"))
         self.assertEqual(self.build("library")[0], 0)
@@ -125,8 +126,8 @@ class Building(unittest.TestCase):
         several = [self.start("library") for _ in range(4)]
         said = [process.communicate()[1] for process in several]
         self.assertEqual([process.returncode for process in several], [0] * 4)
-        waited = [text for text in said if text == "huztiral: waiting for another build\n"]
-        self.assertEqual((len(waited), sum("is proved and built" in text for text in said)), (3, 1))
+        self.assertEqual(sum("is proved and built" in text for text in said), 1)
+        self.assertLessEqual({text for text in said if "is proved and built" not in text}, {"", "huztiral: waiting for another build\n"})
         self.assertEqual(self.times_built(), 2)
 
     def test_no_kit(self):
