@@ -8,7 +8,6 @@ import pickle
 import subprocess
 import tempfile
 import threading
-import time
 import unittest
 from array import array
 
@@ -171,14 +170,13 @@ class Threads(unittest.TestCase):
         register._ledger.next[:7] = edition.unrank(self.LINES + 1)
         return register
 
-    def race(self, register, seconds, threads=4):
-        """threads claim what they see until the time is over: whether the lines are exactly the claims that were accepted, each serial once"""
-        said, end, start = [], time.monotonic() + seconds, threading.Barrier(threads)
+    def race(self, register, turns, threads=4):
+        """threads claim what they see, so many times each: whether the lines are exactly the claims that were accepted, each serial once"""
+        said, start = [], threading.Barrier(threads)
 
-        def work(order):
+        def work(first):
             start.wait()
-            while time.monotonic() < end:
-                order += 1
+            for order in range(first, first + turns):
                 try:
                     said.append((register.claim(register.peek()[0], order)[0], order))
                 except Refused as refused:
@@ -190,10 +188,10 @@ class Threads(unittest.TestCase):
             worker.start()
         for worker in workers:
             worker.join()
-        return len(said) > threads and sorted(said) == list(enumerate(register.entries()[self.LINES:], self.LINES + 1))
+        return len(said) >= turns and sorted(said) == list(enumerate(register.entries()[self.LINES:], self.LINES + 1))
 
     def test_a_shared_register(self):
-        self.assertTrue(self.race(self.register(), 2))
+        self.assertTrue(self.race(self.register(), 1500))
 
     @unittest.skipIf(len(os.sched_getaffinity(0)) < 2, "two calls at the same time take two processors")
     def test_it_takes_the_lock(self):
@@ -201,7 +199,7 @@ class Threads(unittest.TestCase):
         for _ in range(50):
             register = self.register()
             register._lock = contextlib.nullcontext()
-            if not self.race(register, 0.2):
+            if not self.race(register, 200):
                 return
         self.fail("no race was seen without the lock")
 
