@@ -3,17 +3,19 @@
 import concurrent.futures
 import contextlib
 import copy
+import inspect
 import os
 import pickle
 import subprocess
 import tempfile
 import threading
+import typing
 import unittest
 from array import array
 
 import report
 from lent import huztiral
-from huztiral import Edition, Number, Refused
+from huztiral import Edition, Number, Refused, Register
 
 SEVEN = Edition([2, 2, 2], 3)  # seven mixes, of which [0, 2, 1] is the third
 PUZZLE = Edition([2, 1], 1)
@@ -202,6 +204,24 @@ class Threads(unittest.TestCase):
             if not self.race(register, 200):
                 return
         self.fail("no race was seen without the lock")
+
+
+class Hints(unittest.TestCase):
+    def test_all_is_typed_and_described(self):
+        package = huztiral._c, huztiral._editions, huztiral._refusals
+        functions = [f for m in package for _, f in inspect.getmembers(m, inspect.isfunction) if f.__module__ == m.__name__]
+        for owner in Edition, Register, Refused:
+            functions += [value.fget if isinstance(value, property) else value for value in vars(owner).values()
+                          if isinstance(value, property) or inspect.isfunction(value)]
+        self.assertGreater(len(functions), 30)
+        for function in functions:
+            names = [name for name in inspect.signature(function).parameters if name != "self"]
+            self.assertLessEqual({*names, "return"}, set(typing.get_type_hints(function)), function)
+        for owner in Edition, Register, Refused, Number:
+            for name, value in vars(owner).items():
+                if not name.startswith("_") and (isinstance(value, property) or inspect.isfunction(value)):
+                    self.assertTrue(value.__doc__, f"{owner.__name__}.{name}")
+            self.assertTrue(owner.__doc__)
 
 
 class Library(unittest.TestCase):

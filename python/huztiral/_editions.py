@@ -72,13 +72,15 @@ class Edition:
         return f"Edition({list(self._upper)}, {self._total})"
 
     def __eq__(self, other: object) -> bool:
-        return isinstance(other, Edition) and (self._upper, self._total) == (other._upper, other._total)
+        if not isinstance(other, Edition):
+            return NotImplemented
+        return (self._upper, self._total) == (other._upper, other._total)
 
     def __hash__(self) -> int:
         return hash((self._upper, self._total))
 
     def __reduce__(self) -> tuple[Any, ...]:
-        return Edition, (self._upper, self._total)
+        return type(self), (self._upper, self._total)
 
     def rank(self, composition: Iterable[SupportsIndex]) -> int:
         """the serial of a mix"""
