@@ -1,14 +1,23 @@
-/* README, "From C", says how to build it */
+/* Two workers sell from one register. README, "From C", says how to build and run it. */
 #include "huztiral.h"
+#include <inttypes.h>
 #include <stdio.h>
 
+static void sell(huz_ledger *ledger, uint32_t *orders, uint64_t serial, uint32_t order) {
+    huz_answer answer = huz_claim_in(ledger, orders, 2, serial, order);
+    if (answer.number == HUZ_ACCEPTED)
+        printf("serial %" PRIu64 " is [%d, %d]\n", answer.serial, answer.composition[0], answer.composition[1]);
+    else /* here HUZ_ALREADY_WRITTEN, whose detail is the order that has the serial */
+        printf("refused %" PRIu32 " order %" PRIu64 "\n", answer.number, answer.detail);
+}
+
 int main(void) {
-    uint8_t upper[2] = {1, 1};
+    const uint8_t upper[2] = {1, 1};
     uint32_t orders[2] = {0};
-    huz_ledger ledger = huz_open(upper, 2, 1, orders, 2).ledger;
-    uint64_t serial = huz_peek(ledger, orders, 2).serial; /* two workers look, and both see serial 1 */
-    huz_claimed first = huz_claim(ledger, orders, 2, serial, 1007);
-    huz_claimed second = huz_claim(first.ledger, orders, 2, serial, 1014);
-    printf("serial %lu is [%d, %d]\n", first.serial, first.composition[0], first.composition[1]);
-    printf("refused %u order %lu\n", second.number, second.detail);
+    huz_opened opened = huz_open(upper, 2, 1, orders, 2);
+    huz_peeked seen = huz_peek(opened.ledger, orders, 2); /* two workers look, and both see serial 1 */
+    if (opened.number != HUZ_ACCEPTED || seen.number != HUZ_ACCEPTED)
+        return 1;
+    sell(&opened.ledger, orders, seen.serial, 1007); /* the first takes it for order 1007 */
+    sell(&opened.ledger, orders, seen.serial, 1014); /* the second is refused, and learns who has it */
 }

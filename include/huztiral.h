@@ -4,11 +4,12 @@
  * own duties: each pointer leads to as many readable elements as the length passed after it says (a lent record is one;
  * with length 0 it may be NULL), and where it is not `const`, they are writable and overlap nothing else that is passed.
  *
- *   number   0 if the call was accepted, else the number of the refusal in document 01
- *   detail   what document 01 names for that refusal, else 0
+ *   number   HUZ_ACCEPTED (0), or why the call is refused: one of the names in enum huz_number. Look at it first.
+ *   detail   what the name's comment says, else 0
  *
  * A refused call changes no lent byte. Structures are passed and returned by value, except where a pointer is shown, and
- * are laid out by C's own rules on a 64-bit little-endian machine; crate `engine` has the same functions in Rattle.
+ * are laid out by C's own rules on a 64-bit little-endian machine; crate `engine` has the same functions in Rattle, and
+ * each structure says which one it is there. docs/REFUSALS.md has the refusals in a table, with the calls that give them.
  */
 #ifndef HUZTIRAL_H
 #define HUZTIRAL_H
@@ -19,9 +20,37 @@
 extern "C" {
 #endif
 
+#define HUZ_VERSION 900 /* of this header, 0.9.0: major * 10000 + minor * 100 + patch */
 #define HUZ_PARTS 24 /* the most kinds of an edition; the arrays in the structures have as many cells, and those past n are 0 */
 
-/* An edition, as a record keeps it: the number of kinds n, their ceilings, the total. */
+/* The numbers of answers: what each means, and its detail where that is not 0. */
+enum huz_number {
+    HUZ_ACCEPTED = 0,              /* the call is accepted */
+    HUZ_PARTS_OUT_OF_RANGE = 1,    /* the edition has no kinds, or more than 24 */
+    HUZ_UPPER_OUT_OF_RANGE = 2,    /* a ceiling is outside 1 to 60; detail: the first such kind, from 1 */
+    HUZ_TOTAL_OUT_OF_RANGE = 3,    /* the total is over 255 */
+    HUZ_TOTAL_ABOVE_SUM = 4,       /* the total is over the sum of the ceilings */
+    HUZ_COUNT_TOO_LARGE = 5,       /* the edition has more than 9,223,372,036,854,775,807 mixes */
+    HUZ_SERIAL_OUT_OF_RANGE = 6,   /* the serial is 0 or over the number of mixes, or a tray runs past the last mix */
+    HUZ_COMPOSITION_LENGTH = 7,    /* the mix given does not have one count for each kind */
+    HUZ_NOT_A_COMPOSITION = 8,     /* a count of the mix given is over its ceiling, or their sum is not the total */
+    HUZ_NO_NEIGHBOUR = 9,          /* no mix follows the last, and none stands before the first */
+    HUZ_NOT_A_STAIRCASE = 10,      /* the edition is no puzzle edition: its ceilings are not k-1, .., 2, 1 */
+    HUZ_NOT_A_PERMUTATION = 11,    /* the sheet order given is no permutation of 1 to k */
+    HUZ_INVERSIONS_NOT_TOTAL = 12, /* the inversions of the sheet order given are not as many as the total */
+    HUZ_OUTPUT_LENGTH = 13,        /* the memory lent for the answer is not exactly as long as the answer */
+    HUZ_COUNT_ABOVE_MILLION = 14,  /* the edition has more than 1,000,000 mixes */
+    HUZ_COLUMN_TOO_SHORT = 15,     /* the column has fewer entries than the edition has mixes */
+    HUZ_LEDGER_INCONSISTENT = 16,  /* the record and the column do not belong together */
+    HUZ_NO_ORDER = 17,             /* the order number is 0 */
+    HUZ_ALREADY_WRITTEN = 18,      /* the serial is already written; detail: the order number on its line, 0 if it is spoilt */
+    HUZ_ABOVE_NEXT = 19,           /* the serial is above the next one; detail: the next serial */
+    HUZ_ORDER_STANDS_EARLIER = 20, /* the order number stands on an earlier line; detail: the lowest serial that it has */
+    HUZ_ALL_WRITTEN = 21,          /* every serial is written */
+    HUZ_NOT_A_REQUEST = 22         /* the slip does not have the form that the listing program reads */
+};
+
+/* An edition, as a record keeps it: the number of kinds n, their ceilings, the total. (bounds::Bounds) */
 typedef struct {
     size_t parts;
     uint8_t upper[HUZ_PARTS];
@@ -29,7 +58,7 @@ typedef struct {
 } huz_bounds;
 
 /* The record of a register: its edition, how many lines are written, sold and spoilt, and the mix of the next serial (of
- * serial N when full). */
+ * serial N when full). (model::Ledger) */
 typedef struct {
     huz_bounds bounds;
     uint64_t entries, sold, voided;
@@ -38,11 +67,14 @@ typedef struct {
 
 /* Answers. In a refused one all fields but number and detail are 0, except that a refused huz_claim or huz_void answers
  * the record that went in. */
+
+/* Nothing but whether it was done. (bounds::Refusal) */
 typedef struct {
     uint32_t number;
     uint64_t detail;
 } huz_done;
 
+/* An edition's record and its number of mixes, N. (count::Checked) */
 typedef struct {
     uint32_t number;
     uint64_t detail;
@@ -50,25 +82,28 @@ typedef struct {
     uint64_t count;
 } huz_checked;
 
+/* A serial. (engine::Ranked) */
 typedef struct {
     uint32_t number;
     uint64_t detail;
     uint64_t serial;
 } huz_ranked;
 
+/* The mix one serial on or back. (step::Stepped) */
 typedef struct {
     uint32_t number;
     uint64_t detail;
     uint8_t composition[HUZ_PARTS];
 } huz_stepped;
 
+/* The record of a new register. (model::Opened) */
 typedef struct {
     uint32_t number;
     uint64_t detail;
     huz_ledger ledger;
 } huz_opened;
 
-/* of a look, and of a take or a spoil on a record that is lent */
+/* Of a look: the next serial and its mix. (model::Answer) */
 typedef struct {
     uint32_t number;
     uint64_t detail;
@@ -76,6 +111,15 @@ typedef struct {
     uint8_t composition[HUZ_PARTS];
 } huz_peeked;
 
+/* Of a take or a spoil on a lent record: the serial and its mix. (model::Answer) */
+typedef struct {
+    uint32_t number;
+    uint64_t detail;
+    uint64_t serial;
+    uint8_t composition[HUZ_PARTS];
+} huz_answer;
+
+/* Of a take or a spoil: the serial, its mix, and the record as it is now. (model::Claimed) */
 typedef struct {
     uint32_t number;
     uint64_t detail;
@@ -83,6 +127,9 @@ typedef struct {
     uint8_t composition[HUZ_PARTS];
     huz_ledger ledger;
 } huz_claimed;
+
+/* The version of the library that is linked, to be compared with HUZ_VERSION. */
+uint32_t huz_version(void);
 
 /* Editions, serials and mixes. `upper`, `parts` and `total` are the edition: its ceilings, how many they are (n), and the
  * total. Refusals are named in the order in which they are checked. */
@@ -110,7 +157,7 @@ huz_done huz_inversions(const uint8_t *upper, size_t parts, uint32_t total, cons
 
 /* The register. The caller keeps its record and its column: `orders` and `len` are the column of order numbers, where
  * orders[s - 1] is the line of serial s. Calls on one register come one after another, each with the record that the call
- * before it answered or updated. */
+ * before it answered or updated: threads and processes that share a register hold a lock of the caller's over each call. */
 
 /* Opens a register: a new record. The column needs N entries; none is written. Refusals: 1 to 5, 14, 15. */
 huz_opened huz_open(const uint8_t *upper, size_t parts, uint32_t total, const uint32_t *orders, size_t len);
@@ -122,8 +169,8 @@ huz_claimed huz_claim(huz_ledger ledger, uint32_t *orders, size_t len, uint64_t 
 huz_claimed huz_void(huz_ledger ledger, uint32_t *orders, size_t len, uint64_t serial);
 /* Take and spoil on a lent record: `ledger` points to it, and an accepted call updates it there. They answer what
  * huz_claim and huz_void answer, and both forms may be used in turn on one register. */
-huz_peeked huz_claim_in(huz_ledger *ledger, uint32_t *orders, size_t len, uint64_t serial, uint32_t order);
-huz_peeked huz_void_in(huz_ledger *ledger, uint32_t *orders, size_t len, uint64_t serial);
+huz_answer huz_claim_in(huz_ledger *ledger, uint32_t *orders, size_t len, uint64_t serial, uint32_t order);
+huz_answer huz_void_in(huz_ledger *ledger, uint32_t *orders, size_t len, uint64_t serial);
 /* How many lines are written, from the first entry of the column on; 0 where refusal 16 would be given. */
 uint64_t huz_entries(huz_ledger ledger, const uint32_t *orders, size_t len);
 

@@ -15,6 +15,7 @@ ANSWER(huz_ranked, 24); AT(huz_ranked, serial, 16);
 ANSWER(huz_stepped, 40); AT(huz_stepped, composition, 16);
 ANSWER(huz_opened, 104); AT(huz_opened, ledger, 16);
 ANSWER(huz_peeked, 48); AT(huz_peeked, serial, 16); AT(huz_peeked, composition, 24);
+ANSWER(huz_answer, 48); AT(huz_answer, serial, 16); AT(huz_answer, composition, 24);
 ANSWER(huz_claimed, 136); AT(huz_claimed, serial, 16); AT(huz_claimed, composition, 24); AT(huz_claimed, ledger, 48);
 
 static int failed;
@@ -34,49 +35,50 @@ int main(void) {
     const uint8_t upper[3] = {3, 2, 1}, composition[3] = {2, 1, 0}, given[4] = {2, 4, 1, 3}, wanted[4] = {3, 2, 1, 4};
     uint8_t out[6], order[4];
 
+    expect(huz_version() == HUZ_VERSION, "huz_version");
     huz_checked checked = huz_check(upper, 3, 3);
     huz_bounds bounds = checked.bounds;
     expect(checked.number == 0 && checked.count == 6 && bounds.parts == 3 && is(bounds.upper, 3, 2, 1) && bounds.total == 3, "huz_check");
     huz_ranked ranked = huz_rank(upper, 3, 3, composition, 3);
     expect(ranked.number == 0 && ranked.serial == 2, "huz_rank");
-    huz_done refusal = huz_unrank(upper, 3, 3, 4, out, 3);
-    expect(refusal.number == 0 && is(out, 0, 2, 1), "huz_unrank");
+    huz_done done = huz_unrank(upper, 3, 3, 4, out, 3);
+    expect(done.number == 0 && is(out, 0, 2, 1), "huz_unrank");
     huz_stepped stepped = huz_successor(upper, 3, 3, composition, 3);
     expect(stepped.number == 0 && is(stepped.composition, 1, 2, 0), "huz_successor");
     stepped = huz_predecessor(upper, 3, 3, composition, 3);
     expect(stepped.number == 0 && is(stepped.composition, 3, 0, 0), "huz_predecessor");
-    refusal = huz_batch(upper, 3, 3, 5, 2, out, 6);
-    expect(refusal.number == 0 && is(out, 1, 1, 1) && is(out + 3, 2, 0, 1), "huz_batch");
-    refusal = huz_permutation(upper, 3, 3, composition, 3, order, 4);
-    expect(refusal.number == 0 && memcmp(order, wanted, 4) == 0, "huz_permutation");
-    refusal = huz_inversions(upper, 3, 3, given, 4, out, 3);
-    expect(refusal.number == 0 && is(out, 1, 2, 0), "huz_inversions");
+    done = huz_batch(upper, 3, 3, 5, 2, out, 6);
+    expect(done.number == 0 && is(out, 1, 1, 1) && is(out + 3, 2, 0, 1), "huz_batch");
+    done = huz_permutation(upper, 3, 3, composition, 3, order, 4);
+    expect(done.number == 0 && memcmp(order, wanted, 4) == 0, "huz_permutation");
+    done = huz_inversions(upper, 3, 3, given, 4, out, 3);
+    expect(done.number == 0 && is(out, 1, 2, 0), "huz_inversions");
 
     const uint8_t two[2] = {1, 1};
     uint32_t orders[2] = {5, 5};
     huz_opened opened = huz_open(two, 2, 1, orders, 2);
     expect(opened.number == 0 && opened.ledger.entries == 0 && is(opened.ledger.next, 1, 0, 0), "huz_open");
-    huz_peeked answer = huz_peek(opened.ledger, orders, 2);
-    expect(answer.number == 0 && answer.serial == 1 && is(answer.composition, 1, 0, 0), "huz_peek");
+    huz_peeked peeked = huz_peek(opened.ledger, orders, 2);
+    expect(peeked.number == 0 && peeked.serial == 1 && is(peeked.composition, 1, 0, 0), "huz_peek");
     huz_claimed claimed = huz_claim(opened.ledger, orders, 2, 1, 1007);
     expect(claimed.number == 0 && claimed.serial == 1 && orders[0] == 1007 && claimed.ledger.sold == 1, "huz_claim");
     huz_claimed second = huz_claim(claimed.ledger, orders, 2, 1, 1014);
-    expect(second.number == 18 && second.detail == 1007 && second.ledger.entries == 1, "a second huz_claim");
+    expect(second.number == HUZ_ALREADY_WRITTEN && second.detail == 1007 && second.ledger.entries == 1, "a second huz_claim");
     claimed = huz_void(claimed.ledger, orders, 2, 2);
     expect(claimed.number == 0 && orders[1] == 0 && claimed.ledger.voided == 1, "huz_void");
     expect(huz_entries(claimed.ledger, orders, 2) == 2, "huz_entries");
 
     huz_ledger lent = opened.ledger, before;
     orders[0] = orders[1] = 5;
-    answer = huz_claim_in(&lent, orders, 2, 1, 1007);
+    huz_answer answer = huz_claim_in(&lent, orders, 2, 1, 1007);
     expect(answer.number == 0 && answer.serial == 1 && is(answer.composition, 1, 0, 0) && orders[0] == 1007 && lent.sold == 1, "huz_claim_in");
     memcpy(&before, &lent, sizeof lent);
     answer = huz_claim_in(&lent, orders, 2, 1, 1014);
-    expect(answer.number == 18 && answer.detail == 1007 && orders[0] == 1007 && orders[1] == 5, "a second huz_claim_in");
+    expect(answer.number == HUZ_ALREADY_WRITTEN && answer.detail == 1007 && orders[0] == 1007 && orders[1] == 5, "a second huz_claim_in");
     expect(memcmp(&before, &lent, sizeof lent) == 0, "the record after a refused huz_claim_in");
     answer = huz_void_in(&lent, orders, 2, 2);
     expect(answer.number == 0 && answer.serial == 2 && orders[1] == 0 && lent.voided == 1 && lent.entries == 2, "huz_void_in");
     if (!failed)
-        puts("smoke: 15 functions");
+        puts("smoke: 16 functions");
     return failed;
 }

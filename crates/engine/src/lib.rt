@@ -21,6 +21,9 @@ ghost use Rattle.permutation.specs.Conversions.{toPermutation, toComposition};
 ghost use Rattle.model.specs.Model.{Call};
 ghost use Rattle.model.specs.Record.{opening, answered, calling, entriesOf};
 ghost use Rattle.engine.specs.Ranks.{rankedOf};
+ghost use Rattle.engine.specs.Version.{version};
+
+const VERSION: u32 = 900;
 
 // A serial, or a refusal's number and detail with serial 0.
 #[repr(C)]
@@ -28,6 +31,14 @@ pub struct Ranked {
     pub number: u32,
     pub detail: u64,
     pub serial: u64,
+}
+
+// Which version of the interface this library has, for a caller that was built with another header.
+#[no_mangle]
+pub extern "C" fn huz_version() -> u32
+    ensures { λ r. ⌜ r ≡ version ⌝ }
+{
+    VERSION
 }
 
 #[no_mangle]

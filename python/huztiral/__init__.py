@@ -1,0 +1,31 @@
+"""Huztiral: editions of boxes, each a different mix of tiles, their serial numbers, and the register in which they are sold.
+
+    from huztiral import Edition, Number, Refused
+
+    edition = Edition([2, 2, 2], 3)         # three kinds of tile, at most two of each, three tiles in a box
+    edition.count                           # 7: so many mixes there are, and each is one copy
+    edition.unrank(3)                       # [0, 2, 1]: the mix of serial 3
+    edition.rank([0, 2, 1])                 # 3: and back
+
+    register = edition.open()
+    serial, mix = register.peek()           # the next copy; nothing is reserved
+    try:
+        register.claim(serial, 1007)        # sell it, for order 1007
+    except Refused as refused:
+        if refused.number == Number.ALREADY_WRITTEN:
+            print(refused)                  # serial 1 is already written, for order 1003
+
+An `Edition` never changes. A `Register` may be shared by threads: its calls come one after another. A call that cannot be done raises `Refused`
+and changes nothing. The engine behind it is proved; this package only hands values over to it (`include/huztiral.h`). The first import
+proves and builds it, which takes a few minutes; HUZTIRAL_LIBRARY may name a shared library that was built before.
+"""
+from ._c import (C, CELLS, Answer, Bounds, Checked, Claimed, Done, Ledger, Opened, Peeked, Ranked, Stepped, load, version_of)
+from ._editions import Edition, Register
+from ._refusals import Number, Refused
+
+__version__: str = version_of(C)
+__all__ = ["Edition", "Register", "Refused", "Number", "__version__"]
+
+for _public in Edition, Register, Refused, Number:  # so that messages and pickles name them as users do
+    _public.__module__ = __name__
+del _public

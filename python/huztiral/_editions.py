@@ -1,0 +1,195 @@
+"""Editions and registers, for daily use."""
+from __future__ import annotations
+
+import operator
+import threading
+from ctypes import c_uint8, c_uint32
+from typing import Any, Callable, Iterable, SupportsIndex
+
+from ._c import C, Ledger
+from ._refusals import Number, Refused, sentence
+
+_MOST_LINES = 1_000_000  # of a register
+
+
+def _fits(value: SupportsIndex, bits: int) -> int:
+    """the whole number itself, which C would cut to so many bits without a word"""
+    number = operator.index(value)
+    if not 0 <= number < 1 << bits:
+        raise OverflowError(f"{number} is not a number of {bits} bits, 0 to {(1 << bits) - 1}")
+    return number
+
+
+def _bytes(values: Iterable[SupportsIndex]) -> bytes:
+    """the values, each of which is a whole number of 0 to 255"""
+    if isinstance(values, (bytes, bytearray)):
+        return bytes(values)
+    numbers = []
+    for value in values:
+        number = operator.index(value)
+        if not 0 <= number <= 255:
+            raise ValueError(f"{number} is not a number of 0 to 255")
+        numbers.append(number)
+    return bytes(numbers)
+
+
+def _lent(values: bytes) -> tuple[Any, int]:
+    """bytes to lend, and how many"""
+    return (c_uint8 * len(values)).from_buffer_copy(values), len(values)
+
+
+class Edition:
+    """Ceilings, one for each kind of tile, and a total, the number of tiles in a box: every mix under the ceilings with that total is one copy.
+
+    There are 1 to 24 kinds, a ceiling is 1 to 60 and the total 0 to 255; what is no edition is refused. A mix is a list of counts, one for each
+    kind. Mixes may be given as any iterable of whole numbers, bytes too. An edition never changes; it can be pickled, compared and hashed.
+    """
+
+    __slots__ = ("_upper", "_total", "_count", "_given")
+
+    def __init__(self, upper: Iterable[SupportsIndex], total: SupportsIndex) -> None:
+        cells = _bytes(upper)
+        self._upper, self._total = tuple(cells), _fits(total, 32)
+        self._given = (*_lent(cells), self._total)
+        self._count: int = self._accepted(C.huz_check(*self._given)).count
+
+    @property
+    def upper(self) -> tuple[int, ...]:
+        """the ceilings"""
+        return self._upper
+
+    @property
+    def total(self) -> int:
+        """the number of tiles in a box"""
+        return self._total
+
+    @property
+    def count(self) -> int:
+        """N, the number of mixes; serials run from 1 to N"""
+        return self._count
+
+    def __repr__(self) -> str:
+        return f"Edition({list(self._upper)}, {self._total})"
+
+    def __eq__(self, other: object) -> bool:
+        if not isinstance(other, Edition):
+            return NotImplemented
+        return (self._upper, self._total) == (other._upper, other._total)
+
+    def __hash__(self) -> int:
+        return hash((self._upper, self._total))
+
+    def __reduce__(self) -> tuple[Any, ...]:
+        return type(self), (self._upper, self._total)
+
+    def rank(self, composition: Iterable[SupportsIndex]) -> int:
+        """the serial of a mix"""
+        given = _bytes(composition)
+        return self._accepted(C.huz_rank(*self._given, *_lent(given)), given=given).serial
+
+    def unrank(self, serial: SupportsIndex) -> list[int]:
+        """the mix of a serial"""
+        serial = _fits(serial, 64)
+        return list(self._filled(len(self._upper), C.huz_unrank, serial, serial=serial))
+
+    def successor(self, composition: Iterable[SupportsIndex]) -> list[int]:
+        """the mix one serial on"""
+        given = _bytes(composition)
+        return self._cells(self._accepted(C.huz_successor(*self._given, *_lent(given)), given=given, end="last"))
+
+    def predecessor(self, composition: Iterable[SupportsIndex]) -> list[int]:
+        """the mix one serial back"""
+        given = _bytes(composition)
+        return self._cells(self._accepted(C.huz_predecessor(*self._given, *_lent(given)), given=given, end="first"))
+
+    def batch(self, serial: SupportsIndex, copies: SupportsIndex) -> list[list[int]]:
+        """the mixes of so many serials, from `serial` on"""
+        serial, copies, n = _fits(serial, 64), _fits(copies, 64), len(self._upper)
+        there = 1 <= serial <= self._count
+        known = {"serial": serial, "copies": copies, "past": there}
+        if not there or copies > self._count - serial + 1:  # the engine refuses it before it looks at the tray: no memory is asked for
+            self._accepted(C.huz_batch(*self._given, serial, copies, None, 0), **known)
+        tray = bytes(self._filled(n * copies, C.huz_batch, serial, copies, **known))
+        return [list(tray[at:at + n]) for at in range(0, len(tray), n)]
+
+    def permutation(self, composition: Iterable[SupportsIndex]) -> list[int]:
+        """the sheet order of a mix, in a puzzle edition"""
+        given = _bytes(composition)
+        return list(self._filled(len(self._upper) + 1, C.huz_permutation, *_lent(given), given=given))
+
+    def inversions(self, permutation: Iterable[SupportsIndex]) -> list[int]:
+        """the mix of a sheet order, in a puzzle edition"""
+        given = _bytes(permutation)
+        return list(self._filled(len(self._upper), C.huz_inversions, *_lent(given), given=given))
+
+    def open(self) -> Register:
+        """a new register of this edition, with no lines"""
+        return Register(self)
+
+    def _cells(self, answer: Any) -> list[int]:
+        return list(answer.composition)[:len(self._upper)]
+
+    def _filled(self, size: int, function: Callable[..., Any], *arguments: Any, **known: Any) -> Any:
+        out = (c_uint8 * size)()
+        self._accepted(function(*self._given, *arguments, out, size), **known)
+        return out
+
+    def _accepted(self, answer: Any, **known: Any) -> Any:
+        """the answer, if it is none that refuses; known is what the call was given"""
+        if answer.number:
+            raise Refused(answer.number, answer.detail, self._sentence(Number(answer.number), answer.detail, known))
+        return answer
+
+    def _sentence(self, number: Number, detail: int, known: dict[str, Any]) -> str:
+        n, given = len(self._upper), list(known.pop("given", ()))
+        ceiling = self._upper[detail - 1] if number is Number.UPPER_OUT_OF_RANGE else 0
+        return sentence(number, detail, {
+            "kinds": n, "sheets": n + 1, "ceiling": ceiling, "total": self._total, "sum": sum(self._upper), "count": getattr(self, "_count", 0),
+            "given": given, "length": len(given), **known})
+
+
+class Register:
+    """The register of an edition, in memory: which order each serial was sold to. Serials are written one after another, from 1 on.
+
+    Threads may share it, for each call waits until the one before it is done. It cannot be copied or pickled: a copy of a register would sell
+    its serials again. Processes that share one need shared memory and a lock of their own (README, "One call after another").
+    """
+
+    def __init__(self, edition: Edition) -> None:
+        self._edition = edition
+        self._lock = threading.Lock()
+        self._orders = (c_uint32 * min(edition.count, _MOST_LINES))()
+        self._ledger: Ledger = edition._accepted(C.huz_open(*edition._given, self._orders, len(self._orders))).ledger
+
+    @property
+    def edition(self) -> Edition:
+        """the edition that it sells"""
+        return self._edition
+
+    def __reduce__(self) -> tuple[Any, ...]:
+        raise TypeError("a register cannot be copied or pickled: the copy would sell its serials again")
+
+    def peek(self) -> tuple[int, list[int]]:
+        """a look: the next serial and its mix. Nothing is reserved: another worker may take it first."""
+        return self._call(C.huz_peek)
+
+    def claim(self, serial: SupportsIndex, order: SupportsIndex) -> tuple[int, list[int]]:
+        """a take: the serial is sold to this order number, if it is the next one; the answer is the serial and its mix"""
+        serial, order = _fits(serial, 64), _fits(order, 32)
+        return self._call(C.huz_claim_in, serial, order, serial=serial, order=order)
+
+    def void(self, serial: SupportsIndex) -> tuple[int, list[int]]:
+        """a spoil: the serial is written off, if it is the next one, and its line is 0; the answer is the serial and its mix"""
+        serial = _fits(serial, 64)
+        return self._call(C.huz_void_in, serial, serial=serial)
+
+    def entries(self) -> list[int]:
+        """the order numbers of the lines so far, that of serial 1 first; 0 for a spoilt one"""
+        with self._lock:
+            return self._orders[:C.huz_entries(self._ledger, self._orders, len(self._orders))]
+
+    def _call(self, function: Callable[..., Any], *arguments: int, **known: int) -> tuple[int, list[int]]:
+        with self._lock:  # C is called without the interpreter's lock
+            answer = function(self._ledger, self._orders, len(self._orders), *arguments)
+        self._edition._accepted(answer, **known)
+        return answer.serial, self._edition._cells(answer)

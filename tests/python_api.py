@@ -1,0 +1,256 @@
+#!/usr/bin/env python3
+"""The Python package from a user's side: what it refuses and how it says so, its own errors, threads, processes, and the library that it loads."""
+import concurrent.futures
+import contextlib
+import copy
+import inspect
+import os
+import pickle
+import subprocess
+import tempfile
+import threading
+import typing
+import unittest
+from array import array
+
+import report
+from lent import huztiral
+from huztiral import Edition, Number, Refused, Register
+
+SEVEN = Edition([2, 2, 2], 3)  # seven mixes, of which [0, 2, 1] is the third
+PUZZLE = Edition([2, 1], 1)
+VAST = Edition([20] * 16, 120)  # some 10^18 mixes
+
+
+def claimed_twice(edition):
+    """for another process: the second claim is refused"""
+    register = edition.open()
+    register.claim(1, 1007)
+    register.claim(1, 1014)
+
+
+class Sentences(unittest.TestCase):
+    def refused(self, number, detail, text, function, *arguments):
+        with self.assertRaises(Refused) as caught:
+            function(*arguments)
+        refused = caught.exception
+        self.assertEqual((refused.number, refused.detail, refused.text, str(refused)), (number, detail, text, text))
+        self.assertIsInstance(refused.number, Number)
+
+    def test_editions(self):
+        self.refused(1, 0, "an edition has 1 to 24 kinds, and this one has 0", Edition, [], 3)
+        self.refused(1, 0, "an edition has 1 to 24 kinds, and this one has 25", Edition, [1] * 25, 3)
+        self.refused(2, 2, "the ceiling of kind 2 is 61, and a ceiling is 1 to 60", Edition, [2, 61, 0], 3)
+        self.refused(3, 0, "the total is 300, and a total is 0 to 255", Edition, [60] * 9, 300)
+        self.refused(4, 0, "the total is 5, and the ceilings sum up to 4", Edition, [2, 2], 5)
+        self.refused(5, 0, "the edition has more than 9,223,372,036,854,775,807 mixes", Edition, [60] * 24, 255)
+
+    def test_serials_and_mixes(self):
+        self.refused(6, 0, "there is no serial 8: the edition has 1 to 7", SEVEN.unrank, 8)
+        self.refused(6, 0, "there is no serial 0: the edition has 1 to 7", SEVEN.batch, 0, 1)
+        self.refused(6, 0, "3 copies from serial 6 on run past the last serial, 7", SEVEN.batch, 6, 3)
+        self.refused(7, 0, "a mix of this edition has 3 counts, and [1, 2] has 2", SEVEN.rank, [1, 2])
+        self.refused(8, 0, "[3, 0, 0] is no mix of this edition: a count is over its ceiling, or the sum is not 3", SEVEN.rank, [3, 0, 0])
+        self.refused(9, 0, "[0, 1, 2] is the last mix of the edition", SEVEN.successor, [0, 1, 2])
+        self.refused(9, 0, "[2, 1, 0] is the first mix of the edition", SEVEN.predecessor, [2, 1, 0])
+        self.refused(10, 0, "only a puzzle edition has sheet orders, and these ceilings are not 3, .., 2, 1", SEVEN.permutation, [2, 1, 0])
+        self.refused(11, 0, "[1, 2, 2] is no permutation of 1 to 3", PUZZLE.inversions, [1, 2, 2])
+        self.refused(12, 0, "[3, 2, 1] has another number of inversions than the total, 1", PUZZLE.inversions, [3, 2, 1])
+
+    def test_register(self):
+        self.refused(14, 0, "the edition has 92561040 mixes, and a register has at most 1000000", Edition([60] * 24, 10).open)
+        register = SEVEN.open()
+        register.claim(1, 1007)
+        register.void(2)
+        self.refused(17, 0, "an order number is not 0", register.claim, 3, 0)
+        self.refused(6, 0, "there is no serial 8: the edition has 1 to 7", register.claim, 8, 5)
+        self.refused(18, 1007, "serial 1 is already written, for order 1007", register.claim, 1, 1014)
+        self.refused(18, 0, "serial 2 is already written, as spoilt", register.void, 2)
+        self.refused(19, 3, "serial 5 is above the next serial, 3", register.void, 5)
+        self.refused(20, 1, "order 1007 already has serial 1", register.claim, 3, 1007)
+        for serial in range(3, 8):
+            register.void(serial)
+        self.refused(21, 0, "every serial is written", register.peek)
+        self.assertEqual(register.entries(), [1007, 0, 0, 0, 0, 0, 0])
+
+    def test_without_a_call(self):
+        self.assertEqual(str(Refused(18, 7)), "the serial is already written (the order number on its line, 0 if it is spoilt: 7)")
+        self.assertEqual(str(Refused(13)), Number.OUTPUT_LENGTH.meaning)
+        self.assertEqual(f"{Number.ALREADY_WRITTEN} {Number.ALREADY_WRITTEN!s}", "18 18")
+
+
+class Values(unittest.TestCase):
+    def test_a_number_is_no_mix(self):
+        for wrong in 3, 3.0, None, [0, 2.0, 1], "021", ["0", "2", "1"]:
+            with self.subTest(wrong):
+                self.assertRaises(TypeError, SEVEN.rank, wrong)
+                self.assertRaises(TypeError, Edition, wrong, 3)
+
+    def test_any_whole_numbers_are_a_mix(self):
+        for mix in [0, 2, 1], (0, 2, 1), bytes([0, 2, 1]), bytearray([0, 2, 1]), array("I", [0, 2, 1]), array("B", [0, 2, 1]), \
+                memoryview(array("Q", [0, 2, 1])), iter([0, 2, 1]), (c for c in [0, 2, 1]):
+            self.assertEqual(SEVEN.rank(mix), 3)
+        self.assertEqual(Edition(array("I", [2, 2, 2]), 3), SEVEN)
+        self.assertEqual(PUZZLE.inversions(array("H", [1, 3, 2])), [0, 1])
+
+    def test_no_byte(self):
+        for wrong in [256, 2, 1], [-1, 2, 1], [1 << 70, 2, 1]:
+            for function in SEVEN.rank, SEVEN.successor, SEVEN.predecessor, PUZZLE.permutation, PUZZLE.inversions:
+                self.assertRaises(ValueError, function, wrong)
+            self.assertRaises(ValueError, Edition, wrong, 3)
+
+    def test_too_many_bits(self):
+        register = SEVEN.open()
+        for wrong in -1, 1 << 64:
+            self.assertRaises(OverflowError, SEVEN.unrank, wrong)
+            self.assertRaises(OverflowError, SEVEN.batch, wrong, 1)
+            self.assertRaises(OverflowError, SEVEN.batch, 1, wrong)
+            self.assertRaises(OverflowError, register.claim, wrong, 5)
+            self.assertRaises(OverflowError, register.void, wrong)
+        for wrong in -1, 1 << 32:
+            self.assertRaises(OverflowError, Edition, [2, 2], wrong)
+            self.assertRaises(OverflowError, register.claim, 1, wrong)
+        for function, *arguments in (SEVEN.unrank, 1.0), (SEVEN.batch, 1, "2"), (register.claim, 1, None), (register.void, 1.0), (Edition, [2], 1.0):
+            self.assertRaises(TypeError, function, *arguments)
+        self.assertEqual(register.entries(), [])
+
+    def test_a_tray_that_is_refused_takes_no_memory(self):
+        for serial, copies in (0, 10 ** 9), (0, 1 << 60), (VAST.count, 1 << 60), (VAST.count + 1, 1 << 60), (1, VAST.count + 1), (0, 0):
+            with self.assertRaises(Refused) as caught:
+                VAST.batch(serial, copies)
+            self.assertEqual(caught.exception.number, Number.SERIAL_OUT_OF_RANGE)
+        self.assertEqual(SEVEN.batch(7, 0), [])
+        self.assertEqual(SEVEN.batch(6, 2), [[1, 0, 2], [0, 1, 2]])
+
+    def test_an_edition_does_not_change(self):
+        ceilings = [2, 2, 2]
+        edition = Edition(ceilings, 3)
+        ceilings[0] = 9
+        self.assertEqual((edition.upper, edition.total, edition.count, edition.rank([0, 2, 1])), ((2, 2, 2), 3, 7, 3))
+        for name in "upper", "total", "count", "more":
+            with self.assertRaises(AttributeError):
+                setattr(edition, name, 1)
+        with self.assertRaises(TypeError):
+            edition.upper[0] = 9
+        self.assertEqual((repr(edition), edition == SEVEN, len({edition, SEVEN}), edition == PUZZLE), ("Edition([2, 2, 2], 3)", True, 1, False))
+        register = edition.open()
+        with self.assertRaises(AttributeError):
+            register.edition = PUZZLE
+        self.assertEqual(register.edition, SEVEN)
+
+
+class Processes(unittest.TestCase):
+    def test_copies(self):
+        refused = Refused(18, 1007, "serial 212 is already written, for order 1007")
+        pickled = [pickle.loads(pickle.dumps(refused, protocol)) for protocol in range(pickle.HIGHEST_PROTOCOL + 1)]
+        for again in copy.copy(refused), copy.deepcopy(refused), *pickled:
+            self.assertIs(type(again), Refused)
+            self.assertIs(again.number, Number.ALREADY_WRITTEN)
+            self.assertEqual((again.detail, again.text, str(again)), (1007, refused.text, refused.text))
+        again = pickle.loads(pickle.dumps(SEVEN))
+        self.assertEqual((again, again.count, again.unrank(3)), (SEVEN, 7, [0, 2, 1]))
+        for function in copy.copy, copy.deepcopy, pickle.dumps:
+            self.assertRaises(TypeError, function, SEVEN.open())
+
+    def test_a_pool_of_processes(self):
+        with concurrent.futures.ProcessPoolExecutor(1) as pool:
+            self.assertEqual(list(pool.map(SEVEN.unrank, [1, 3])), [[2, 1, 0], [0, 2, 1]])
+            with self.assertRaises(Refused) as caught:
+                pool.submit(claimed_twice, SEVEN).result()
+        self.assertEqual((caught.exception.number, str(caught.exception)), (18, "serial 1 is already written, for order 1007"))
+
+
+class Threads(unittest.TestCase):
+    LINES = 100_000  # so many that a call takes some 20 microseconds, all of them outside the interpreter's lock
+
+    def register(self):
+        """a register with LINES lines, as if each had been claimed"""
+        edition = Edition([9] * 7, 30)
+        register = edition.open()
+        register._orders[:self.LINES] = range(1, self.LINES + 1)
+        register._ledger.entries = register._ledger.sold = self.LINES
+        register._ledger.next[:7] = edition.unrank(self.LINES + 1)
+        return register
+
+    def race(self, register, turns, threads=4):
+        """threads claim what they see, so many times each: whether the lines are exactly the claims that were accepted, each serial once"""
+        said, start = [], threading.Barrier(threads)
+
+        def work(first):
+            start.wait()
+            for order in range(first, first + turns):
+                try:
+                    said.append((register.claim(register.peek()[0], order)[0], order))
+                except Refused as refused:
+                    if refused.number != Number.ALREADY_WRITTEN:
+                        said.append((0, refused.number))
+                        return
+        workers = [threading.Thread(target=work, args=(10_000_000 * n,)) for n in range(1, threads + 1)]
+        for worker in workers:
+            worker.start()
+        for worker in workers:
+            worker.join()
+        return len(said) >= turns and sorted(said) == list(enumerate(register.entries()[self.LINES:], self.LINES + 1))
+
+    def test_a_shared_register(self):
+        self.assertTrue(self.race(self.register(), 1500))
+
+    @unittest.skipIf(len(os.sched_getaffinity(0)) < 2, "two calls at the same time take two processors")
+    def test_it_takes_the_lock(self):
+        """the same without the lock goes wrong, so the test above would see that it is missing"""
+        for _ in range(50):
+            register = self.register()
+            register._lock = contextlib.nullcontext()
+            if not self.race(register, 200):
+                return
+        self.fail("no race was seen without the lock")
+
+
+class Hints(unittest.TestCase):
+    def test_all_is_typed_and_described(self):
+        package = huztiral._c, huztiral._editions, huztiral._refusals
+        functions = [f for m in package for _, f in inspect.getmembers(m, inspect.isfunction) if f.__module__ == m.__name__]
+        for owner in Edition, Register, Refused:
+            functions += [value.fget if isinstance(value, property) else value for value in vars(owner).values()
+                          if isinstance(value, property) or inspect.isfunction(value)]
+        self.assertGreater(len(functions), 30)
+        for function in functions:
+            names = [name for name in inspect.signature(function).parameters if name != "self"]
+            self.assertLessEqual({*names, "return"}, set(typing.get_type_hints(function)), function)
+        for owner in Edition, Register, Refused, Number:
+            for name, value in vars(owner).items():
+                if not name.startswith("_") and (isinstance(value, property) or inspect.isfunction(value)):
+                    self.assertTrue(value.__doc__, f"{owner.__name__}.{name}")
+            self.assertTrue(owner.__doc__)
+
+
+class Library(unittest.TestCase):
+    def library(self, folder, version, names):
+        """a shared library with such functions, which does nothing else"""
+        path = os.path.join(folder, "other.so")
+        source = "".join(f"unsigned {name}(void) {{ return {version}; }}\n" for name in names)
+        subprocess.run([os.environ.get("CC", "cc"), "-shared", "-fPIC", "-xc", "-", "-o", path], input=source, text=True, check=True)
+        return path
+
+    def test_version(self):
+        self.assertRegex(huztiral.__version__, r"^\d+\.\d+\.\d+$")
+        self.assertEqual(huztiral.__version__, huztiral.version_of(huztiral.C))
+
+    def test_another_library_is_refused(self):
+        names = list(huztiral._c.FUNCTIONS)
+        with tempfile.TemporaryDirectory() as folder:
+            path = self.library(folder, 10203, names)
+            with self.assertRaisesRegex(ImportError, f"other.so has version 1.2.3, and .*huztiral.h has {huztiral.__version__}"):
+                huztiral.load(path)
+            other = dict(os.environ, HUZTIRAL_LIBRARY=path, PYTHONPATH=os.path.join(huztiral._c.TOP, "python"))
+            said = subprocess.run(["python3", "-c", "import huztiral"], env=other, stderr=subprocess.PIPE, text=True)
+            self.assertEqual((said.returncode, said.stderr.split("\n")[-2][:12]), (1, "ImportError:"))
+        with tempfile.TemporaryDirectory() as folder:
+            with self.assertRaisesRegex(ImportError, "undefined symbol: huz_version"):
+                huztiral.load(self.library(folder, 900, names[1:]))
+            with self.assertRaisesRegex(ImportError, "no such file|cannot open"):
+                huztiral.load(os.path.join(folder, "none.so"))
+
+
+if __name__ == "__main__":
+    report.main("python")

@@ -1,0 +1,162 @@
+#!/usr/bin/env python3
+"""docs/REFUSALS.md against the header, the Python package and the engine: the same numbers, names and words; each call gives each number that the
+page says, and no call is said to give another; where two things are wrong, the one that is checked first is answered."""
+import os
+import re
+import subprocess
+import unittest
+
+import reference as ref
+import report
+from lent import Lent, call, huztiral, ledger_of
+
+TOP = os.path.dirname(os.path.dirname(os.path.abspath(__file__)))
+
+
+def read(*path):
+    with open(os.path.join(TOP, *path), encoding="utf-8") as file:
+        return file.read()
+
+
+def rows(heading):
+    """the rows of a table of the page, without its heading"""
+    lines = iter(read("docs", "REFUSALS.md").split("\n"))
+    for line in lines:
+        if line.startswith(heading):
+            next(lines)
+            break
+    table = []
+    for line in lines:
+        if not line.startswith("|"):
+            return table
+        table.append([cell.strip() for cell in line.strip("|").split("|")])
+
+
+def numbers(text):
+    """`1 to 3, 7` as a list"""
+    spans = [re.fullmatch(r"(\d+)(?: to (\d+))?", word).groups() for word in text.split(", ")]
+    return [n for first, last in spans for n in range(int(first), int(last or first) + 1)]
+
+
+TABLE = {int(number): (name, meaning, detail) for number, name, meaning, detail, _ in rows("| Number |")}
+GIVEN = {int(row[0]): row[4] for row in rows("| Number |")}
+CHECKS = {name: numbers(checks) for name, _, checks in rows("| Call |")}
+
+
+class Words(unittest.TestCase):
+    maxDiff = None
+
+    def test_numbers_in_turn(self):
+        self.assertEqual(list(TABLE), list(range(23)))
+
+    def test_header(self):
+        body = re.search(r"enum huz_number \{(.*?)\};", read("include", "huztiral.h"), re.DOTALL).group(1)
+        said = re.findall(r"HUZ_(\w+) = (\d+),? +/\* (.*?)(?:; detail: (.*?))? \*/", body)
+        self.assertEqual({int(number): (name, meaning, detail) for name, number, meaning, detail in said}, TABLE)
+        self.assertEqual(body.count("="), len(TABLE))
+
+    def test_python(self):
+        self.assertEqual({int(n): (n.name, n.meaning, n.detail) for n in huztiral.Number}, TABLE)
+
+    def test_calls_of_each_number(self):
+        names = list(CHECKS)
+        for number, said in GIVEN.items():
+            calls = []
+            for span in filter(None, said.split(", ")):
+                first, _, last = span.partition(" to ")
+                calls += names[names.index(first):names.index(last or first) + 1]
+            self.assertEqual(sorted(calls), sorted(name for name in names if number in CHECKS[name]), number)
+
+    def test_order_of_each_call(self):
+        """what the header says before a function, which holds for those after it too until the next comment"""
+        said, checks, seen = read("include", "huztiral.h"), None, {}
+        functions = said[said.index("/* Editions, serials and mixes."):]
+        for comment, name in re.findall(r"/\*(.*?)\*/|^\w+ (huz_\w+)\(", functions, re.DOTALL | re.MULTILINE):
+            if name:
+                seen[name] = checks
+            else:
+                found = re.search(r"Refusals:([0-9, to]+)\.", comment.replace("\n *", ""))
+                checks = found and numbers(found.group(1).strip())
+        for name in "huz_claim", "huz_void":  # "they answer what huz_claim and huz_void answer"
+            self.assertIsNone(seen[name + "_in"])
+            seen[name + "_in"] = seen[name]
+        self.assertIsNone(seen.pop("huz_entries"))
+        self.assertEqual(seen, {name: checks for name, checks in CHECKS.items() if name != "list"})
+        self.assertEqual(set(huztiral._c.FUNCTIONS), {*seen, "huz_entries", "huz_version"})
+
+
+# ---- one call for each number that the page says it gives, with as many later faults as go together with it
+
+EDITIONS = (((), 300, 1, 0), ((0,) * 25, 300, 1, 0), ((2, 61, 0), 300, 2, 2), ((1,), 256, 3, 0), ((2, 2), 5, 4, 0), ((60,) * 24, 255, 5, 0))
+PUZZLE, SEVEN = ((3, 2, 1), 3), ((2, 2, 2), 3)
+LINES = [1007, 0]
+# of calls on an edition: what comes after it, a length for a lent answer; the number
+OTHERS = {
+    "huz_check": (),
+    "huz_rank": ((PUZZLE, (1, 1), 7), (PUZZLE, (3, 1, 0), 8), (PUZZLE, (2, 2, 0), 8)),
+    "huz_unrank": ((PUZZLE, 0, 1, 6), (PUZZLE, 7, 1, 6), (PUZZLE, 1, 2, 13), (PUZZLE, 6, 4, 13)),
+    "huz_successor": ((PUZZLE, (1, 1), 7), (PUZZLE, (3, 1, 0), 8), (PUZZLE, (2, 0, 1), 9)),
+    "huz_predecessor": ((PUZZLE, (1, 1), 7), (PUZZLE, (3, 1, 0), 8), (PUZZLE, (3, 0, 0), 9)),
+    "huz_batch": ((PUZZLE, 0, 1, 0, 6), (PUZZLE, 7, 0, 1, 6), (PUZZLE, 6, 2, 0, 6), (PUZZLE, 5, 2, 5, 13)),
+    "huz_permutation": ((SEVEN, (), 0, 10), (PUZZLE, (1, 1), 0, 7), (PUZZLE, (3, 1, 0), 0, 8), (PUZZLE, (2, 1, 0), 3, 13)),
+    "huz_inversions": ((SEVEN, (), 0, 10), (PUZZLE, (1, 2, 3), 0, 11), (PUZZLE, (1, 1, 2, 3), 0, 11), (PUZZLE, (4, 3, 2, 1), 0, 12),
+                       (PUZZLE, (2, 4, 1, 3), 4, 13)),
+    "huz_open": ((((60,) * 5, 150), 0, 14), (PUZZLE, 5, 15)),
+}
+ANYTHING = {"huz_check": (), "huz_unrank": (0, 1), "huz_batch": (0, 1, 7), "huz_permutation": ((), 0), "huz_inversions": ((), 0), "huz_open": (0,)}
+# of calls on a register of SEVEN with these LINES, next serial 3: the record and the column, what comes after them; number and detail
+SOUND, DAMAGED = (ref.record_of(*SEVEN, LINES), LINES + [9] * 5), (ref.record_of(*SEVEN, LINES), LINES + [9] * 4)
+FULL = (ref.record_of(*SEVEN, [5] * 7), [5] * 7)
+CLAIMS = ((DAMAGED, 0, 0, 16, 0), (SOUND, 0, 0, 17, 0), (SOUND, 1, 0, 17, 0), (SOUND, 0, 1007, 6, 0), (SOUND, 8, 1007, 6, 0),
+          (SOUND, 1, 1007, 18, 1007), (SOUND, 2, 1007, 18, 0), (SOUND, 4, 1007, 19, 3), (SOUND, 3, 1007, 20, 1))
+VOIDS = ((DAMAGED, 0, 16, 0), (SOUND, 0, 6, 0), (SOUND, 8, 6, 0), (SOUND, 1, 18, 1007), (SOUND, 2, 18, 0), (SOUND, 4, 19, 3))
+REGISTERS = {
+    "huz_peek": (((FULL[0], [5] * 6), 16, 0), (DAMAGED, 16, 0), (FULL, 21, 0)),
+    "huz_claim": CLAIMS, "huz_claim_in": CLAIMS, "huz_void": VOIDS, "huz_void_in": VOIDS,
+}
+SLIPS = (("0 0\n1000", 22), ("0 " * 24 + "0\n300", 1), ("2 61 0\n300", 2), ("1\n256", 3), ("2 2\n5", 4), ("60 " * 23 + "60\n255", 5),
+         ("60 60 60 60 60\n150", 14))
+
+
+def memory(name, arguments):
+    """the last number of a call that fills memory is its length; of an opening, the column's"""
+    parts = [Lent(a) if isinstance(a, tuple) else a for a in arguments]
+    if name in ("huz_unrank", "huz_batch", "huz_permutation", "huz_inversions"):
+        parts[-1] = Lent(bytes(arguments[-1]))
+    elif name == "huz_open":
+        parts[-1] = Lent([0] * arguments[-1], 4)
+    return parts
+
+
+class Calls(unittest.TestCase):
+    def said(self, name, *arguments):
+        return call(name, *arguments)[:2]
+
+    def test_editions(self):
+        for name, cases in OTHERS.items():
+            seen = set()
+            for upper, total, number, detail in EDITIONS:
+                rest = memory(name, ANYTHING.get(name, ((),)))
+                self.assertEqual(self.said(name, Lent(upper), total, *rest), (number, detail), (name, upper, total))
+                seen.add(number)
+            for (upper, total), *rest, number in cases:
+                self.assertEqual(self.said(name, Lent(upper), total, *memory(name, rest)), (number, 0), (name, rest))
+                seen.add(number)
+            self.assertEqual(seen, set(CHECKS[name]), name)
+
+    def test_registers(self):
+        for name, cases in REGISTERS.items():
+            for (record, column), *rest, number, detail in cases:
+                self.assertEqual(self.said(name, ledger_of(record), Lent(column, 4), *rest), (number, detail), (name, rest))
+            self.assertEqual({case[-2] for case in cases}, set(CHECKS[name]), name)
+        self.assertEqual(call("huz_entries", ledger_of(DAMAGED[0]), Lent(DAMAGED[1], 4)), (0,))
+
+    def test_listing(self):
+        for slip, number in SLIPS:
+            said = subprocess.run([os.path.join(TOP, "list")], input=f"mixes\n{slip}\n", stdout=subprocess.PIPE, text=True).stdout
+            self.assertEqual(said, f"refused {number}\n", slip)
+        self.assertEqual([number for _, number in SLIPS], CHECKS["list"])
+
+
+if __name__ == "__main__":
+    report.main("refusals")
