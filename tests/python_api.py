@@ -238,7 +238,7 @@ class Library(unittest.TestCase):
         self.assertEqual(huztiral.__version__, huztiral.version_of(huztiral.C))
 
     def test_another_library_is_refused(self):
-        names = list(huztiral._c.FUNCTIONS)
+        names = list(huztiral.FUNCTIONS)
         with tempfile.TemporaryDirectory() as folder:
             path = self.library(folder, 10203, names)
             with self.assertRaisesRegex(ImportError, f"other.so has version 1.2.3, and .*huztiral.h has {huztiral.__version__}"):
