@@ -104,7 +104,7 @@ class Interface(unittest.TestCase):
     def test_functions(self):
         functions = header_functions()
         python = {name: (self.python_type(answer), [self.python_type(kind) for kind in kinds])
-                  for name, (answer, kinds) in huztiral._c.FUNCTIONS.items()}
+                  for name, (answer, kinds) in huztiral.FUNCTIONS.items()}
         self.assertEqual(python, {name: (same(answer), [same(kind) for _, kind in given]) for name, (answer, given) in functions.items()})
         self.assertEqual(list(python), list(functions))
         # in Rattle a structure has the name that the header's comment says

@@ -7,6 +7,7 @@ import inspect
 import os
 import pickle
 import subprocess
+import sys
 import tempfile
 import threading
 import typing
@@ -237,13 +238,13 @@ class Library(unittest.TestCase):
         self.assertEqual(huztiral.__version__, huztiral.version_of(huztiral.C))
 
     def test_another_library_is_refused(self):
-        names = list(huztiral._c.FUNCTIONS)
+        names = list(huztiral.FUNCTIONS)
         with tempfile.TemporaryDirectory() as folder:
             path = self.library(folder, 10203, names)
             with self.assertRaisesRegex(ImportError, f"other.so has version 1.2.3, and .*huztiral.h has {huztiral.__version__}"):
                 huztiral.load(path)
             other = dict(os.environ, HUZTIRAL_LIBRARY=path, PYTHONPATH=os.path.join(huztiral._c.TOP, "python"))
-            said = subprocess.run(["python3", "-c", "import huztiral"], env=other, stderr=subprocess.PIPE, text=True)
+            said = subprocess.run([sys.executable, "-c", "import huztiral"], env=other, stderr=subprocess.PIPE, text=True)
             self.assertEqual((said.returncode, said.stderr.split("\n")[-2][:12]), (1, "ImportError:"))
         with tempfile.TemporaryDirectory() as folder:
             with self.assertRaisesRegex(ImportError, "undefined symbol: huz_version"):

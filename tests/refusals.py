@@ -82,7 +82,7 @@ class Words(unittest.TestCase):
             seen[name + "_in"] = seen[name]
         self.assertIsNone(seen.pop("huz_entries"))
         self.assertEqual(seen, {name: checks for name, checks in CHECKS.items() if name != "list"})
-        self.assertEqual(set(huztiral._c.FUNCTIONS), {*seen, "huz_entries", "huz_version"})
+        self.assertEqual(set(huztiral.FUNCTIONS), {*seen, "huz_entries", "huz_version"})
 
 
 # ---- one call for each number that the page says it gives, with as many later faults as go together with it

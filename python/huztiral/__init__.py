@@ -19,7 +19,7 @@ An `Edition` never changes. A `Register` may be shared by threads: its calls com
 and changes nothing. The engine behind it is proved; this package only hands values over to it (`include/huztiral.h`). The first import
 proves and builds it, which takes a few minutes; HUZTIRAL_LIBRARY may name a shared library that was built before.
 """
-from ._c import (C, CELLS, Answer, Bounds, Checked, Claimed, Done, Ledger, Opened, Peeked, Ranked, Stepped, load, version_of)
+from ._c import (C, CELLS, FUNCTIONS, Answer, Bounds, Checked, Claimed, Done, Ledger, Opened, Peeked, Ranked, Stepped, load, version_of)
 from ._editions import Edition, Register
 from ._refusals import Number, Refused
 

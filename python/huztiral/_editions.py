@@ -158,7 +158,8 @@ class Register:
     def __init__(self, edition: Edition) -> None:
         self._edition = edition
         self._lock = threading.Lock()
-        self._orders = (c_uint32 * min(edition.count, _MOST_LINES))()
+        lines = edition.count if edition.count <= _MOST_LINES else 0  # more are refused before the column is looked at
+        self._orders = (c_uint32 * lines)()
         self._ledger: Ledger = edition._accepted(C.huz_open(*edition._given, self._orders, len(self._orders))).ledger
 
     @property
