@@ -142,28 +142,24 @@ module _ {M : Type 1} (𝓤 : URA M) (H : Heap 𝓤) (A : Atoms 𝓤) (W : Given
 
   -- ---- the exit
 
-  -- what the lent record holds at exit
-  abbrev held : Claimed → Ledger
-  held r = r .ledger
-
-  held-is : (r : Claimed) (w : Val) → Is L.the-row h (valsL h) → Is K.the-row r (w ∷ []) → Is L.the-row (held r) (valsL (held r))
-  held-is r w was is = LL.owed K.the-type K′.the-laws r _ is .1 .0
-
-  -- a refused call stores nothing: that is the record lent
-  unchanged : (r : Claimed) (zs : List ℕ) → Did r zs → T (not (eqb (r .answer .number) 0)) → h ≡ held r
+  -- a refused call stores nothing: what comes back is the record lent
+  unchanged : (r : Claimed) (zs : List ℕ) → Did r zs → T (not (eqb (r .answer .number) 0)) → h ≡ r .ledger
   unchanged r zs e refused = refused-same h ys (Call.void asked) r zs e refused
+
+  ledger-is : (r : Claimed) (w : Val) → Is K.the-row r (w ∷ []) → Is L.the-row (r .ledger) (valsL (r .ledger))
+  ledger-is r w is = LL.owed K.the-type K′.the-laws r _ is .1 .0
 
   answer-is : (r : Claimed) (w : Val) → Is K.the-row r (w ∷ []) → Is N.the-row (r .answer) (LL.vals N.the-type N′.the-laws (r .answer))
   answer-is r w is = LL.owed K.the-type K′.the-laws r _ is .0
 
   exits : (r : Claimed) (zs : List ℕ) → Did r zs → length zs ≡ length ys → Is N.the-row (r .answer) (LL.vals N.the-type N′.the-laws (r .answer))
-      → ent 𝓤 (⋆ 𝓤 H A (‵ (fobs γ (L.the-row .coded .code (held r))) ∷ ‵ (fbor κ (Body (mem L.the-row) b o γ)) ∷ ‵ (flft κ q)
+      → ent 𝓤 (⋆ 𝓤 H A (‵ (fobs γ (L.the-row .coded .code (r .ledger))) ∷ ‵ (fbor κ (Body (mem L.the-row) b o γ)) ∷ ‵ (flft κ q)
       ∷ (‵ (flft κ′ q′) ⊛ ‵ ftrue) ∷ ‵ (finally u32 γ′ zs) ∷ [])) (Post (LL.val N.the-type N′.the-laws (r .answer)))
   exits r zs e l isN =
-      qed W (‵ (fobs γ (L.the-row .coded .code (held r))) ∷ ‵ (fbor κ (Body (mem L.the-row) b o γ)) ∷ ‵ (flft κ q)
+      qed W (‵ (fobs γ (L.the-row .coded .code (r .ledger))) ∷ ‵ (fbor κ (Body (mem L.the-row) b o γ)) ∷ ‵ (flft κ q)
       ∷ (‵ (flft κ′ q′) ⊛ ‵ ftrue) ∷ ‵ (finally u32 γ′ zs) ∷ []) ∵
       suffices ! _ (ends-at 𝓤 H A here.ended stayed (here.clauses 𝓤 H A at-mem run) W bound (LL.val N.the-type N′.the-laws (r .answer)) (r .answer)
-      (held r, (zs, (tt, tt))) (tt, (l, (tt, tt)))) $
+      (r .ledger, (zs, (tt, tt))) (tt, (l, (tt, tt)))) $
       says ! e $
       move ! (2 ∷ 3 ∷ []) $ join ! $ frame ! $ feqI ! (List Val) (vptr b o ∷ []) (vptr b o ∷ []) refl $ fjoin3 ! $
       nothing ! $
@@ -218,13 +214,13 @@ module _ {M : Type 1} (𝓤 : URA M) (H : Heap 𝓤) (A : Atoms 𝓤) (W : Given
         (from ! (stop !)) (init ! 10 refl (tt, tt)) $
         assigns-if ! (load ! (from ! (stop !)) (look ! 10 refl))
         (of-opd ! (load ! (from ! (fld ! refl (stop !))) (look-in ! 18 (sub ! 1 refl (whole !))))) (from ! (hop ! (look ! 24 refl) (stop !)))
-        (store-raw ! 5 refl (LL.lawful L.the-type L′.the-laws 𝓤 H A W .typed (r .ledger) _ (held-is r w was is) .0))
+        (store-raw ! 5 refl (LL.lawful L.the-type L′.the-laws 𝓤 H A W .typed (r .ledger) _ (ledger-is r w is) .0))
         (λ refused. rewrite ! 5 (λ (k : Ledger). ‵ (cellAt fullShare (L.the-row .mir) (valsL k) b o)) (unchanged r (zs .1 .0) e refused) refl) $
         assigns ! (of-opd ! (load ! (from ! (fld ! refl (stop !))) (look-in ! 18 (sub ! 0 refl (whole !))))) (from ! (stop !))
         (init ! 26 refl (LL.lawful N.the-type N′.the-laws 𝓤 H A W .typed (r .answer) _ (answer-is r w is) .0)) $
         -- the borrow is closed at it
-        owned ! L.the-row (Is L.the-row) (LL.makes L.the-type L′.the-plain 𝓤 H A) (held r) _ (held-is r w was is) $
-        move ! (6 ∷ 0 ∷ 8 ∷ 9 ∷ 10 ∷ []) $ closes ! tt L.the-row (held r) (valsL (held r)) b o $ returns ! (look ! 25 refl) $
+        owned ! L.the-row (Is L.the-row) (LL.makes L.the-type L′.the-plain 𝓤 H A) (r .ledger) _ (ledger-is r w is) $
+        move ! (6 ∷ 0 ∷ 8 ∷ 9 ∷ 10 ∷ []) $ closes ! tt L.the-row (r .ledger) (valsL (r .ledger)) b o $ returns ! (look ! 25 refl) $
         forget ! 9 refl $ forget ! 11 refl $ forget ! 13 refl $ forget ! 15 refl $ forget ! 17 refl $ forget ! 19 refl $
         forget ! 21 refl $ forget ! 23 refl $ forget ! 25 refl $
         move ! (25 ∷ 26 ∷ []) $ free1 ! $ move ! (23 ∷ 24 ∷ []) $ free1 ! $ move ! (21 ∷ 22 ∷ []) $ free1 ! $
