@@ -167,7 +167,8 @@ huz_peeked huz_peek(huz_ledger ledger, const uint32_t *orders, size_t len);
 huz_claimed huz_claim(huz_ledger ledger, uint32_t *orders, size_t len, uint64_t serial, uint32_t order);
 /* Spoil: writes 0 into the line of the serial. Refusals: 16, 6, 18, 19. */
 huz_claimed huz_void(huz_ledger ledger, uint32_t *orders, size_t len, uint64_t serial);
-/* Take and spoil on a lent record: `ledger` points to it, and an accepted call updates it there. They answer what
+/* Take and spoil on a lent record: `ledger` points to it, and an accepted call updates it there (the bytes between two
+ * fields may change as well); a refused call writes no byte, none between two fields either. They answer what
  * huz_claim and huz_void answer, and both forms may be used in turn on one register. */
 huz_answer huz_claim_in(huz_ledger *ledger, uint32_t *orders, size_t len, uint64_t serial, uint32_t order);
 huz_answer huz_void_in(huz_ledger *ledger, uint32_t *orders, size_t len, uint64_t serial);

@@ -1,5 +1,6 @@
 // Claim and void on a record that is lent (document 01, "The register": "the record is also lent to take and spoil, which update it there with the
-// same answers"). Each copies the record, calls the by-value core, and writes back the record that it answers.
+// same answers"). Each copies the record, calls the by-value core, and writes back the record that it answers, on acceptance alone: a refusal
+// writes nothing at all, no padding between the fields either, which no contract speaks of.
 use model::Answer;
 use model::Ledger;
 ghost use mathlib.Core.Path.{_≡_};
@@ -13,7 +14,9 @@ pub fn claim_in(ledger: &mut Ledger, orders: &mut [u32], serial: u64, order: u32
         ≡ calling (now (ledger .entry)) (now (orders .entry)) (Call.claim serial order) ⌝ }
 {
     let claimed = ledger::claim(*ledger, orders, serial, order);
-    *ledger = claimed.ledger;
+    if claimed.answer.number == 0 {
+        *ledger = claimed.ledger;
+    }
     claimed.answer
 }
 
@@ -24,6 +27,8 @@ pub fn void_in(ledger: &mut Ledger, orders: &mut [u32], serial: u64) -> Answer
         ≡ calling (now (ledger .entry)) (now (orders .entry)) (Call.void serial) ⌝ }
 {
     let voided = ledger::void(*ledger, orders, serial);
-    *ledger = voided.ledger;
+    if voided.answer.number == 0 {
+        *ledger = voided.ledger;
+    }
     voided.answer
 }
