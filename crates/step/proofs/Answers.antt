@@ -18,7 +18,6 @@ use Rattle.bounds.proofs.Compositions.{composition-passed}
 use Rattle.step.specs.Steps.{endChecks, nextSerial, stepOf}
 use Rattle.step.specs.Advance.{turnOf}
 use Rattle.step.specs.Turn.{shiftedBy}
-use Rattle.step.specs.declared.Stepped.{Stepped}
 use Rattle.step.proofs.Turns.{Turn, turned}
 use Rattle.step.proofs.Ways.{way-reached, moving, way-on, way-off}
 

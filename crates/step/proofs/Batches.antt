@@ -6,11 +6,10 @@ use native.Mathlib.Omega.{arith}
 use lib.Dec.{eqb, ltb}
 use lib.ListN.{length}
 use borrow.Author.Tests.{eqb-true, eqb-false, ltb-false, not-false}
-use Rattle.walsh.specs.Tests.{either}
 use Rattle.walsh.specs.Order.{countOf}
 use Rattle.bounds.specs.Refusal.{Check, firstRefusal}
 use Rattle.bounds.specs.Edition.{editionChecks}
-use Rattle.bounds.specs.Places.{lentChecks}
+use Rattle.bounds.specs.Places.{outside, lentChecks}
 use Rattle.bounds.specs.declared.Refusal.{Refusal}
 use Rattle.bounds.proofs.Refusals.{passed}
 use Rattle.bounds.proofs.Editions.{neither}
@@ -30,10 +29,10 @@ pub ranged : (all n s c have : ℕ) {v : Refusal} → v ≡ firstRefusal (rangeC
 ranged all n s c have e z =
     let p6 = passed _ _ refl (ap (λ (w : Refusal). w .number) (sym e) ∙ z) in
     let p13 = passed _ _ refl (p6 .2) in
-    let far = neither (either (eqb s 0) (ltb all s)) (ltb (all - s + 1) c) (p6 .0) in
-    let outside = neither (eqb s 0) (ltb all s) (far .0) in
-    let least = eqb-false s 0 (outside .0) in
-    let most = ltb-false all s (outside .1) in
+    let far = neither (outside all s) (ltb (all - s + 1) c) (p6 .0) in
+    let inside = neither (eqb s 0) (ltb all s) (far .0) in
+    let least = eqb-false s 0 (inside .0) in
+    let most = ltb-false all s (inside .1) in
     let last = ltb-false (all - s + 1) c (far .1) in
     record { some = omega arith; within = most; few = omega arith; room = eqb-true have (c * n) (not-false _ (p13 .0)) }
 

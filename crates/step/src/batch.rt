@@ -181,11 +181,11 @@ pub fn batch(upper: &[u8], total: u32, serial: u64, copies: u64, out: &mut [u8])
     if 0 < first.number {
         return refused(first.number, first.detail);
     }
-    let room = room_refusal(first.count, upper.len(), serial, copies, out.len());
-    if 0 < room.number {
-        return room;
+    let answer = room_refusal(first.count, upper.len(), serial, copies, out.len());
+    if 0 < answer.number {
+        return answer;
     }
     let parts = first.composition;
     write(upper, total as usize, parts, copies, out);
-    room
+    answer
 }

@@ -40,14 +40,14 @@ struct PivotSums {
     right: usize,
 }
 
-// v is not the last of the values lo..hi.
+// v can move on: it is above lo where it falls, below hi where it rises.
 fn moves(v: usize, lo: usize, hi: usize, falling: bool) -> bool
     ensures { λ r. ⌜ r ≡ cond falling (ltb lo v) (ltb v hi) ⌝ }
 {
     if falling { lo < v } else { v < hi }
 }
 
-// The first part that is not at its last value, or their number. Part 0 has one value only, what the others leave.
+// The first part that can move, or their number. Part 0 has one value only, what the others leave.
 fn pivot(upper: &[u8], total: usize, parts: &[u8]) -> PivotSums
     requires { ⌜ (0 < length (now upper)) × (length (now upper) ≤ 24) × (length (now parts) ≡ length (now upper)) ⌝ }
     ensures { λ r. ⌜ PivotAt (now (upper .entry)) total (now (parts .entry)) r ⌝ }
