@@ -5,24 +5,23 @@ use mathlib.Core.Bool.{true}
 use mathlib.Core.List.{List, [], _∷_, _++_}
 use Prim.Native.Nat.{ℕ, _+_, _-_, _≤_, _<_, min}
 use native.Mathlib.Omega.{arith}
-use lib.Dec.{eqb, ltb}
 use lib.ListN.{length, getD}
 use lib.Seq.{getD-take}
 use borrow.Author.Tests.{lt-ltb, le-ltb, eq-eqb, ne-eqb}
-use Rattle.walsh.specs.Tests.{either}
 use Rattle.walsh.proofs.Cases.{on-test}
 use Rattle.bounds.specs.Refusal.{refused, firstRefusal}
+use Rattle.bounds.specs.Places.{outside, noSerial}
 use Rattle.bounds.specs.declared.Refusal.{Refusal}
 use Rattle.bounds.proofs.Refusals.{refusal-here, refusal-next, refusal-first, refusal-later, by-acceptance}
 use Rattle.model.specs.declared.Answer.{Answer}
 use Rattle.model.specs.declared.Ledger.{Ledger}
 use Rattle.model.specs.Basics.{indexOf}
-use Rattle.model.specs.Model.{Call, peek, claim, void, next, noOrder, noSerial, alreadyWritten, aboveNext, standsEarlier}
-use Rattle.model.specs.Model.{placeChecks, callChecks, answerBy, answer}
+use Rattle.model.specs.Model.{Call, peek, claim, void, next, noOrder, alreadyWritten, aboveNext, standsEarlier}
+use Rattle.model.specs.Model.{placeChecks, callChecks, given, refusedWith, answerBy, answer}
 use Rattle.model.specs.Record.{compositionsOf, written, consistent, answered}
 use Rattle.model.specs.Trace.{writes, named}
-use Rattle.model.proofs.Calls.{given, answer-number, peek-open, grant}
-use Rattle.model.proofs.Records.{parts, refusedWith, answered-16, answered-by}
+use Rattle.model.proofs.Calls.{answer-number, peek-open, grant}
+use Rattle.model.proofs.Records.{parts, answered-16, answered-by}
 
 -- the answer of the checks of a serial alone, which is that of a void
 abbrev pub placed : List (List ℕ) → List ℕ → ℕ → Answer
@@ -31,9 +30,9 @@ placed gs l s = answer gs l (void s)
 module _ (gs : List (List ℕ)) (l : List ℕ) where
   -- ---- the checks of a serial
 
-  pub placed-outside : (s : ℕ) → either (eqb s 0) (ltb (length gs) s) ≡ true → placed gs l s ≡ refusedWith 6 0
+  pub placed-outside : (s : ℕ) → outside (length gs) s ≡ true → placed gs l s ≡ refusedWith 6 0
   unfolding answer
-  placed-outside s t = ap (λ (v : Refusal). answerBy v gs s) (refusal-here (noSerial gs s) _ t)
+  placed-outside s t = ap (λ (v : Refusal). answerBy v gs s) (refusal-here (noSerial (length gs) s) _ t)
 
   module _ (s : ℕ) (h : 1 ≤ s) (k : s ≤ length gs) where
     inside : firstRefusal (placeChecks gs l s) ≡ firstRefusal (alreadyWritten l s ∷ aboveNext l s ∷ [])
