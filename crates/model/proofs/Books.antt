@@ -12,7 +12,8 @@ use Rattle.model.specs.Model.{Call, peek, claim, void, blank, accepted, 
 use Rattle.model.specs.Trace.{writes, isClaim, isVoid, ordered, those, writers, serials, orders, answeredCompositions}
 use Rattle.model.specs.Trace.{peeked, Foretold, countFrom}
 use Rattle.model.proofs.Lists.{length-snoc}
-use Rattle.model.proofs.Calls.{grant, peek-open}
+use Rattle.model.proofs.Answers.{peek-open}
+use Rattle.model.proofs.Calls.{grant}
 
 module _ (gs : List (List ℕ)) where
   abbrev pub event : List ℕ → Call → Event

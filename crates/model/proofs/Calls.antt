@@ -7,8 +7,8 @@ use Prim.Native.Nat.{ℕ, _≤_, _<_}
 use native.Mathlib.Omega.{arith}
 use lib.Dec.{eqb, ltb}
 use lib.ListN.{length}
-use borrow.Author.Tests.{ltb-false, lt-ltb, le-ltb, eqb-true, eqb-false}
-use Rattle.walsh.proofs.Cases.{on-test, on-less}
+use borrow.Author.Tests.{ltb-false, lt-ltb, eqb-true, eqb-false}
+use Rattle.walsh.proofs.Cases.{on-less}
 use Rattle.bounds.specs.Refusal.{Check, firstRefusal}
 use Rattle.bounds.specs.Places.{outside}
 use Rattle.bounds.specs.declared.Refusal.{Refusal}
@@ -18,12 +18,9 @@ use Rattle.bounds.proofs.Chains.{Accepts}
 use Rattle.model.specs.declared.Answer.{Answer}
 use Rattle.model.specs.Basics.{indexOf}
 use Rattle.model.specs.Model.{Call, peek, claim, void, next, alreadyWritten, aboveNext, standsEarlier, allWritten}
-use Rattle.model.specs.Model.{placeChecks, callChecks, rowsBefore, granted, given, refusedWith, answerBy, answer, accepted}
+use Rattle.model.specs.Model.{placeChecks, callChecks, rowsBefore, granted, given, answer, accepted}
 use Rattle.model.specs.Trace.{writes, named}
-
--- an answer has the number of its refusal
-pub answer-number : (v : Refusal) (gs : List (List ℕ)) (s : ℕ) → answerBy v gs s .number ≡ v .number
-answer-number v gs s = on-test (eqb (v .number) 0) (λ t. rw t (sym (eqb-true (v .number) 0 t))) (λ t. rw t)
+use Rattle.model.proofs.Answers.{answer-number}
 
 module _ (c : Check) (cs : List Check) where
   number-here : c .holds ≡ true → firstRefusal (c ∷ cs) .number ≡ c .number
@@ -94,16 +91,6 @@ module _ (gs : List (List ℕ)) (l : List ℕ) where
   not-16 peek = rw (number-of peek) (refusal-lacks 16 (callChecks gs l peek) (omega arith) refl)
   not-16 (claim s o) = rw (number-of (claim s o)) (refusal-lacks 16 (callChecks gs l (claim s o)) (omega arith) refl)
   not-16 (void s) = rw (number-of (void s)) (refusal-lacks 16 (callChecks gs l (void s)) (omega arith) refl)
-
-  -- a peek where serials are left
-  pub peek-open : next l ≤ length gs → answer gs l peek ≡ given gs (next l)
-  unfolding answer firstRefusal
-  peek-open h = rw (le-ltb (length gs) (next l) h)
-
-  -- and where none is
-  pub peek-closed : length gs < next l → answer gs l peek ≡ refusedWith 21 0
-  unfolding answer firstRefusal
-  peek-closed h = rw (lt-ltb (length gs) (next l) h)
 
   -- a peek answers 21 where every composition is written
   pub peek-21 : (answer gs l peek .number ≡ 21) ↔ (length gs < next l)

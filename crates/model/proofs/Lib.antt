@@ -2,6 +2,7 @@ pub mod Lists
 pub mod Cells
 pub mod Compositions
 pub mod Opening
+pub mod Answers
 pub mod Calls
 pub mod Orders
 pub mod Books

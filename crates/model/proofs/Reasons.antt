@@ -15,10 +15,9 @@ use Rattle.model.specs.Model.{Call, peek, claim, void, next, given, refu
 use Rattle.model.specs.Trace.{named, ordered, writers, serials, orders, countFrom}
 use Rattle.model.specs.Reason.{nextSerial, PeekReason, SerialReason, ClaimReason, VoidReason, Reason}
 use Rattle.model.specs.Reason.{none-left, shown, outside, written, above, no-order, stands, claimed, voided}
-use Rattle.model.proofs.Calls.{peek-open, peek-closed}
 use Rattle.model.proofs.Orders.{index-at, index-lowest, index-none}
-use Rattle.model.proofs.Replies.{placed, placed-outside, placed-below, placed-above, placed-next}
-use Rattle.model.proofs.Replies.{claim-none, claim-refused, claim-again, claim-good}
+use Rattle.model.proofs.Answers.{peek-open, peek-closed, placed, placed-outside, placed-below, placed-above, placed-next}
+use Rattle.model.proofs.Answers.{claim-none, claim-refused, claim-again, claim-good}
 
 -- ---- the call at a place of a list of calls
 
@@ -93,7 +92,7 @@ module _ (gs : List (List ℕ)) (past : List Event) (turn : serials (writers pas
           on-less (length gs) s
           (λ h t.
           let e = placed-outside gs l s (rw (ne-eqb s 0 n) (lt-ltb (length gs) s h)) in
-          refuses (rw e (λ q. absurd (omega (arith, q)))) (outside (inr h) e))
+          refuses (rw e (λ q. absurd (omega (arith, q)))) (outside (inr (omega arith)) e))
           (λ h t.
           on-less s (next l)
           (λ k u.
@@ -177,7 +176,7 @@ module _ (gs : List (List ℕ)) (past : List Event) (turn : serials (writers pas
     serial-refuses : (s : ℕ) (a : Answer) → SerialReason gs past s a → Refuses s a
     serial-refuses s a (outside (inl z) is) = by-refusal s 6 0 a (omega arith) (placed-outside gs l s (rw (eq-eqb s 0 z))) is
     serial-refuses s a (outside (inr h) is) =
-        by-refusal s 6 0 a (omega arith) (placed-outside gs l s (rw (ne-eqb s 0 (omega arith)) (lt-ltb (length gs) s h))) is
+        by-refusal s 6 0 a (omega arith) (placed-outside gs l s (rw (ne-eqb s 0 (omega arith)) (lt-ltb (length gs) s (omega arith)))) is
     serial-refuses s a (written x m e is) =
         let j = place-of (writers past) x m in
         let at : s ≡ j .0 + 1 = sym e ∙ serial-at (j .0) x (j .1) in

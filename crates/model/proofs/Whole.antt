@@ -27,7 +27,7 @@ use Rattle.model.proofs.Orders.{index-none, distinct-none}
 use Rattle.model.proofs.Books.{facts, Stood, stood, claims-and-voids}
 use Rattle.model.proofs.Lines.{counts, distinct-book}
 use Rattle.model.proofs.Places.{once-at, distinct-take, not-among, mem-count, count-mem}
-use Rattle.model.proofs.Replies.{placed-next, claim-good}
+use Rattle.model.proofs.Answers.{placed-next, claim-good}
 use Rattle.model.proofs.Reasons.{only-reason}
 use Rattle.model.proofs.Simulation.{ledgerOf, answers, simulates}
 

@@ -1,6 +1,6 @@
 -- Document 01, "The register": why a call is answered as it is, in the words of the calls before it and of their answers. Nothing here goes through
--- the table of refusals, the model or the record: whoever reads this file and Walsh's order need not believe those. That each answer of a list of
--- calls has a reason, and no other answer has one, is in specs/Whole.
+-- the table of refusals, the paper register's list or the record: a reader need not believe these. That in a list of calls each answer has a reason,
+-- and no other answer has one, is in specs/Whole.
 use mathlib.Core.Path.{_≡_}
 use mathlib.Core.Logic.{_≢_, _⊎_}
 use mathlib.Core.List.{List, List·Memᴰ}

@@ -33,7 +33,8 @@ lines w = take (w .ledger .entries) (w .column)
 abbrev pub secondList : Run → List Call
 secondList w = peeked (writers (w .trace))
 
--- Of an opening on ms and r over the column col: w is the run of the list cs, v the run of its second list.
+-- Of an opening on ms and r over the column col: w is the run of the list cs, v the run of its second list. First what document 01 says by the paper
+-- register, then what it comes to by the calls and their answers alone.
 pub record Whole (ms : List ℕ) (r : ℕ) (col : List ℕ) (cs : List Call) (w v : Run) : Type 0 where
   -- "The answer of each call (number and detail, serial, mix) is the paper register's." "So 16 never comes up there."
   pub answers : w .trace ≡ book ms r cs .trace
@@ -53,6 +54,8 @@ pub record Whole (ms : List ℕ) (r : ℕ) (col : List ℕ) (cs : List Call) (w 
   pub second-record : v .ledger ≡ w .ledger
   pub second-answers : those writes (v .trace) ≡ writers (w .trace)
   pub second-peeks : Foretold (v .trace)
+  -- ---- by the calls and their answers
+
   -- the lines are as many as the accepted claims and the accepted voids, the sold ones as the former, the voided ones as the latter
   pub written : w .ledger .entries ≡ length (those isClaim (kept (w .trace))) + length (those isVoid (kept (w .trace)))
   pub claims : w .ledger .sold ≡ length (those isClaim (kept (w .trace)))
