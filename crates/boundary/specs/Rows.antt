@@ -44,4 +44,44 @@ rows =
     ∷ []))
     -- J: the same edition: spoil 1, take 1 for 1007
     ∷ row (1 ∷ 1 ∷ []) 1 (answers ((void 1, 0 ∷ 0 ∷ 1 ∷ 1 ∷ 0 ∷ []) ∷ (claim 1 1007, 18 ∷ 0 ∷ []) ∷ []))
+    -- beside the document's copies: 17, 6, 19 and 20, and which comes first where two of a call's checks hold
+    ∷ row threeTwos 3
+    (answers
+    ((claim 1 0, 17 ∷ [])
+    ∷ (claim 0 1007, 6 ∷ [])
+    ∷ (claim 8 1007, 6 ∷ [])
+    ∷ (void 0, 6 ∷ [])
+    ∷ (void 8, 6 ∷ [])
+    ∷ (claim 2 1007, 19 ∷ 1 ∷ [])
+    ∷ (claim 7 1007, 19 ∷ 1 ∷ [])
+    ∷ (void 2, 19 ∷ 1 ∷ [])
+    ∷ (claim 1 1007, 0 ∷ 0 ∷ 1 ∷ 2 ∷ 1 ∷ 0 ∷ [])
+    ∷ (claim 2 1007, 20 ∷ 1 ∷ [])
+    ∷ (void 2, 0 ∷ 0 ∷ 2 ∷ 1 ∷ 2 ∷ 0 ∷ [])
+    ∷ (claim 3 1014, 0 ∷ 0 ∷ 3 ∷ 0 ∷ 2 ∷ 1 ∷ [])
+    ∷ (claim 4 1014, 20 ∷ 3 ∷ [])
+    ∷ (claim 4 1007, 20 ∷ 1 ∷ [])
+    ∷ (void 3, 18 ∷ 1014 ∷ [])
+    -- 17 before 6, 18 and 19; 6, 18 and 19 before 20
+    ∷ (claim 0 0, 17 ∷ [])
+    ∷ (claim 1 0, 17 ∷ [])
+    ∷ (claim 5 0, 17 ∷ [])
+    ∷ (claim 8 1007, 6 ∷ [])
+    ∷ (claim 2 1007, 18 ∷ 0 ∷ [])
+    ∷ (claim 5 1007, 19 ∷ 4 ∷ [])
+    ∷ (peek, 0 ∷ 0 ∷ 4 ∷ 1 ∷ 1 ∷ 1 ∷ [])
+    ∷ []))
+    -- three copies, until the last is sold and beyond
+    ∷ row (1 ∷ 1 ∷ 1 ∷ []) 1
+    (answers
+    ((void 1, 0 ∷ 0 ∷ 1 ∷ 1 ∷ 0 ∷ 0 ∷ [])
+    ∷ (claim 2 1007, 0 ∷ 0 ∷ 2 ∷ 0 ∷ 1 ∷ 0 ∷ [])
+    ∷ (claim 3 1007, 20 ∷ 2 ∷ [])
+    ∷ (peek, 0 ∷ 0 ∷ 3 ∷ 0 ∷ 0 ∷ 1 ∷ [])
+    ∷ (claim 3 1014, 0 ∷ 0 ∷ 3 ∷ 0 ∷ 0 ∷ 1 ∷ [])
+    ∷ (peek, 21 ∷ [])
+    ∷ (claim 3 1021, 18 ∷ 1014 ∷ [])
+    ∷ (claim 4 1021, 6 ∷ [])
+    ∷ (void 4, 6 ∷ [])
+    ∷ []))
     ∷ []

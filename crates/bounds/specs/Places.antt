@@ -29,13 +29,20 @@ compositionChecks ms r g =
 abbrev pub outside : ℕ → ℕ → Bool
 outside n s = either (eqb s 0) (ltb n s)
 
--- the place 'serial given'
+-- the place 'serial given': "0 or over N"
+abbrev pub noSerial : ℕ → ℕ → Check
+noSerial n s = check 6 (outside n s) 0
+
 abbrev pub serialChecks : List ℕ → ℕ → ℕ → List Check
-serialChecks ms r s = check 6 (outside (countOf ms r) s) 0 ∷ []
+serialChecks ms r s = noSerial (countOf ms r) s ∷ []
+
+-- the most lines that a register and a listing have; `MOST_ENTRIES` of the code
+abbrev pub mostEntries : ℕ
+mostEntries = 1000000
 
 -- "N over 1,000,000", in the place 'opening' and for a listing
 abbrev pub manyChecks : List ℕ → ℕ → List Check
-manyChecks ms r = check 14 (ltb 1000000 (countOf ms r)) 0 ∷ []
+manyChecks ms r = check 14 (ltb mostEntries (countOf ms r)) 0 ∷ []
 
 -- the place 'lent part': "length differs from what is to be written"
 abbrev pub lentChecks : ℕ → ℕ → List Check

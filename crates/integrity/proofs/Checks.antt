@@ -12,6 +12,7 @@ use Rattle.walsh.specs.Serial.{same, compositionOf}
 use Rattle.walsh.proofs.Cases.{on-less}
 use Rattle.bounds.specs.Refusal.{firstRefusal}
 use Rattle.bounds.specs.Edition.{recordChecks, cellsOf}
+use Rattle.bounds.specs.Places.{mostEntries}
 use Rattle.bounds.specs.declared.Bounds.{Bounds}
 use Rattle.bounds.specs.declared.Refusal.{Refusal}
 use Rattle.rank.specs.Locate.{nearest, locateRecordOf}
@@ -66,11 +67,11 @@ module _ (r : Ledger) (col : List ℕ) (x : ℕ) where
           other = λ t. (ap (λ (y : Seen). y .count) no, ap (λ (y : Seen). y .hits) no);
         }
 
-    -- so many entries are either more than N, or N is over 1,000,000
-    pub too-full : 1000000 < r .entries → Sees r col x s
+    -- so many entries are either more than N, or N is over the most
+    pub too-full : mostEntries < r .entries → Sees r col x s
     too-full l =
-        on-less 1000000 (length gs)
-        (λ m t. apart (fails r col 1 (lt-leb (length gs) 1000000 m)))
+        on-less mostEntries (length gs)
+        (λ m t. apart (fails r col 1 (lt-leb (length gs) mostEntries m)))
         (λ m t. apart (fails r col 3 (lt-leb (r .entries) (length gs) (omega arith))))
 
     pub no-edition : {at : Located} → at ≡ locateRecordOf (r .bounds) (r .entries + 1) → 0 < at .number → Sees r col x s
@@ -79,8 +80,8 @@ module _ (r : Ledger) (col : List ℕ) (x : ℕ) where
         apart (fails r col 0 (ne-eqb (firstRefusal (recordChecks (r .bounds)) .number) 0 (λ z. omega (arith, e, z))))
 
     module _ {at : Located} (a : Asked (r .bounds) (r .entries) at) where
-      pub too-many : 1000000 < at .count → Sees r col x s
-      too-many l = apart (fails r col 1 (lt-leb (length gs) 1000000 (omega (arith, a .count))))
+      pub too-many : mostEntries < at .count → Sees r col x s
+      too-many l = apart (fails r col 1 (lt-leb (length gs) mostEntries (omega (arith, a .count))))
 
       pub no-room : length col < at .count → Sees r col x s
       no-room l = apart (fails r col 2 (lt-leb (length gs) (length col) (omega (arith, a .count))))
@@ -106,7 +107,7 @@ module _ (r : Ledger) (col : List ℕ) (x : ℕ) where
   -- all tests pass
   pub belongs : {at : Located} {z h : ℕ}
       → Asked (r .bounds) (r .entries) at
-      → at .count ≤ 1000000
+      → at .count ≤ mostEntries
       → at .count ≤ length col
       → r .entries ≤ at .count
       → Scanned (written r col) x z h

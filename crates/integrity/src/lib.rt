@@ -10,6 +10,7 @@ ghost use lib.Dec.{eqb};
 ghost use lib.ListN.{length, take};
 ghost use Rattle.walsh.specs.Serial.{same};
 ghost use Rattle.bounds.specs.Edition.{cellsOf};
+ghost use Rattle.bounds.specs.Places.{mostEntries};
 ghost use Rattle.rank.specs.Locate.{locateRecordOf};
 ghost use Rattle.model.specs.Record.{upperOf};
 ghost use Rattle.integrity.specs.Examine.{Scanned, Sees};
@@ -36,7 +37,7 @@ fn one(a: u32, b: u32) -> u32
 
 // One pass over the first n entries.
 fn scan(orders: &[u32], n: usize, order: u32) -> Counts
-    requires { ⌜ (n ≤ length (now orders)) × (n ≤ 1000000) ⌝ }
+    requires { ⌜ (n ≤ length (now orders)) × (n ≤ mostEntries) ⌝ }
     ensures { λ r. ⌜ Scanned (take n (now (orders .entry))) order (r .zeros) (r .hits) ⌝ }
 {
     let mut zeros: u32 = 0;
@@ -90,7 +91,7 @@ fn unseen() -> Seen
 
 // The tests of number 16, with N and the composition of the next serial, of serial N when full.
 fn test(ledger: Ledger, orders: &[u32], order: u32, at: Located) -> Seen
-    requires { ⌜ (ledger .entries ≤ 1000000) × (at ≡ locateRecordOf (ledger .bounds) (ledger .entries + 1)) ⌝ }
+    requires { ⌜ (ledger .entries ≤ mostEntries) × (at ≡ locateRecordOf (ledger .bounds) (ledger .entries + 1)) ⌝ }
     ensures { λ r. ⌜ Sees ledger (now (orders .entry)) order r ⌝ }
 {
     if 0 < at.number {
@@ -130,7 +131,7 @@ fn test(ledger: Ledger, orders: &[u32], order: u32, at: Located) -> Seen
     }
 }
 
-// A record and a column that nobody has checked. More than 1,000,000 entries never belong to a column, so the next serial fits 64 bits.
+// A record and a column that nobody has checked. More than MOST_ENTRIES entries never belong to a column, so the next serial fits 64 bits.
 pub fn examine(ledger: Ledger, orders: &[u32], order: u32) -> Seen
     ensures { λ r. ⌜ Sees ledger (now (orders .entry)) order r ⌝ }
 {

@@ -9,7 +9,7 @@ use borrow.Author.Tests.{lt-ltb, le-ltb}
 use Rattle.walsh.specs.Order.{countOf}
 use Rattle.bounds.specs.Refusal.{Check, refused, firstRefusal}
 use Rattle.bounds.specs.Edition.{editionChecks, cellsOf}
-use Rattle.bounds.specs.Places.{manyChecks}
+use Rattle.bounds.specs.Places.{mostEntries, manyChecks}
 use Rattle.bounds.specs.declared.Bounds.{Bounds}
 use Rattle.bounds.specs.declared.Refusal.{Refusal}
 use Rattle.bounds.proofs.Editions.{edition-shapely}
@@ -53,12 +53,12 @@ module _ (ms : List ℕ) (r : ℕ) (col : List ℕ) {x : Located} (is : x ≡ lo
     placed : checks ≡ firstRefusal places
     placed = refusal-later (editionChecks ms r) places refl (located .0)
 
-    pub opening-many : 1000000 < x .count → unopened 14 0 ≡ opening ms r col
-    opening-many l = refused-by 14 0 (omega arith) (placed ∙ refusal-here _ _ (lt-ltb 1000000 (countOf ms r) (omega (arith, count-is))))
+    pub opening-many : mostEntries < x .count → unopened 14 0 ≡ opening ms r col
+    opening-many l = refused-by 14 0 (omega arith) (placed ∙ refusal-here _ _ (lt-ltb mostEntries (countOf ms r) (omega (arith, count-is))))
 
-    module _ (few : x .count ≤ 1000000) where
+    module _ (few : x .count ≤ mostEntries) where
       roomy : checks ≡ firstRefusal (shortColumn ms r (length col) ∷ [])
-      roomy = placed ∙ refusal-next _ _ (le-ltb 1000000 (countOf ms r) (omega (arith, count-is)))
+      roomy = placed ∙ refusal-next _ _ (le-ltb mostEntries (countOf ms r) (omega (arith, count-is)))
 
       pub opening-short : length col < x .count → unopened 15 0 ≡ opening ms r col
       opening-short l = refused-by 15 0 (omega arith) (roomy ∙ refusal-here _ _ (lt-ltb (length col) (countOf ms r) (omega (arith, count-is))))

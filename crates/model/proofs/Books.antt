@@ -1,17 +1,19 @@
 -- Laws of a list of calls of the model: the lines that it wrote, and its second list.
-use mathlib.Core.Path.{_≡_, refl, sym}
+use mathlib.Core.Path.{_≡_, refl, sym, ap, _∙_}
 use mathlib.Core.Bool.{Bool, true, false, cond}
-use mathlib.Core.List.{List, [], _∷_, _++_, nil≢cons, head-eq-of-cons-eq, tail-eq-of-cons-eq}
-use Prim.Native.Nat.{ℕ, _+_, _-_, _<_}
+use mathlib.Core.List.{List, [], _∷_, _++_, append-assoc, append-nil, nil≢cons, head-eq-of-cons-eq, tail-eq-of-cons-eq}
+use Prim.Native.Nat.{ℕ, _+_, _-_, _≤_, _<_}
 use native.Mathlib.Nat.{add-zero}
 use native.Mathlib.Numerals.{add-one}
 use native.Mathlib.Omega.{arith}
 use lib.ListN.{length, take, drop}
 use lib.Seq.{drop-cons}
 use Rattle.model.specs.Model.{Call, peek, claim, void, blank, accepted, next, answer, after, Event, bookFrom}
-use Rattle.model.specs.Trace.{writes, isClaim, isVoid, those, writers, serials, answeredCompositions, peeked, Foretold, countFrom}
+use Rattle.model.specs.Trace.{writes, isClaim, isVoid, ordered, those, writers, serials, orders, answeredCompositions}
+use Rattle.model.specs.Trace.{peeked, Foretold, countFrom}
 use Rattle.model.proofs.Lists.{length-snoc}
-use Rattle.model.proofs.Calls.{grant, peek-open}
+use Rattle.model.proofs.Answers.{peek-open}
+use Rattle.model.proofs.Calls.{grant}
 
 module _ (gs : List (List ℕ)) where
   abbrev pub event : List ℕ → Call → Event
@@ -19,7 +21,7 @@ module _ (gs : List (List ℕ)) where
 
   -- a call writes a line, or it leaves the list as it is
   pub data Effect (l : List ℕ) (c : Call) : Type 0 where
-    wrote : accepted (answer gs l c) ≡ true → writes c ≡ true → length (after gs l c) ≡ next l → Effect l c
+    wrote : accepted (answer gs l c) ≡ true → writes c ≡ true → after gs l c ≡ l ++ (ordered c ∷ []) → Effect l c
     still : ((t : List Event) → writers (event l c ∷ t) ≡ writers t) → after gs l c ≡ l → Effect l c
 
   pub effect : (l : List ℕ) (c : Call) → Effect l c
@@ -29,8 +31,8 @@ module _ (gs : List (List ℕ)) where
       go : (c : Call) (b : Bool) → accepted (answer gs l c) ≡ b → Effect l c
       go c false p = still (λ t. rw p) (rw p)
       go peek true p = still (λ t. rw p) (rw p)
-      go (claim s o) true p = wrote p refl (rw p (length-snoc l o))
-      go (void s) true p = wrote p refl (rw p (length-snoc l 0))
+      go (claim s o) true p = wrote p refl (rw p)
+      go (void s) true p = wrote p refl (rw p)
 
   peek-keeps : (l : List ℕ) → after gs l peek ≡ l
   unfolding after
@@ -40,23 +42,31 @@ module _ (gs : List (List ℕ)) where
       go true = refl
       go false = refl
 
-  -- from the entries l, by the writers ws, to the entries m: one entry for each, and they took the serials in turn
+  -- from the entries l, by the writers ws, to the entries m: their orders one behind the other, and they took the serials in turn
   pub record Grown (l : List ℕ) (ws : List Event) (m : List ℕ) : Type 0 where
     pub size : length m ≡ length l + length ws
+    pub entries : m ≡ l ++ orders ws
     pub serial : serials ws ≡ countFrom (next l) (length ws)
+    pub fits : length l ≤ length gs → length m ≤ length gs
 
   grown-none : (l : List ℕ) → Grown l [] l
-  grown-none l = record { size = sym (add-zero (length l)); serial = refl }
+  grown-none l = record { size = sym (add-zero (length l)); entries = sym (append-nil l); serial = refl; fits = λ h. h }
 
   grown-wrote :
       (l : List ℕ) (c : Call) (ws : List Event) (m : List ℕ)
       → accepted (answer gs l c) ≡ true
       → writes c ≡ true
-      → length (after gs l c) ≡ next l
+      → after gs l c ≡ l ++ (ordered c ∷ [])
       → Grown (after gs l c) ws m
       → Grown l (event l c ∷ ws) m
-  grown-wrote l c ws m a w n f =
-      record { size = omega (arith, f .size); serial = rw (grant gs l c a .serial w, f .serial, n, add-one (next l)) }
+  grown-wrote l c ws m a w e f =
+      let n = ap length e ∙ length-snoc l (ordered c) in
+      record {
+        size = omega (arith, f .size);
+        entries = f .entries ∙ ap (λ (k : List ℕ). k ++ orders ws) e ∙ append-assoc l (ordered c ∷ []) (orders ws);
+        serial = rw (grant gs l c a .serial w, f .serial, n, add-one (next l));
+        fits = λ _. f .fits (omega (arith, grant gs l c a .room));
+      }
 
   -- from the entries l, by the trace t, to the entries m
   pub record Facts (l : List ℕ) (t : List Event) (m : List ℕ) : Type 0 where
@@ -70,16 +80,17 @@ module _ (gs : List (List ℕ)) where
       (l : List ℕ) (c : Call) (t : List Event) (m : List ℕ)
       → accepted (answer gs l c) ≡ true
       → writes c ≡ true
-      → length (after gs l c) ≡ next l
+      → after gs l c ≡ l ++ (ordered c ∷ [])
       → Facts (after gs l c) t m
       → Facts l (event l c ∷ t) m
   unfolding bookFrom
-  wrote-facts l c t m a w n f =
+  wrote-facts l c t m a w e f =
+      let n = ap length e ∙ length-snoc l (ordered c) in
       let g = grant gs l c a in
       let in-range : length l < length gs = omega (arith, g .room) in
       let place : next l - 1 ≡ length l = omega arith in
       record {
-        grown = rw (a, w) (grown-wrote l c (writers t) m a w n (f .grown));
+        grown = rw (a, w) (grown-wrote l c (writers t) m a w e (f .grown));
         composition = rw (a, w, g .reply, f .composition, n, drop-cons gs (length l) blank in-range, place, add-one);
         again-entries = rw (a, w, peek-keeps l) (f .again-entries);
         again-trace = rw (a, w, peek-keeps l, w, f .again-trace);

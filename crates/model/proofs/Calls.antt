@@ -1,30 +1,26 @@
 -- Laws of one call of the model: what an accepted answer says, and which numbers an answer can have.
 use mathlib.Core.Path.{_≡_, refl, sym, ap, _∙_}
 use mathlib.Core.Logic.{_≢_, _↔_}
-use mathlib.Core.Bool.{true, false}
+use mathlib.Core.Bool.{true, false, false≢true}
 use mathlib.Core.List.{List, [], _∷_, _++_}
 use Prim.Native.Nat.{ℕ, _≤_, _<_}
 use native.Mathlib.Omega.{arith}
 use lib.Dec.{eqb, ltb}
 use lib.ListN.{length}
-use borrow.Author.Tests.{ltb-false, lt-ltb, le-ltb, eqb-true, eqb-false}
-use Rattle.walsh.proofs.Cases.{on-test, on-less}
+use borrow.Author.Tests.{ltb-false, lt-ltb, eqb-true, eqb-false}
+use Rattle.walsh.proofs.Cases.{on-less}
 use Rattle.bounds.specs.Refusal.{Check, firstRefusal}
+use Rattle.bounds.specs.Places.{outside}
 use Rattle.bounds.specs.declared.Refusal.{Refusal}
 use Rattle.bounds.proofs.Editions.{neither}
-use Rattle.bounds.proofs.Refusals.{numbered, passed, refusal-here, refusal-next, is-accepted, refusal-lacks, not-here}
+use Rattle.bounds.proofs.Refusals.{same-number, numbered, passed, refusal-here, refusal-next, refusal-later, is-accepted, lacks, refusal-lacks}
+use Rattle.bounds.proofs.Chains.{Accepts}
 use Rattle.model.specs.declared.Answer.{Answer}
-use Rattle.model.specs.Model.{Call, peek, claim, void, next, noOrder, noSerial, alreadyWritten, aboveNext, standsEarlier, allWritten}
-use Rattle.model.specs.Model.{compositionAt, placeChecks, callChecks, granted, answerBy, answer, accepted}
+use Rattle.model.specs.Basics.{indexOf}
+use Rattle.model.specs.Model.{Call, peek, claim, void, next, alreadyWritten, aboveNext, standsEarlier, allWritten}
+use Rattle.model.specs.Model.{placeChecks, callChecks, rowsBefore, granted, given, answer, accepted}
 use Rattle.model.specs.Trace.{writes, named}
-
--- the accepted answer with serial s
-abbrev pub given : List (List ℕ) → ℕ → Answer
-given gs s = record { number = 0; detail = 0; serial = s; composition = compositionAt gs s }
-
--- an answer has the number of its refusal
-pub answer-number : (v : Refusal) (gs : List (List ℕ)) (s : ℕ) → answerBy v gs s .number ≡ v .number
-answer-number v gs s = on-test (eqb (v .number) 0) (λ t. rw t (sym (eqb-true (v .number) 0 t))) (λ t. rw t)
+use Rattle.model.proofs.Answers.{answer-number}
 
 module _ (c : Check) (cs : List Check) where
   number-here : c .holds ≡ true → firstRefusal (c ∷ cs) .number ≡ c .number
@@ -76,9 +72,14 @@ module _ (gs : List (List ℕ)) (l : List ℕ) where
       let p = in-turn s [] refl (a .0) in
       record { reply = a .1 ∙ ap (given gs) (p .serial); room = p .room; serial = λ w. p .serial }
 
-  -- an accepted claim is for an order other than 0
+  -- an accepted claim is for an order other than 0, which stands in no line
   pub for-an-order : (s o : ℕ) → accepted (answer gs l (claim s o)) ≡ true → o ≢ 0
   for-an-order s o t = eqb-false o 0 (passed _ _ refl (accepting (claim s o) t .0) .0)
+
+  pub for-a-new-order : (s o : ℕ) → accepted (answer gs l (claim s o)) ≡ true → length l ≤ indexOf o l
+  for-a-new-order s o t =
+      let p = in-turn s (standsEarlier l o ∷ []) refl (passed _ _ refl (accepting (claim s o) t .0) .2) in
+      ltb-false (indexOf o l) (length l) (passed _ _ refl (p .rest-accepts) .0)
 
   -- ---- which number an answer has
 
@@ -91,11 +92,6 @@ module _ (gs : List (List ℕ)) (l : List ℕ) where
   not-16 (claim s o) = rw (number-of (claim s o)) (refusal-lacks 16 (callChecks gs l (claim s o)) (omega arith) refl)
   not-16 (void s) = rw (number-of (void s)) (refusal-lacks 16 (callChecks gs l (void s)) (omega arith) refl)
 
-  -- a peek where serials are left
-  pub peek-open : next l ≤ length gs → answer gs l peek ≡ given gs (next l)
-  unfolding answer firstRefusal
-  peek-open h = rw (le-ltb (length gs) (next l) h)
-
   -- a peek answers 21 where every composition is written
   pub peek-21 : (answer gs l peek .number ≡ 21) ↔ (length gs < next l)
   peek-21 =
@@ -107,28 +103,29 @@ module _ (gs : List (List ℕ)) (l : List ℕ) where
         λ h. (number-here c [] (lt-ltb _ _ h)),
       )
 
-  -- a claim that no check before 18 refuses
-  pub already-written : (s o : ℕ)
-      → answer gs l (claim s o) .number ≢ 17
-      → answer gs l (claim s o) .number ≢ 6
-      → (answer gs l (claim s o) .number ≡ 18) ↔ ((1 ≤ s) × (s < next l))
-  already-written s o n17 n6 =
-      let e = number-of (claim s o) in
-      let h17 = not-here (noOrder o) _ (rw e at n17) in
-      let e17 = e ∙ (number-next (noOrder o) _ h17) in
-      let h6 = not-here (noSerial gs s) _ (rw e17 at n6) in
-      let e6 = e17 ∙ (number-next (noSerial gs s) _ h6) in
-      let positive : 1 ≤ s = omega (arith, eqb-false s 0 (neither (eqb s 0) (ltb (length gs) s) h6 .0)) in
-      rw e6 (decided s o positive)
-    where
-      decided : (s o : ℕ) → 1 ≤ s
-          → (firstRefusal (alreadyWritten l s ∷ aboveNext l s ∷ standsEarlier l o ∷ []) .number ≡ 18) ↔ ((1 ≤ s) × (s < next l))
-      decided s o h =
-          let c = alreadyWritten l s in (
-            (λ e. (
-              h,
-              on-less s (next l) (λ b t. b)
-                  (λ b t. absurd (refusal-lacks 18 _ (omega arith) refl (sym (number-next c _ t) ∙ e))),
-            )),
-            λ q. (number-here c _ (lt-ltb _ _ (q .1))),
-          )
+  -- a call that no check before 18 refuses; behind 18 come other numbers
+  written-18 : (xs ys : List Check) (s : ℕ) → numbered xs ≡ true → Accepts xs → lacks 18 ys ≡ true
+      → (firstRefusal (xs ++ (alreadyWritten l s ∷ ys)) .number ≡ 18) ↔ (s < next l)
+  written-18 xs ys s n a k =
+      let c = alreadyWritten l s in
+      let e = same-number (refusal-later xs (c ∷ ys) n a) in
+      rw e (
+        (λ q. on-less s (next l) (λ b t. b) (λ b t. absurd (refusal-lacks 18 ys (omega arith) k (sym (number-next c ys t) ∙ q)))),
+        λ h. number-here c ys (lt-ltb _ _ h),
+      )
+
+  -- a serial that is not refused 6
+  positive : (s : ℕ) → outside (length gs) s ≡ false → 1 ≤ s
+  positive s e = omega (arith, eqb-false s 0 (neither (eqb s 0) (ltb (length gs) s) e .0))
+
+  pub already-written : (c : Call) → writes c ≡ true → Accepts (rowsBefore 18 (callChecks gs l c))
+      → (answer gs l c .number ≡ 18) ↔ ((1 ≤ named c) × (named c < next l))
+  already-written peek w a = absurd (false≢true w)
+  already-written (claim s o) w a =
+      let h = positive s (passed _ _ refl (passed _ _ refl a .2) .0) in
+      let b = written-18 (rowsBefore 18 (callChecks gs l (claim s o))) (aboveNext l s ∷ standsEarlier l o ∷ []) s refl a refl in
+      rw (number-of (claim s o)) ((λ q. (h, b .0 q)), λ p. b .1 (p .1))
+  already-written (void s) w a =
+      let h = positive s (passed _ _ refl a .0) in
+      let b = written-18 (rowsBefore 18 (callChecks gs l (void s))) (aboveNext l s ∷ []) s refl a refl in
+      rw (number-of (void s)) ((λ q. (h, b .0 q)), λ p. b .1 (p .1))

@@ -2,10 +2,14 @@ pub mod Lists
 pub mod Cells
 pub mod Compositions
 pub mod Opening
+pub mod Answers
 pub mod Calls
+pub mod Orders
 pub mod Books
+pub mod Lines
 pub mod Places
 pub mod Records
 pub mod Replies
+pub mod Reasons
 pub mod Simulation
 pub mod Whole

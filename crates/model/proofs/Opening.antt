@@ -8,6 +8,7 @@ use borrow.Author.Tests.{ltb-false}
 use Rattle.walsh.specs.Order.{countOf}
 use Rattle.bounds.specs.Refusal.{refused, firstRefusal}
 use Rattle.bounds.specs.Edition.{editionChecks}
+use Rattle.bounds.specs.Places.{mostEntries}
 use Rattle.bounds.specs.declared.Refusal.{Refusal}
 use Rattle.bounds.proofs.Editions.{edition-shapely}
 use Rattle.bounds.proofs.Refusals.{passed, by-refusal, is-refused, is-accepted}
@@ -19,7 +20,7 @@ use Rattle.model.proofs.Compositions.{compositions-size}
 pub record Opens (ms : List ℕ) (r : ℕ) (col : List ℕ) : Type 0 where
   pub sound : firstRefusal (editionChecks ms r) .number ≡ 0
   pub few : length ms ≤ 24
-  pub small : length (compositions ms r) ≤ 1000000
+  pub small : length (compositions ms r) ≤ mostEntries
   pub room : length (compositions ms r) ≤ length col
 
 -- what no check refuses
@@ -32,7 +33,7 @@ opens ms r col a =
     record {
       sound = p .0;
       few = edition-shapely ms r (p .0) .few;
-      small = omega (arith, ltb-false 1000000 (countOf ms r) (p14 .0));
+      small = omega (arith, ltb-false mostEntries (countOf ms r) (p14 .0));
       room = omega (arith, ltb-false (length col) (countOf ms r) (p15 .0));
     }
 

@@ -14,6 +14,7 @@ use Rattle.walsh.proofs.Cases.{on-test}
 use Rattle.walsh.proofs.Serials.{same-eq}
 use Rattle.bounds.specs.Refusal.{firstRefusal}
 use Rattle.bounds.specs.Edition.{recordChecks, cellsOf}
+use Rattle.bounds.specs.Places.{mostEntries}
 use Rattle.bounds.specs.declared.Bounds.{Bounds}
 use Rattle.bounds.specs.declared.Refusal.{Refusal}
 use Rattle.bounds.proofs.Refusals.{passed, refusal-here, refusal-next}
@@ -21,7 +22,7 @@ use Rattle.model.specs.declared.Answer.{Answer}
 use Rattle.model.specs.declared.Claimed.{Claimed}
 use Rattle.model.specs.declared.Ledger.{Ledger}
 use Rattle.model.specs.Basics.{zeros, nonzeros, all}
-use Rattle.model.specs.Model.{Call, blank, granted, answerBy, answer, accepted}
+use Rattle.model.specs.Model.{Call, granted, refusedWith, answerBy, answer, accepted}
 use Rattle.model.specs.Record.{upperOf, compositionsOf, nextComposition, written, tests, consistent}
 use Rattle.model.specs.Record.{notTogether, answered, counted, entered, recordAfter, columnAfter, calling, entriesOf}
 use Rattle.model.proofs.Lists.{zeros-or-not}
@@ -50,7 +51,7 @@ few-parts b e = ltb-false 24 (b .parts) (passed _ _ refl e .0)
 -- what a record and a column meet that belong together
 pub record Consistent (r : Ledger) (col : List ℕ) : Type 0 where
   pub sound : firstRefusal (recordChecks (r .bounds)) .number ≡ 0
-  pub small : length (compositionsOf (r .bounds)) ≤ 1000000
+  pub small : length (compositionsOf (r .bounds)) ≤ mostEntries
   pub room : length (compositionsOf (r .bounds)) ≤ length col
   pub entries : r .entries ≤ length (compositionsOf (r .bounds))
   pub sold : r .sold ≡ nonzeros (written r col)
@@ -59,12 +60,8 @@ pub record Consistent (r : Ledger) (col : List ℕ) : Type 0 where
   pub spare : r .bounds .upper ≡ cellsOf (upperOf (r .bounds))
   pub few : r .bounds .parts ≤ 24
   pub length-written : length (written r col) ≡ r .entries
-  pub few-sold : r .sold ≤ 1000000
-  pub few-voided : r .voided ≤ 1000000
-
--- a refused answer
-abbrev pub refusedWith : ℕ → ℕ → Answer
-refusedWith n d = record { number = n; detail = d; serial = 0; composition = blank }
+  pub few-sold : r .sold ≤ mostEntries
+  pub few-voided : r .voided ≤ mostEntries
 
 module _ (r : Ledger) (col : List ℕ) where
   abbrev gs : List (List ℕ)
@@ -75,7 +72,7 @@ module _ (r : Ledger) (col : List ℕ) where
   parts t =
       let p = each (tests r col) t in
       let h1 = eqb-true (firstRefusal (recordChecks (r .bounds)) .number) 0 (p .0) in
-      let h2 = leb-true (length gs) 1000000 (p .1 .0) in
+      let h2 = leb-true (length gs) mostEntries (p .1 .0) in
       let h3 = leb-true (length gs) (length col) (p .1 .1 .0) in
       let h4 = leb-true (r .entries) (length gs) (p .1 .1 .1 .0) in
       let h5 = eqb-true (r .sold) (nonzeros (written r col)) (p .1 .1 .1 .1 .0) in
@@ -104,7 +101,7 @@ module _ (r : Ledger) (col : List ℕ) where
 
   pub together :
       firstRefusal (recordChecks (r .bounds)) .number ≡ 0
-      → length gs ≤ 1000000
+      → length gs ≤ mostEntries
       → length gs ≤ length col
       → r .entries ≤ length gs
       → r .sold ≡ nonzeros (written r col)
@@ -116,7 +113,7 @@ module _ (r : Ledger) (col : List ℕ) where
   together h1 h2 h3 h4 h5 h6 h7 h8 =
       rw (
         eq-eqb (firstRefusal (recordChecks (r .bounds)) .number) 0 h1,
-        le-leb (length gs) 1000000 h2,
+        le-leb (length gs) mostEntries h2,
         le-leb (length gs) (length col) h3,
         le-leb (r .entries) (length gs) h4,
         eq-eqb (r .sold) (nonzeros (written r col)) h5,

@@ -1,97 +1,22 @@
--- Which answer each way through a call's checks leads to.
-use mathlib.Core.Path.{_≡_, refl, sym, ap, _∙_}
-use mathlib.Core.Logic.{_≢_}
+-- Which answer each way through a call's checks leads to, by the record's own numbers.
+use mathlib.Core.Path.{_≡_, sym, ap, _∙_}
 use mathlib.Core.Bool.{true}
-use mathlib.Core.List.{List, [], _∷_, _++_}
+use mathlib.Core.List.{List}
 use Prim.Native.Nat.{ℕ, _+_, _-_, _≤_, _<_, min}
 use native.Mathlib.Omega.{arith}
-use lib.Dec.{eqb, ltb}
 use lib.ListN.{length, getD}
 use lib.Seq.{getD-take}
-use borrow.Author.Tests.{lt-ltb, le-ltb, eq-eqb, ne-eqb}
-use Rattle.walsh.specs.Tests.{either}
+use borrow.Author.Tests.{lt-ltb, eq-eqb, ne-eqb}
 use Rattle.walsh.proofs.Cases.{on-test}
-use Rattle.bounds.specs.Refusal.{refused, firstRefusal}
-use Rattle.bounds.specs.declared.Refusal.{Refusal}
-use Rattle.bounds.proofs.Refusals.{refusal-here, refusal-next, refusal-first, refusal-later, by-acceptance}
 use Rattle.model.specs.declared.Answer.{Answer}
 use Rattle.model.specs.declared.Ledger.{Ledger}
-use Rattle.model.specs.Basics.{indexOf}
-use Rattle.model.specs.Model.{Call, peek, claim, void, next, noOrder, noSerial, alreadyWritten, aboveNext, standsEarlier}
-use Rattle.model.specs.Model.{placeChecks, callChecks, answerBy, answer}
+use Rattle.model.specs.Model.{Call, peek, next}
+use Rattle.model.specs.Model.{given, refusedWith}
 use Rattle.model.specs.Record.{compositionsOf, written, consistent, answered}
 use Rattle.model.specs.Trace.{writes, named}
-use Rattle.model.proofs.Calls.{given, answer-number, peek-open, grant}
-use Rattle.model.proofs.Records.{parts, refusedWith, answered-16, answered-by}
-
--- the answer of the checks of a serial alone, which is that of a void
-abbrev pub placed : List (List ℕ) → List ℕ → ℕ → Answer
-placed gs l s = answer gs l (void s)
-
-module _ (gs : List (List ℕ)) (l : List ℕ) where
-  -- ---- the checks of a serial
-
-  pub placed-outside : (s : ℕ) → either (eqb s 0) (ltb (length gs) s) ≡ true → placed gs l s ≡ refusedWith 6 0
-  unfolding answer
-  placed-outside s t = ap (λ (v : Refusal). answerBy v gs s) (refusal-here (noSerial gs s) _ t)
-
-  module _ (s : ℕ) (h : 1 ≤ s) (k : s ≤ length gs) where
-    inside : firstRefusal (placeChecks gs l s) ≡ firstRefusal (alreadyWritten l s ∷ aboveNext l s ∷ [])
-    inside = refusal-next _ _ (rw (ne-eqb s 0 (omega arith)) (le-ltb (length gs) s k))
-
-    pub placed-below : s < next l → placed gs l s ≡ refusedWith 18 (getD l (s - 1) 0)
-    unfolding answer
-    placed-below q = ap (λ (v : Refusal). answerBy v gs s) (inside ∙ refusal-here _ _ (lt-ltb s (next l) q))
-
-    pub placed-above : next l < s → placed gs l s ≡ refusedWith 19 (next l)
-    unfolding answer
-    placed-above q =
-        ap (λ (v : Refusal). answerBy v gs s)
-        (inside ∙ refusal-next _ _ (le-ltb s (next l) (omega arith)) ∙ refusal-here _ _ (lt-ltb (next l) s q))
-
-    pub placed-next : s ≡ next l → placed gs l s ≡ given gs s
-    unfolding answer firstRefusal
-    placed-next q =
-        let none : firstRefusal (alreadyWritten l s ∷ aboveNext l s ∷ []) ≡ refused 0 0 =
-        rw (le-ltb s (next l) (omega arith), le-ltb (next l) s (omega arith)) in
-        ap (λ (v : Refusal). answerBy v gs s) (inside ∙ none)
-
-  -- ---- the checks of a claim
-
-  module _ (s o : ℕ) where
-    pub claim-none : o ≡ 0 → answer gs l (claim s o) ≡ refusedWith 17 0
-    unfolding answer
-    claim-none e = ap (λ (v : Refusal). answerBy v gs s) (refusal-here (noOrder o) _ (eq-eqb o 0 e))
-
-    module _ (n : o ≢ 0) where
-      ordered : firstRefusal (callChecks gs l (claim s o)) ≡ firstRefusal (placeChecks gs l s ++ (standsEarlier l o ∷ []))
-      ordered = refusal-next (noOrder o) _ (ne-eqb o 0 n)
-
-      pub claim-refused : placed gs l s .number ≢ 0 → answer gs l (claim s o) ≡ placed gs l s
-      unfolding answer
-      claim-refused f =
-          let number = answer-number (firstRefusal (placeChecks gs l s)) gs s in
-          ap (λ (v : Refusal). answerBy v gs s) (ordered ∙ refusal-first (placeChecks gs l s) (standsEarlier l o ∷ []) (λ z. f (number ∙ z)))
-
-      module _ (z : placed gs l s .number ≡ 0) where
-        zero-number : firstRefusal (placeChecks gs l s) .number ≡ 0
-        unfolding answer
-        zero-number = sym (answer-number (firstRefusal (placeChecks gs l s)) gs s) ∙ z
-
-        later : firstRefusal (callChecks gs l (claim s o)) ≡ firstRefusal (standsEarlier l o ∷ [])
-        later = ordered ∙ refusal-later (placeChecks gs l s) (standsEarlier l o ∷ []) refl zero-number
-
-        pub claim-again : indexOf o l < length l → answer gs l (claim s o) ≡ refusedWith 20 (indexOf o l + 1)
-        unfolding answer
-        claim-again p = ap (λ (v : Refusal). answerBy v gs s) (later ∙ refusal-here _ [] (lt-ltb (indexOf o l) (length l) p))
-
-        pub claim-good : length l ≤ indexOf o l → answer gs l (claim s o) ≡ placed gs l s
-        unfolding answer firstRefusal
-        claim-good p =
-            let none : firstRefusal (standsEarlier l o ∷ []) ≡ refused 0 0 = rw (le-ltb (indexOf o l) (length l) p) in
-            ap (λ (v : Refusal). answerBy v gs s) (later ∙ none) ∙ sym (by-acceptance (firstRefusal (placeChecks gs l s)) _ _ zero-number)
-
--- ---- the same by the record's own numbers
+use Rattle.model.proofs.Answers.{peek-open, peek-closed, placed, placed-outside, placed-below, placed-above, placed-next}
+use Rattle.model.proofs.Calls.{grant}
+use Rattle.model.proofs.Records.{parts, answered-16, answered-by}
 
 module _ (r : Ledger) (col : List ℕ) (t : consistent r col ≡ true) where
   abbrev gs : List (List ℕ)
@@ -107,9 +32,9 @@ module _ (r : Ledger) (col : List ℕ) (t : consistent r col ≡ true) where
       rw (parts r col t .next, q)
 
   pub peek-full : length gs ≤ r .entries → answered r col peek ≡ refusedWith 21 0
-  unfolding answer firstRefusal
   peek-full h =
-      answered-by r col peek t ∙ rw (parts r col t .length-written, lt-ltb (length gs) (r .entries + 1) (omega arith))
+      let n = parts r col t .length-written in
+      answered-by r col peek t ∙ peek-closed gs (written r col) (omega arith)
 
   pub peek-next : r .entries < length gs → answered r col peek ≡ accepts
   peek-next h =

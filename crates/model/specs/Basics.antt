@@ -1,5 +1,6 @@
 -- Counts and places in lists, which the ledger's definitions are made of.
 use mathlib.Core.Path.{_≡_, refl}
+use mathlib.Core.Logic.{_≢_}
 use mathlib.Core.Bool.{Bool, true, cond, not}
 use mathlib.Core.List.{List, [], _∷_, _++_}
 use Prim.Native.Nat.{ℕ, suc, _<_}
@@ -36,6 +37,10 @@ over col l = l ++ drop (length l) col
 -- no entry stands at two places; d is what getD answers past the end
 pub record Distinct {A : Type 0} (d : A) (l : List A) : Type 0 where
   pub same-place : (i j : ℕ) → i < length l → j < length l → getD l i d ≡ getD l j d → i ≡ j
+
+-- no number but 0 stands at two places
+pub record DistinctOrders (l : List ℕ) : Type 0 where
+  pub same-place : (i j : ℕ) → i < length l → j < length l → getD l i 0 ≢ 0 → getD l i 0 ≡ getD l j 0 → i ≡ j
 
 -- x stands at one place of l and no other
 pub record Once {A : Type 0} (d x : A) (l : List A) : Type 0 where

@@ -2,4 +2,5 @@ pub mod Basics
 pub mod Model
 pub mod Record
 pub mod Trace
+pub mod Reason
 pub mod Whole

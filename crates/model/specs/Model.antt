@@ -2,13 +2,14 @@
 -- or the column. Its state is the edition and a list of order numbers, empty after opening; the first entry is serial 1's, the second serial 2's
 -- and so on, and its next serial is the list's length + 1." Here the edition is the list gs of its compositions in their order, 24 cells each,
 -- and l is the list of order numbers.
+use mathlib.Core.Path.{_≡_, refl}
 use mathlib.Core.Bool.{Bool, cond}
 use mathlib.Core.List.{List, [], _∷_, _++_}
 use Prim.Native.Nat.{ℕ, _+_, _-_}
 use lib.Dec.{ltb, eqb}
 use lib.ListN.{length, getD}
-use Rattle.walsh.specs.Tests.{either}
 use Rattle.bounds.specs.Refusal.{Check, check, firstRefusal, decided}
+use Rattle.bounds.specs.Places.{noSerial}
 pub use Rattle.bounds.specs.Edition.{blank}
 use Rattle.bounds.specs.declared.Refusal.{Refusal}
 use Rattle.model.specs.declared.Answer.{Answer}
@@ -24,15 +25,12 @@ pub data Call : Type 0 where
 abbrev pub next : List ℕ → ℕ
 next l = length l + 1
 
--- ---- the rows of the table of refusals, in its words and order; behind them the words of the paper register
+-- ---- the rows of the table of refusals, in its words and order; behind them the words of the paper register. The row of number 6 is bounds
+-- specs/Places `noSerial`: "0 or over N"; "s is 0 or over N".
 
 -- take: "order 0"; "o is 0"
 abbrev pub noOrder : ℕ → Check
 noOrder o = check 17 (eqb o 0) 0
-
--- serial given: "0 or over N"; "s is 0 or over N"
-abbrev pub noSerial : List (List ℕ) → ℕ → Check
-noSerial gs s = check 6 (either (eqb s 0) (ltb (length gs) s)) 0
 
 -- take, spoil: "already written; detail: the number on its line"; "s is below the next serial, detail the order number of its entry"
 abbrev pub alreadyWritten : List ℕ → ℕ → Check
@@ -55,7 +53,7 @@ allWritten gs l = check 21 (ltb (length gs) (next l)) 0
 module _ (gs : List (List ℕ)) (l : List ℕ) where
   -- those of a serial
   abbrev pub placeChecks : ℕ → List Check
-  placeChecks s = noSerial gs s ∷ alreadyWritten l s ∷ aboveNext l s ∷ []
+  placeChecks s = noSerial (length gs) s ∷ alreadyWritten l s ∷ aboveNext l s ∷ []
 
   -- "Take (serial s, order o) is refused by the first of these that holds"; "Spoil (s): the same without o and its checks"
   abbrev pub callChecks : Call → List Check
@@ -69,16 +67,29 @@ module _ (gs : List (List ℕ)) (l : List ℕ) where
   granted (claim s o) = s
   granted (void s) = s
 
+-- the rows of a table that stand before the row of a number
+abbrev pub rowsBefore : ℕ → List Check → List Check
+rowsBefore n [] = []
+rowsBefore n (c ∷ cs) = cond (eqb (c .number) n) [] (c ∷ rowsBefore n cs)
+
+-- for example, of a claim 17 and 6 stand before 18
+before-18 : (gs : List (List ℕ)) (l : List ℕ) (s o : ℕ) → rowsBefore 18 (callChecks gs l (claim s o)) ≡ noOrder o ∷ noSerial (length gs) s ∷ []
+before-18 gs l s o = refl
+
 -- the composition of serial s
 abbrev pub compositionAt : List (List ℕ) → ℕ → List ℕ
 compositionAt gs s = getD gs (s - 1) blank
 
--- a refused call answers "such a mix all zeros, and serial 0"; an accepted one a serial "and its mix"
+-- an accepted call answers a serial "and its mix"
+abbrev pub given : List (List ℕ) → ℕ → Answer
+given gs s = record { number = 0; detail = 0; serial = s; composition = compositionAt gs s }
+
+-- a refused one "such a mix all zeros, and serial 0"
+abbrev pub refusedWith : ℕ → ℕ → Answer
+refusedWith number detail = record { number = number; detail = detail; serial = 0; composition = blank }
+
 abbrev pub answerBy : Refusal → List (List ℕ) → ℕ → Answer
-answerBy v gs s =
-    decided v
-    (record { number = 0; detail = 0; serial = s; composition = compositionAt gs s })
-    (record { number = v .number; detail = v .detail; serial = 0; composition = blank })
+answerBy v gs s = decided v (given gs s) (refusedWith (v .number) (v .detail))
 
 unfoldable pub answer : List (List ℕ) → List ℕ → Call → Answer
 answer gs l c = answerBy (firstRefusal (callChecks gs l c)) gs (granted gs l c)

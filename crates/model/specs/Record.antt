@@ -9,7 +9,7 @@ use Rattle.walsh.specs.Order.{order, countOf}
 use Rattle.walsh.specs.Serial.{same}
 use Rattle.bounds.specs.Refusal.{Check, check, firstRefusal, decided}
 use Rattle.bounds.specs.Edition.{editionChecks, recordChecks, cellsOf, boundsOf, blankBounds}
-use Rattle.bounds.specs.Places.{manyChecks}
+use Rattle.bounds.specs.Places.{mostEntries, manyChecks}
 use Rattle.bounds.specs.declared.Bounds.{Bounds}
 use Rattle.bounds.specs.declared.Refusal.{Refusal}
 use Rattle.model.specs.declared.Answer.{Answer}
@@ -74,7 +74,7 @@ abbrev pub tests : Ledger → List ℕ → List Bool
 tests r col =
     let gs = compositionsOf (r .bounds) in
     eqb (firstRefusal (recordChecks (r .bounds)) .number) 0
-    ∷ leb (length gs) 1000000
+    ∷ leb (length gs) mostEntries
     ∷ leb (length gs) (length col)
     ∷ leb (r .entries) (length gs)
     ∷ eqb (r .sold) (nonzeros (written r col))

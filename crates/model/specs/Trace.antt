@@ -27,6 +27,12 @@ named peek = 0
 named (claim s o) = s
 named (void s) = s
 
+-- the order that an accepted one writes; 0 for a void
+abbrev pub ordered : Call → ℕ
+ordered peek = 0
+ordered (claim s o) = o
+ordered (void s) = 0
+
 -- the events whose call passes a test
 abbrev pub those : (Call → Bool) → List Event → List Event
 those f [] = []
@@ -43,6 +49,9 @@ writers t = those writes (kept t)
 
 abbrev pub serials : List Event → List ℕ
 serials t = map (λ x. named (x .call)) t
+
+abbrev pub orders : List Event → List ℕ
+orders t = map (λ x. ordered (x .call)) t
 
 abbrev pub answeredCompositions : List Event → List (List ℕ)
 answeredCompositions t = map (λ x. x .reply .composition) t

@@ -6,6 +6,7 @@ ghost use mathlib.Core.Path.{_≡_};
 ghost use mathlib.Core.Bool.{true};
 ghost use Prim.Native.Nat.{_+_, _≤_, _<_};
 ghost use lib.ListN.{length, take};
+ghost use Rattle.bounds.specs.Places.{mostEntries};
 ghost use Rattle.model.specs.Basics.{indexOf};
 ghost use Rattle.model.specs.Model.{Call, blank, answer};
 ghost use Rattle.model.specs.Record.{compositionsOf, written, consistent, answered};
@@ -23,7 +24,7 @@ fn refused(number: u32, detail: u64) -> Answer
 
 // The next serial with its composition, which the record holds.
 fn accepted(ledger: Ledger) -> Answer
-    requires { ⌜ ledger .entries < 1000000 ⌝ }
+    requires { ⌜ ledger .entries < mostEntries ⌝ }
     ensures { λ r. ⌜ r ≡ record { number = 0; detail = 0; serial = ledger .entries + 1; composition = ledger .next } ⌝ }
 {
     let composition = ledger.next;
@@ -49,12 +50,6 @@ pub fn peek(ledger: Ledger, orders: &[u32]) -> Answer
     accepted(ledger)
 }
 
-fn wide(x: u32) -> u64
-    ensures { λ r. ⌜ r ≡ x ⌝ }
-{
-    x as u64
-}
-
 // The checks of a serial, 6, 18 and 19, which are those of a void.
 fn place(ledger: Ledger, orders: &[u32], count: u64, serial: u64) -> Answer
     requires { ⌜ (consistent ledger (now orders) ≡ true) × (count ≡ length (compositionsOf (ledger .bounds))) ⌝ }
@@ -69,7 +64,7 @@ fn place(ledger: Ledger, orders: &[u32], count: u64, serial: u64) -> Answer
     let entries = ledger.entries;
     if serial <= entries {
         let at = (serial - 1) as usize;
-        return refused(18, wide(orders[at]));
+        return refused(18, bounds::wide(orders[at]));
     }
     if entries + 1 < serial {
         return refused(19, entries + 1);

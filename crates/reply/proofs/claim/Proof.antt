@@ -11,8 +11,9 @@ use borrow.Author.Tests.{not-true, not-false}
 use Rattle.model.specs.declared.Answer.{Answer}
 use Rattle.model.specs.Basics.{indexOf}
 use Rattle.model.specs.Record.{consistent, written}
-use Rattle.model.proofs.Records.{parts, refusedWith, answered-16, answered-by}
-use Rattle.model.proofs.Replies.{claim-none, claim-refused, claim-again, claim-good}
+use Rattle.model.specs.Model.{refusedWith}
+use Rattle.model.proofs.Records.{parts, answered-16, answered-by}
+use Rattle.model.proofs.Answers.{claim-none, claim-refused, claim-again, claim-good}
 use Rattle.integrity.proofs.Scans.{often-none, often-some}
 use Rattle.reply.proofs.claim.Statement.{statement}
 use Rattle.reply.proofs.claim.Tie as tie

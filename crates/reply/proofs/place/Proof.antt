@@ -5,7 +5,8 @@ use native.Mathlib.Omega.{arith}
 use lib.ListN.{length}
 use denote.Ref.{now}
 use borrow.Author.Needs.{needs}
-use Rattle.model.proofs.Records.{Consistent, parts, refusedWith}
+use Rattle.model.specs.Model.{refusedWith}
+use Rattle.model.proofs.Records.{Consistent, parts}
 use Rattle.model.proofs.Replies.{serial-zero, serial-over, serial-below, serial-above, serial-next}
 use Rattle.reply.proofs.place.Statement.{statement}
 use Rattle.reply.proofs.place.Tie as tie
