@@ -25,9 +25,12 @@ compositionChecks ms r g =
     ∷ check 8 (isOther ms r g) 0
     ∷ []
 
--- the place 'serial given'
+-- the place 'serial given', where N is n: "0 or over N"
+abbrev pub numberChecks : ℕ → ℕ → List Check
+numberChecks n s = check 6 (either (eqb s 0) (ltb n s)) 0 ∷ []
+
 abbrev pub serialChecks : List ℕ → ℕ → ℕ → List Check
-serialChecks ms r s = check 6 (either (eqb s 0) (ltb (countOf ms r) s)) 0 ∷ []
+serialChecks ms r s = numberChecks (countOf ms r) s
 
 -- "N over 1,000,000", in the place 'opening' and for a listing
 abbrev pub manyChecks : List ℕ → ℕ → List Check
