@@ -30,7 +30,8 @@ returns-2 : tie.Need-returns-2
 returns-2 c =
     let s = c .before .before .before .before in
     let f = c .few-values .ensures in
-    (f .0, λ k l. within-up-to (now (s .args .upper)) (s .args .total) _ (s .pre .1) (smaller-at (c .before .before)) k (le-trans l (f .0)) (f .1 k l))
+    let within = within-up-to (now (s .args .upper)) (s .args .total) _ (s .pre .1) (smaller-at (c .before .before)) in
+    (f .0, λ k l. within k (le-trans l (f .0)) (f .1 k l))
 
 pub few-parts-spec : {M : Type 1} → statement M
 few-parts-spec =
