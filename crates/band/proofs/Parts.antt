@@ -15,21 +15,14 @@ use Rattle.bounds.specs.Edition.{whole}
 use Rattle.band.specs.Band.{InBand, IsRow, cap}
 use Rattle.band.specs.declared.Row.{Row}
 use Rattle.band.proofs.Bands.{whole-band, band-down}
-use Rattle.band.specs.Walk.{Here, Filled}
+use Rattle.band.specs.Walk.{Walks, Here, Filled}
 
 -- ---- one turn, from row k to row k - 1
-
--- k parts are left, whose row is `row`; they sum to rem, and the others to t
-pub record Walks (ms : List ℕ) (r k rem t : ℕ) (row′ : Row) : Type 0 where
-  pub few : k ≤ length ms
-  pub sum : t + rem ≡ r
-  pub row : IsRow ms r k row′
-  pub band : InBand ms r k rem
 
 module _ (ms : List ℕ) (r : ℕ) (last : Row) (cells : List ℕ) (filled : Filled ms r last cells) where
   pub walk-starts : (n : ℕ) → n ≡ length ms → Walks ms r n r 0 last
   walk-starts n e =
-      rw e (record { few = le-refl _; sum = zero-add r; row = filled .row; band = whole-band ms r (filled .reached) })
+      rw e (record { few = le-refl _; left = filled .row .left; sum = zero-add r; row = filled .row; band = whole-band ms r (filled .reached) })
 
   module _ (k rem t : ℕ) (row : Row) (walks : Walks ms r k rem t row) (some : 0 < k) where
     up : k ≡ suc (k - 1)
@@ -59,7 +52,13 @@ module _ (ms : List ℕ) (r : ℕ) (last : Row) (cells : List ℕ) (filled : Fil
 
       pub turn-next : (v : ℕ) → least ms (k - 1) rem ≤ v → v ≤ most ms (k - 1) rem → Walks ms r (k - 1) (rem - v) (t + v) to
       turn-next v low high =
-          record { few = le-of-lt inside; sum = omega (arith, walks .sum); row = row-is; band = band-down ms r (k - 1) rem v inside above low high }
+          record {
+            few = le-of-lt inside;
+            left = row-is .left;
+            sum = omega (arith, walks .sum);
+            row = row-is;
+            band = band-down ms r (k - 1) rem v inside above low high;
+          }
 
 -- ---- the part of a composition that is ranked
 

@@ -1,24 +1,29 @@
--- What is found in the order: a composition by its serial, or a serial by its composition.
+-- The two conversions: a composition to its serial, a serial to its composition.
 use mathlib.Core.Path.{_≡_}
 use mathlib.Core.List.{List, _++_}
 use Prim.Native.Nat.{ℕ, min, max}
 use lib.ListN.{replicate}
-use Rattle.walsh.specs.Order.{countOf}
+use Rattle.walsh.specs.Order.{Composition, countOf}
 use Rattle.walsh.specs.Serial.{serialOf, compositionOf}
 use Rattle.bounds.specs.Refusal.{Check, firstRefusal, decided}
-use Rattle.bounds.specs.Edition.{whole, shapeChecks, editionChecks, cellsOf}
+use Rattle.bounds.specs.Edition.{whole, shapeChecks, limitChecks, editionChecks, cellsOf}
 use Rattle.bounds.specs.Places.{compositionChecks}
 use Rattle.bounds.specs.declared.Refusal.{Refusal}
 use Rattle.band.specs.Band.{bandSize}
 use Rattle.band.specs.declared.Row.{Row}
 use Rattle.band.specs.Walk.{Filled}
-use Rattle.band.specs.declared.find.Found.{Found}
-use Rattle.band.specs.declared.find.Task.{Task}
-use Rattle.band.specs.declared.find.Task.the-variants.{Rank, Unrank}
+use Rattle.band.specs.declared.find.Converted.{Converted}
+use Rattle.band.specs.declared.find.Conversion.{Conversion}
+use Rattle.band.specs.declared.find.Conversion.the-variants.{Rank, Unrank}
 
--- the places 'edition' and 'mix given'
-abbrev pub rankChecks : List ℕ → ℕ → List ℕ → List Check
-rankChecks ms r g = editionChecks ms r ++ compositionChecks ms r g
+-- the checks of a conversion from a composition: those that cost little, then 5, which is known when the table is filled. Document 01 has 5 before 7
+-- and 8; crate `rank` gives them in that order.
+abbrev pub earlyChecks : List ℕ → ℕ → List ℕ → List Check
+earlyChecks ms r g = shapeChecks ms r ++ (compositionChecks ms r g ++ limitChecks ms r)
+
+-- a composition is given, where its serial is asked for
+abbrev pub Given : Conversion → List ℕ → ℕ → List ℕ → Type 0
+Given asked ms r g = asked ≡ Rank → Composition ms r g
 
 -- the serial of 1..n that is nearest to s: 0 counts as 1, and one over n as n
 abbrev pub clamp : ℕ → ℕ → ℕ
@@ -40,12 +45,12 @@ pub record Sized (ms : List ℕ) (r all size : ℕ) : Type 0 where
   pub all-is : all ≡ whole ms
   pub size-is : size ≡ bandSize ms r
 
-abbrev pub foundBy : Refusal → ℕ → ℕ → List ℕ → Found
-foundBy v n s g =
+abbrev pub convertedBy : Refusal → ℕ → ℕ → List ℕ → Converted
+convertedBy v n s g =
     decided v
     (record { number = 0; detail = 0; count = n; serial = s; composition = g })
     (record { number = v .number; detail = v .detail; count = 0; serial = 0; composition = replicate 24 0 })
 
-unfoldable pub foundOf : Task → List ℕ → ℕ → List ℕ → Found
-foundOf Rank ms r g = foundBy (firstRefusal (rankChecks ms r g)) (countOf ms r) (serialOf ms r g) (replicate 24 0)
-foundOf (Unrank s) ms r g = foundBy (firstRefusal (editionChecks ms r)) (countOf ms r) (clamp (countOf ms r) s) (nearest ms r s)
+unfoldable pub convertedOf : Conversion → List ℕ → ℕ → List ℕ → Converted
+convertedOf Rank ms r g = convertedBy (firstRefusal (earlyChecks ms r g)) (countOf ms r) (serialOf ms r g) (replicate 24 0)
+convertedOf (Unrank s) ms r g = convertedBy (firstRefusal (editionChecks ms r)) (countOf ms r) (clamp (countOf ms r) s) (nearest ms r s)

@@ -1,15 +1,41 @@
--- What the walk over the band knows of a part. Nothing here is promised to a caller.
+-- The walks over the band, from the last part down: what is kept from part to part, and what is known at a part.
 use mathlib.Core.Path.{_≡_}
-use mathlib.Core.List.{List}
+use mathlib.Core.List.{List, [], _++_}
 use Prim.Native.Nat.{ℕ, suc, _+_, _-_, _≤_, _<_}
-use lib.ListN.{length}
-use Rattle.walsh.specs.Sums.{sum}
-use Rattle.walsh.specs.Order.{count, least, most, isOdd, valueAt}
-use Rattle.walsh.specs.Rank.{partIndex, blockSize}
+use lib.ListN.{length, getD, drop}
+use Rattle.walsh.specs.Sums.{sum, sumTo}
+use Rattle.walsh.specs.Order.{CompositionTo, count, least, most, isOdd, valueAt, listing, order}
+use Rattle.walsh.specs.Rank.{partIndex, blockSize, rankOf}
 use Rattle.bounds.specs.Edition.{whole}
 use Rattle.band.specs.Band.{InBand, IsRow, Band}
 use Rattle.band.specs.declared.Row.{Row}
 use Rattle.band.specs.declared.walk.Run.{Run}
+
+-- ---- document 01: "Serial to mix works from the last kind down". What holds in both directions whenever k parts are left to do
+
+pub record Walks (ms : List ℕ) (r k rem t : ℕ) (row′ : Row) : Type 0 where
+  pub few : k ≤ length ms
+  -- the sum that is kept is that of the bounds to the left
+  pub left : row′ .left ≡ sumTo ms k
+  -- the parts that are done, those to the right, sum to t, and rem is left of the total
+  pub sum : t + rem ≡ r
+  pub row : IsRow ms r k row′
+  pub band : InBand ms r k rem
+
+-- from a rank to its composition: the parts of `out` from k on are those of the entry that has this rank in the order, and before them stands what
+-- has the rank s, which is kept, among all that the first k parts can be there
+pub record Written (ms : List ℕ) (r rank k rem t s : ℕ) (row : Row) (out : List ℕ) : Type 0 where
+  pub walks : Walks ms r k rem t row
+  pub inside : s < count ms k rem
+  pub entry : getD (listing ms k rem t) s [] ++ drop k out ≡ getD (order ms r) rank []
+
+-- from a composition to its rank: the s that is kept and the rank among all that the first k parts can be there make the rank
+pub record Placed (ms : List ℕ) (r : ℕ) (g : List ℕ) (k rem t s : ℕ) (row : Row) : Type 0 where
+  pub walks : Walks ms r k rem t row
+  pub parts : CompositionTo ms k rem g
+  pub rank : s + rankOf ms k rem t g ≡ rankOf ms (length ms) r 0 g
+
+-- ---- at one part
 
 -- the values of part k where rem is left for it and the parts to its left, and the parts to its right sum to t
 unfoldable pub runOf : List ℕ → ℕ → ℕ → ℕ → Run

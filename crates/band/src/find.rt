@@ -1,24 +1,25 @@
-// An entry of the order, found by its composition or by its serial, with a band of as many cells as it needs.
+// The two conversions, each with a band of as many cells as it needs: from a composition to its serial, and from a serial to its composition.
 ghost use mathlib.Core.Path.{_≡_};
 ghost use mathlib.Core.List.{[]};
 ghost use Prim.Native.Nat.{_≤_};
 ghost use lib.ListN.{length, replicate};
+ghost use Rattle.walsh.specs.Order.{Composition};
 ghost use Rattle.bounds.specs.Refusal.{firstRefusal};
 ghost use Rattle.bounds.specs.Edition.{whole, shapeChecks};
 ghost use Rattle.band.specs.Band.{bandSize};
-ghost use Rattle.band.specs.Find.{clamp, Ready, Sized, foundOf};
-ghost use Rattle.band.specs.declared.find.Task.the-variants.{Rank, Unrank};
+ghost use Rattle.band.specs.Find.{clamp, Ready, Sized, Given, convertedOf};
+ghost use Rattle.band.specs.declared.find.Conversion.the-variants.{Rank, Unrank};
 use crate::Row;
 use crate::window::table;
 
 // What is asked: the serial of a given composition, or the composition of a serial.
-pub enum Task {
+pub enum Conversion {
     Rank,
     Unrank(u64),
 }
 
 // N, the entry's serial, and its cells where they were asked for; all zeros where something is refused.
-pub struct Found {
+pub struct Converted {
     pub number: u32,
     pub detail: u64,
     pub count: u64,
@@ -26,10 +27,10 @@ pub struct Found {
     pub composition: [u8; 24],
 }
 
-fn nothing(number: u32, detail: u64) -> Found
+fn nothing(number: u32, detail: u64) -> Converted
     ensures { λ r. ⌜ r ≡ record { number = number; detail = detail; count = 0; serial = 0; composition = replicate 24 0 } ⌝ }
 {
-    Found {
+    Converted {
         number,
         detail,
         count: 0,
@@ -51,17 +52,20 @@ fn clamp(n: u64, s: u64) -> u64
     if n < 1 { 1 } else { n }
 }
 
-// The serial of `given`, or its refusal.
-fn rank_in(upper: &[u8], total: u32, last: Row, cells: &[u64], count: u64, given: &[u8]) -> Found
-    requires { ⌜ Ready (now upper) total last (now cells) count ⌝ }
-    ensures { λ r. ⌜ r ≡ foundOf Rank (now (upper .entry)) total (now (given .entry)) ⌝ }
+// The serial of `given`.
+fn rank_in(
+    upper: &[u8],
+    total: u32,
+    last: Row,
+    cells: &[u64],
+    count: u64,
+    given: &[u8],
+) -> Converted
+    requires { ⌜ Ready (now upper) total last (now cells) count × Composition (now upper) total (now given) ⌝ }
+    ensures { λ r. ⌜ r ≡ convertedOf Rank (now (upper .entry)) total (now (given .entry)) ⌝ }
 {
-    let v = places::composition_refusal(upper, total, given);
-    if 0 < v.number {
-        return nothing(v.number, v.detail);
-    }
     let before = crate::walk::place(upper, total as usize, last, cells, given);
-    Found {
+    Converted {
         number: 0,
         detail: 0,
         count,
@@ -71,9 +75,16 @@ fn rank_in(upper: &[u8], total: u32, last: Row, cells: &[u64], count: u64, given
 }
 
 // The composition of the serial nearest to `serial`.
-fn unrank_in(upper: &[u8], total: u32, last: Row, cells: &[u64], count: u64, serial: u64) -> Found
+fn unrank_in(
+    upper: &[u8],
+    total: u32,
+    last: Row,
+    cells: &[u64],
+    count: u64,
+    serial: u64,
+) -> Converted
     requires { ⌜ Ready (now upper) total last (now cells) count ⌝ }
-    ensures { λ r. ⌜ r ≡ foundOf (Unrank serial) (now (upper .entry)) total [] ⌝ }
+    ensures { λ r. ⌜ r ≡ convertedOf (Unrank serial) (now (upper .entry)) total [] ⌝ }
 {
     let s = clamp(count, serial);
     let n = upper.len();
@@ -86,7 +97,7 @@ fn unrank_in(upper: &[u8], total: u32, last: Row, cells: &[u64], count: u64, ser
         s - 1,
         &mut composition[..n],
     );
-    Found {
+    Converted {
         number: 0,
         detail: 0,
         count,
@@ -101,12 +112,12 @@ fn find_in(
     total: u32,
     all: usize,
     cells: &mut [u64],
-    task: Task,
+    asked: Conversion,
     given: &[u8],
-) -> Found
+) -> Converted
     requires { ⌜ (firstRefusal (shapeChecks (now upper) total) .number ≡ 0) × (all ≡ whole (now upper))
-        × (length (now cells) ≡ bandSize (now upper) total) ⌝ }
-    ensures { λ r. ⌜ r ≡ foundOf task (now (upper .entry)) total (now (given .entry)) ⌝ }
+        × (length (now cells) ≡ bandSize (now upper) total) × Given asked (now upper) total (now given) ⌝ }
+    ensures { λ r. ⌜ r ≡ convertedOf asked (now (upper .entry)) total (now (given .entry)) ⌝ }
 {
     let c = table::fill(upper, total, all, cells);
     if 0 < c.number {
@@ -119,41 +130,49 @@ fn find_in(
         low: total as usize,
         high: total as usize,
     };
-    match task {
-        Task::Rank => rank_in(upper, total, last, cells, c.count, given),
-        Task::Unrank(serial) => unrank_in(upper, total, last, cells, c.count, serial),
+    match asked {
+        Conversion::Rank => rank_in(upper, total, last, cells, c.count, given),
+        Conversion::Unrank(serial) => unrank_in(upper, total, last, cells, c.count, serial),
     }
 }
 
 // `find_in` of a band that is not large: its cells are the first of an array that is not much longer, since all of it is cleared.
-fn in_small(upper: &[u8], total: u32, all: usize, size: usize, task: Task, given: &[u8]) -> Found
-    requires { ⌜ Sized (now upper) total all size × (size ≤ 1024) ⌝ }
-    ensures { λ r. ⌜ r ≡ foundOf task (now (upper .entry)) total (now (given .entry)) ⌝ }
+fn in_small(
+    upper: &[u8],
+    total: u32,
+    all: usize,
+    size: usize,
+    asked: Conversion,
+    given: &[u8],
+) -> Converted
+    requires { ⌜ Sized (now upper) total all size × (size ≤ 1024) × Given asked (now upper) total (now given) ⌝ }
+    ensures { λ r. ⌜ r ≡ convertedOf asked (now (upper .entry)) total (now (given .entry)) ⌝ }
 {
     if size <= 64 {
         let mut cells = [0u64; 64];
-        return find_in(upper, total, all, &mut cells[..size], task, given);
+        return find_in(upper, total, all, &mut cells[..size], asked, given);
     }
     if size <= 128 {
         let mut cells = [0u64; 128];
-        return find_in(upper, total, all, &mut cells[..size], task, given);
+        return find_in(upper, total, all, &mut cells[..size], asked, given);
     }
     if size <= 256 {
         let mut cells = [0u64; 256];
-        return find_in(upper, total, all, &mut cells[..size], task, given);
+        return find_in(upper, total, all, &mut cells[..size], asked, given);
     }
     if size <= 512 {
         let mut cells = [0u64; 512];
-        return find_in(upper, total, all, &mut cells[..size], task, given);
+        return find_in(upper, total, all, &mut cells[..size], asked, given);
     }
     let mut cells = [0u64; 1024];
-    find_in(upper, total, all, &mut cells[..size], task, given)
+    find_in(upper, total, all, &mut cells[..size], asked, given)
 }
 
 // The same of any band, in larger arrays. It surveys anew, which costs little beside such a band and makes it a call of its own, so that the others
 // have small frames.
-fn in_large(upper: &[u8], total: u32, task: Task, given: &[u8]) -> Found
-    ensures { λ r. ⌜ r ≡ foundOf task (now (upper .entry)) total (now (given .entry)) ⌝ }
+fn in_large(upper: &[u8], total: u32, asked: Conversion, given: &[u8]) -> Converted
+    requires { ⌜ Given asked (now upper) total (now given) ⌝ }
+    ensures { λ r. ⌜ r ≡ convertedOf asked (now (upper .entry)) total (now (given .entry)) ⌝ }
 {
     let s = crate::survey(upper, total);
     if 0 < s.number {
@@ -163,44 +182,55 @@ fn in_large(upper: &[u8], total: u32, task: Task, given: &[u8]) -> Found
     let size = s.size;
     if size <= 1536 {
         let mut cells = [0u64; 1536];
-        return find_in(upper, total, all, &mut cells[..size], task, given);
+        return find_in(upper, total, all, &mut cells[..size], asked, given);
     }
     if size <= 2048 {
         let mut cells = [0u64; 2048];
-        return find_in(upper, total, all, &mut cells[..size], task, given);
+        return find_in(upper, total, all, &mut cells[..size], asked, given);
     }
     if size <= 4096 {
         let mut cells = [0u64; 4096];
-        return find_in(upper, total, all, &mut cells[..size], task, given);
+        return find_in(upper, total, all, &mut cells[..size], asked, given);
     }
     let mut cells = [0u64; 6145];
-    find_in(upper, total, all, &mut cells[..size], task, given)
+    find_in(upper, total, all, &mut cells[..size], asked, given)
 }
 
-// The serial of a composition, or the refusal.
-pub fn serial_of(upper: &[u8], total: u32, composition: &[u8]) -> Found
-    ensures { λ r. ⌜ r ≡ foundOf Rank (now (upper .entry)) total (now (composition .entry)) ⌝ }
+// The serial of a composition, or the refusal. What is no composition is refused before the table is filled, and so before 5 is known.
+pub fn serial_of(upper: &[u8], total: u32, composition: &[u8]) -> Converted
+    ensures { λ r. ⌜ r ≡ convertedOf Rank (now (upper .entry)) total (now (composition .entry)) ⌝ }
 {
     let s = crate::survey(upper, total);
     if 0 < s.number {
         return nothing(s.number, s.detail);
     }
-    if s.size <= 1024 {
-        return in_small(upper, total, s.all, s.size, Task::Rank, composition);
+    let v = places::composition_refusal(upper, total, composition);
+    if 0 < v.number {
+        return nothing(v.number, v.detail);
     }
-    in_large(upper, total, Task::Rank, composition)
+    if s.size <= 1024 {
+        return in_small(upper, total, s.all, s.size, Conversion::Rank, composition);
+    }
+    in_large(upper, total, Conversion::Rank, composition)
 }
 
 // N and the composition of the serial nearest to `serial`, or the refusal. (No composition is given, so the bounds are lent for it.)
-pub fn composition_of(upper: &[u8], total: u32, serial: u64) -> Found
-    ensures { λ r. ⌜ r ≡ foundOf (Unrank serial) (now (upper .entry)) total [] ⌝ }
+pub fn composition_of(upper: &[u8], total: u32, serial: u64) -> Converted
+    ensures { λ r. ⌜ r ≡ convertedOf (Unrank serial) (now (upper .entry)) total [] ⌝ }
 {
     let s = crate::survey(upper, total);
     if 0 < s.number {
         return nothing(s.number, s.detail);
     }
     if s.size <= 1024 {
-        return in_small(upper, total, s.all, s.size, Task::Unrank(serial), upper);
+        return in_small(
+            upper,
+            total,
+            s.all,
+            s.size,
+            Conversion::Unrank(serial),
+            upper,
+        );
     }
-    in_large(upper, total, Task::Unrank(serial), upper)
+    in_large(upper, total, Conversion::Unrank(serial), upper)
 }

@@ -25,13 +25,13 @@ compositionChecks ms r g =
     ∷ check 8 (isOther ms r g) 0
     ∷ []
 
--- "serial outside 1..N", where N is n
-abbrev pub outside : ℕ → ℕ → Bool
-outside n s = either (eqb s 0) (ltb n s)
+-- "s is outside 1..N", where N is n
+abbrev pub isNoSerial : ℕ → ℕ → Bool
+isNoSerial n s = either (eqb s 0) (ltb n s)
 
 -- the place 'serial given': "0 or over N"
 abbrev pub noSerial : ℕ → ℕ → Check
-noSerial n s = check 6 (outside n s) 0
+noSerial n s = check 6 (isNoSerial n s) 0
 
 abbrev pub serialChecks : List ℕ → ℕ → ℕ → List Check
 serialChecks ms r s = noSerial (countOf ms r) s ∷ []

@@ -1,4 +1,5 @@
 pub mod Answers
+pub mod Cheap
 pub mod Falls
 pub mod Rows
 pub mod Stairs

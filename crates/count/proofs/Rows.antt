@@ -74,7 +74,7 @@ module _ (ms : List ℕ) (r : ℕ) (part : Part) (p : Passing ms r part) (t : �
         let c = fall-count ms r (part .k) t v (p .given) (p .reached) slid (rw (← (p .bound)) (full-at g)) at-high in
         record {
           slid = slid;
-          within = λ q. rw (c .1) (q (t - 1) (le-trans before at-total));
+          within = λ q. rw (c .1) (q (t - 1) (c .0));
           over = λ q. le-trans (rw (c .1) at q) (band-most ms r (part .k + 1) (t - 1) (suc-le (p .given)) (c .0));
         }
 
@@ -164,7 +164,7 @@ module _ (ms : List ℕ) (r : ℕ) (part : Part) (p : Passing ms r part) where
   pub top-within : (a t w : ℕ) → w + sum f a ≡ sum f t → part .next .high - part .m ≤ a → t ≤ part .row .high + 1
       → (Within ms r (part .k + 1) → w < cap) × (cap ≤ w → cap ≤ count ms (length ms) r)
   top-within a t w e l h = (
-    λ q. lt-of-le-of-lt most (q (part .next .high) (top-next .high)),
+    λ q. lt-of-le-of-lt most (q (part .next .high) top-next),
     λ q. le-trans (le-trans q most) (band-most ms r (part .k + 1) (part .next .high) (suc-le (p .given)) top-next),
   )
     where

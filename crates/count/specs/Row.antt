@@ -32,9 +32,13 @@ pub record Passing (ms : List ℕ) (r : ℕ) (part : Part) : Type 0 where
 abbrev pub Row-counts : List ℕ → ℕ → List ℕ → ℕ → ℕ → ℕ → Type 0
 Row-counts ms r cells k a b = (t : ℕ) → InBand ms r k t → a ≤ t → t < b → (getD cells t 0 ≡ count ms k t) × (count ms k t < cap)
 
--- every count of the first k parts is within the limit
+-- every count of the first k parts for a sum up to q is within the limit
+abbrev pub UpTo : List ℕ → ℕ → ℕ → Type 0
+UpTo ms q k = (t : ℕ) → t ≤ q → count ms k t < cap
+
+-- every count of row k of the band is
 abbrev pub Within : List ℕ → ℕ → ℕ → Type 0
-Within ms r k = (t : ℕ) → t ≤ r → count ms k t < cap
+Within ms r k = (t : ℕ) → InBand ms r k t → count ms k t < cap
 
 -- row k + 1 stands from the sum t on, row k below it, and w is the window for the sum before t
 pub record Passed (ms : List ℕ) (r k t w : ℕ) (cells : List ℕ) : Type 0 where

@@ -4,9 +4,9 @@ ghost use mathlib.Core.Bool.{true};
 ghost use Prim.Native.Nat.{ℕ, _*_, _≤_, _<_};
 ghost use lib.ListN.{length};
 ghost use Rattle.bounds.specs.Refusal.{firstRefusal};
-ghost use Rattle.bounds.specs.Edition.{blankBounds, editionChecks};
+ghost use Rattle.bounds.specs.Edition.{whole, blankBounds, editionChecks};
 ghost use Rattle.count.specs.Checked.{checkOf, recordOf};
-ghost use Rattle.count.specs.Row.{Within};
+ghost use Rattle.count.specs.Row.{UpTo, Within};
 use bounds::Bounds;
 use bounds::LIMIT;
 use bounds::Refusal;
@@ -16,6 +16,9 @@ pub mod row;
 
 // 2^55: a smaller number times 256 is within the limit.
 const SMALL: u64 = 36_028_797_018_963_968;
+
+// The largest sum whose compositions into 24 parts, without bounds, are within the limit: there are 8,249,183,865,278,257,824.
+const FREE: usize = 51;
 
 // An accepted edition and N, or the refusal, with all else 0.
 #[repr(C)]
@@ -73,16 +76,16 @@ fn is_within(a: u64, b: u64) -> bool
     if a < SMALL { true } else { a <= LIMIT / b }
 }
 
-// Of how many first parts the product of the numbers of values of all but the widest is within the limit: then every number of compositions into
-// them is.
-fn few_parts(upper: &[u8], total: usize) -> usize
-    ensures { λ r. ⌜ (r ≤ length (now (upper .entry))) × ((k : ℕ) → k ≤ r → Within (now (upper .entry)) total k) ⌝ }
+// Of how many first parts the product of the numbers of values of all but the widest is within the limit, where no value is over `most`: then every
+// number of compositions of a sum up to `most` into them is.
+fn few_values(upper: &[u8], most: usize) -> usize
+    ensures { λ r. ⌜ (r ≤ length (now (upper .entry))) × ((k : ℕ) → k ≤ r → UpTo (now (upper .entry)) most k) ⌝ }
 {
     let mut product: u64 = 1;
     let mut widest: usize = 1;
     let mut k = 0;
     while k < upper.len() {
-        let values = walsh::lesser(walsh::wide(upper[k]), total) + 1;
+        let values = walsh::lesser(walsh::wide(upper[k]), most) + 1;
         let factor = walsh::lesser(values, widest);
         widest = values + widest - factor;
         if !is_within(product, factor as u64) {
@@ -94,6 +97,19 @@ fn few_parts(upper: &[u8], total: usize) -> usize
     k
 }
 
+// Of how many first parts a bound that costs nothing says that every number of the band is within the limit. There are as many compositions of the
+// total as of what it leaves of the bounds' sum `all` (each part taken from its bound), so the smaller of the two counts.
+fn few_parts(upper: &[u8], total: usize, all: usize) -> usize
+    requires { ⌜ (length (now upper) ≤ 24) × (total ≤ whole (now upper)) × (all ≡ whole (now upper)) ⌝ }
+    ensures { λ r. ⌜ (r ≤ length (now (upper .entry))) × ((k : ℕ) → k ≤ r → Within (now (upper .entry)) total k) ⌝ }
+{
+    let smaller = walsh::lesser(total, all - total);
+    if smaller <= FREE {
+        return upper.len();
+    }
+    few_values(upper, smaller)
+}
+
 // The first of the refusals 1 to 5 that holds, for calls that need no N: where a bound on N that costs nothing is within the limit, nothing is
 // counted.
 pub fn bounds_refusal(upper: &[u8], total: u32) -> Refusal
@@ -103,9 +119,10 @@ pub fn bounds_refusal(upper: &[u8], total: u32) -> Refusal
     if 0 < s.number {
         return refused(s.number, s.detail);
     }
-    if few_parts(upper, total as usize) == upper.len() {
+    let few = few_parts(upper, total as usize, s.all);
+    if few == upper.len() {
         return refused(0, 0);
     }
-    let n = row::number(upper, total);
+    let n = row::count_row(upper, total, s.all, few);
     refused(n.number, n.detail)
 }

@@ -2,7 +2,7 @@
 // it.
 ghost use mathlib.Core.Path.{_≡_};
 ghost use mathlib.Core.Bool.{true, false};
-ghost use Prim.Native.Nat.{_+_, _-_, _≤_, _<_, min};
+ghost use Prim.Native.Nat.{ℕ, _+_, _-_, _≤_, _<_, min};
 ghost use lib.ListN.{length};
 ghost use Rattle.walsh.specs.Order.{count};
 ghost use Rattle.bounds.specs.Edition.{whole, shapeChecks};
@@ -197,12 +197,11 @@ fn pass(upper: &[u8], total: usize, part: Part, cells: &mut [u64], careful: bool
 }
 
 // The number of compositions, or 2^63 where that is less. Numbers are looked at only from the first row on that `few_parts` does not bound.
-fn rows(upper: &[u8], total: usize, all: usize, cells: &mut [u64]) -> u64
+fn rows(upper: &[u8], total: usize, all: usize, few: usize, cells: &mut [u64]) -> u64
     requires { ⌜ (length (now upper) ≤ 24) × (total ≤ 255) × (total ≤ whole (now upper)) × (all ≡ whole (now upper))
-        × (length (now cells) ≡ 256) ⌝ }
+        × (length (now cells) ≡ 256) × ((k : ℕ) → k ≤ few → Within (now upper) total k) ⌝ }
     ensures { λ r. ⌜ r ≡ min (count (now (upper .entry)) (length (now (upper .entry))) total) cap ⌝ }
 {
-    let few = crate::few_parts(upper, total);
     let mut left = 0;
     let mut row = ends_of(total, 0, all);
     cells[0] = 1;
@@ -221,13 +220,14 @@ fn rows(upper: &[u8], total: usize, all: usize, cells: &mut [u64]) -> u64
     cells[total]
 }
 
-// N of a shape that is accepted.
-fn count_row(upper: &[u8], total: u32, all: usize) -> Counted
-    requires { ⌜ (firstRefusal (shapeChecks (now upper) total) .number ≡ 0) × (all ≡ whole (now upper)) ⌝ }
+// N of a shape that is accepted, where the numbers of the first `few` rows are within the limit.
+pub(crate) fn count_row(upper: &[u8], total: u32, all: usize, few: usize) -> Counted
+    requires { ⌜ (firstRefusal (shapeChecks (now upper) total) .number ≡ 0) × (all ≡ whole (now upper))
+        × ((k : ℕ) → k ≤ few → Within (now upper) total k) ⌝ }
     ensures { λ r. ⌜ r ≡ numberOf (now (upper .entry)) total ⌝ }
 {
     let mut cells = [0u64; 256];
-    let n = rows(upper, total as usize, all, &mut cells);
+    let n = rows(upper, total as usize, all, few, &mut cells);
     table::within_limit(n)
 }
 
@@ -244,5 +244,6 @@ pub fn number(upper: &[u8], total: u32) -> Counted
     if 0 < s.number {
         return table::uncounted(s.number, s.detail);
     }
-    count_row(upper, total, s.all)
+    let few = crate::few_parts(upper, total as usize, s.all);
+    count_row(upper, total, s.all, few)
 }

@@ -10,7 +10,7 @@ use lib.ListN.{length, getD}
 use borrow.Author.Tests.{lt-ltb, le-ltb, eqb-true, eq-eqb, ne-eqb}
 use Rattle.walsh.proofs.Cases.{on-test}
 use Rattle.bounds.specs.Refusal.{firstRefusal}
-use Rattle.bounds.specs.Places.{outside, noSerial}
+use Rattle.bounds.specs.Places.{isNoSerial, noSerial}
 use Rattle.bounds.specs.declared.Refusal.{Refusal}
 use Rattle.bounds.proofs.Refusals.{refusal-here, refusal-next, refusal-first, refusal-later, by-acceptance}
 use Rattle.model.specs.declared.Answer.{Answer}
@@ -64,7 +64,7 @@ module _ (gs : List (List ℕ)) (l : List ℕ) where
         let not-18 = refusal-next (alreadyWritten l s) (aboveNext l s ∷ []) (le-ltb s (next l) (omega arith)) in
         ap (λ (v : Refusal). by v s) (inside ∙ not-18 ∙ refusal-here (aboveNext l s) [] (lt-ltb (next l) s q))
 
-  pub placed-outside : (s : ℕ) → outside (length gs) s ≡ true → placed gs l s ≡ refusedWith 6 0
+  pub placed-outside : (s : ℕ) → isNoSerial (length gs) s ≡ true → placed gs l s ≡ refusedWith 6 0
   unfolding answer
   placed-outside s t = ap (λ (v : Refusal). by v s) (refusal-here (noSerial (length gs) s) _ t)
 

@@ -10,7 +10,7 @@ use lib.ListN.{length}
 use borrow.Author.Tests.{ltb-false, lt-ltb, eqb-true, eqb-false}
 use Rattle.walsh.proofs.Cases.{on-less}
 use Rattle.bounds.specs.Refusal.{Check, firstRefusal}
-use Rattle.bounds.specs.Places.{outside}
+use Rattle.bounds.specs.Places.{isNoSerial}
 use Rattle.bounds.specs.declared.Refusal.{Refusal}
 use Rattle.bounds.proofs.Editions.{neither}
 use Rattle.bounds.proofs.Refusals.{same-number, numbered, passed, refusal-here, refusal-next, refusal-later, is-accepted, lacks, refusal-lacks}
@@ -115,7 +115,7 @@ module _ (gs : List (List ℕ)) (l : List ℕ) where
       )
 
   -- a serial that is not refused 6
-  positive : (s : ℕ) → outside (length gs) s ≡ false → 1 ≤ s
+  positive : (s : ℕ) → isNoSerial (length gs) s ≡ false → 1 ≤ s
   positive s e = omega (arith, eqb-false s 0 (neither (eqb s 0) (ltb (length gs) s) e .0))
 
   pub already-written : (c : Call) → writes c ≡ true → Accepts (rowsBefore 18 (callChecks gs l c))

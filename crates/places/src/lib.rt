@@ -1,10 +1,11 @@
-// The checks of the places 'mix given' and 'lent part' (document 01, "Refusals by place of checking"), which several calls have.
+// The checks of the places 'mix given', 'serial given' and 'lent part' (document 01, "Refusals by place of checking"), which several calls have.
 use bounds::Refusal;
 use bounds::refused;
 ghost use mathlib.Core.Path.{_≡_};
+ghost use mathlib.Core.List.{[], _∷_};
 ghost use lib.ListN.{length};
 ghost use Rattle.bounds.specs.Refusal.{firstRefusal};
-ghost use Rattle.bounds.specs.Places.{isOther, compositionChecks, lentChecks};
+ghost use Rattle.bounds.specs.Places.{isOther, compositionChecks, noSerial, lentChecks};
 
 // A part of g is over its bound, or the sum of the parts isn't the total. What is left of the total never falls below 0, so no sum is too large.
 fn is_other(upper: &[u8], total: u32, g: &[u8]) -> bool
@@ -36,6 +37,19 @@ pub fn composition_refusal(upper: &[u8], total: u32, g: &[u8]) -> Refusal
     }
     if is_other(upper, total, g) {
         return refused(8, 0);
+    }
+    refused(0, 0)
+}
+
+// The place 'serial given', where N is `count`.
+pub fn serial_refusal(count: u64, serial: u64) -> Refusal
+    ensures { λ r. ⌜ r ≡ firstRefusal (noSerial count serial ∷ []) ⌝ }
+{
+    if serial == 0 {
+        return refused(6, 0);
+    }
+    if count < serial {
+        return refused(6, 0);
     }
     refused(0, 0)
 }

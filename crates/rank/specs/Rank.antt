@@ -1,12 +1,17 @@
 -- Document 01, "Serial and mix": "Mix to serial answers the serial, or the refusal with its detail."
-use mathlib.Core.List.{List}
+use mathlib.Core.List.{List, _++_}
 use Prim.Native.Nat.{ℕ}
 use Rattle.walsh.specs.Serial.{serialOf}
-use Rattle.bounds.specs.Refusal.{firstRefusal, decided}
+use Rattle.bounds.specs.Refusal.{Check, firstRefusal, decided}
+use Rattle.bounds.specs.Edition.{editionChecks}
+use Rattle.bounds.specs.Places.{compositionChecks}
 use Rattle.bounds.specs.declared.Refusal.{Refusal}
-pub use Rattle.band.specs.Find.{rankChecks}
 use Rattle.rank.specs.declared.Ranked.{Ranked}
 use Rattle.rank.specs.declared.Ranked.the-variants.{Serial, Refused}
+
+-- the places 'edition' and 'mix given'
+abbrev pub rankChecks : List ℕ → ℕ → List ℕ → List Check
+rankChecks ms r g = editionChecks ms r ++ compositionChecks ms r g
 
 -- "Where an answer is an enum, a definition gives, for each of its cases, this paper's number and values."
 pub record Answer : Type 0 where

@@ -3,7 +3,8 @@ ghost use mathlib.Core.Path.{_≡_};
 ghost use Prim.Native.Nat.{_≤_};
 ghost use lib.ListN.{length, take};
 ghost use Rattle.rank.specs.Rank.{answerOf, rankAnswer};
-ghost use Rattle.rank.specs.Unrank.{unrankCall};
+ghost use Rattle.bounds.specs.Refusal.{firstRefusal};
+ghost use Rattle.rank.specs.Unrank.{unrankChecks, unrankCall};
 ghost use Rattle.rank.specs.Locate.{locateOf, locateRecordOf};
 use band::find;
 use bounds::Bounds;
@@ -17,7 +18,6 @@ pub enum Ranked {
 }
 
 // N and a composition, in 24 cells; all zeros where the edition is refused.
-#[repr(C)]
 pub struct Located {
     pub number: u32,
     pub detail: u64,
@@ -25,33 +25,52 @@ pub struct Located {
     pub composition: [u8; 24],
 }
 
-// The serial of a composition.
+// The serial of a composition. 7 and 8 are known before the table is filled, and given where 5 is not.
 pub fn rank(upper: &[u8], total: u32, composition: &[u8]) -> Ranked
     ensures { λ r. ⌜ answerOf r ≡ rankAnswer (now (upper .entry)) total (now (composition .entry)) ⌝ }
 {
     let f = find::serial_of(upper, total, composition);
-    if 0 < f.number {
-        return Ranked::Refused(f.number, f.detail);
+    if f.number == 0 {
+        return Ranked::Serial(f.serial);
     }
-    Ranked::Serial(f.serial)
+    if 6 < f.number {
+        let e = count::bounds_refusal(upper, total);
+        if 0 < e.number {
+            return Ranked::Refused(e.number, e.detail);
+        }
+    }
+    Ranked::Refused(f.number, f.detail)
+}
+
+// The refusal of `unrank` for a lent part of `have` bytes, without a table.
+fn unrank_refusal(upper: &[u8], total: u32, serial: u64, have: usize) -> Refusal
+    ensures { λ r. ⌜ r ≡ firstRefusal (unrankChecks (now (upper .entry)) total serial have) ⌝ }
+{
+    let n = count::row::number(upper, total);
+    if 0 < n.number {
+        return refused(n.number, n.detail);
+    }
+    let v = places::serial_refusal(n.count, serial);
+    if 0 < v.number {
+        return v;
+    }
+    places::lent_refusal(upper.len(), have)
 }
 
 // Writes the composition of a serial into `out`, which has a byte for each part.
 pub fn unrank(upper: &[u8], total: u32, serial: u64, out: &mut [u8]) -> Refusal
     ensures { λ r. ⌜ (r, now (out .exit)) ≡ unrankCall (now (upper .entry)) total serial (now (out .entry)) ⌝ }
 {
+    if out.len() != upper.len() {
+        return unrank_refusal(upper, total, serial, out.len());
+    }
     let f = find::composition_of(upper, total, serial);
     if 0 < f.number {
         return refused(f.number, f.detail);
     }
-    if serial == 0 {
-        return refused(6, 0);
-    }
-    if f.count < serial {
-        return refused(6, 0);
-    }
-    if out.len() != upper.len() {
-        return refused(13, 0);
+    let v = places::serial_refusal(f.count, serial);
+    if 0 < v.number {
+        return v;
     }
     let cells = f.composition;
     bounds::copy(&cells, out);

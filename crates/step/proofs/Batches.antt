@@ -9,7 +9,7 @@ use borrow.Author.Tests.{eqb-true, eqb-false, ltb-false, not-false}
 use Rattle.walsh.specs.Order.{countOf}
 use Rattle.bounds.specs.Refusal.{Check, firstRefusal}
 use Rattle.bounds.specs.Edition.{editionChecks}
-use Rattle.bounds.specs.Places.{outside, lentChecks}
+use Rattle.bounds.specs.Places.{isNoSerial, lentChecks}
 use Rattle.bounds.specs.declared.Refusal.{Refusal}
 use Rattle.bounds.proofs.Refusals.{passed}
 use Rattle.bounds.proofs.Editions.{neither}
@@ -29,7 +29,7 @@ pub ranged : (all n s c have : ℕ) {v : Refusal} → v ≡ firstRefusal (rangeC
 ranged all n s c have e z =
     let p6 = passed _ _ refl (ap (λ (w : Refusal). w .number) (sym e) ∙ z) in
     let p13 = passed _ _ refl (p6 .2) in
-    let far = neither (outside all s) (ltb (all - s + 1) c) (p6 .0) in
+    let far = neither (isNoSerial all s) (ltb (all - s + 1) c) (p6 .0) in
     let inside = neither (eqb s 0) (ltb all s) (far .0) in
     let least = eqb-false s 0 (inside .0) in
     let most = ltb-false all s (inside .1) in

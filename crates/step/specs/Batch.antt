@@ -10,12 +10,12 @@ use Rattle.walsh.specs.Order.{countOf}
 use Rattle.walsh.specs.Serial.{compositionOf}
 use Rattle.bounds.specs.Refusal.{Check, check}
 use Rattle.bounds.specs.Edition.{editionChecks}
-use Rattle.bounds.specs.Places.{outside, lentChecks, filling}
+use Rattle.bounds.specs.Places.{isNoSerial, lentChecks, filling}
 use Rattle.bounds.specs.declared.Refusal.{Refusal}
 
 -- "s is outside 1..N or c exceeds N − s + 1", where N is n
 abbrev pub beyond : ℕ → ℕ → ℕ → Bool
-beyond n s c = either (outside n s) (ltb (n - s + 1) c)
+beyond n s c = either (isNoSerial n s) (ltb (n - s + 1) c)
 
 -- the place 'serial given' in trays
 abbrev pub rangeChecks : ℕ → ℕ → ℕ → List Check

@@ -1,18 +1,17 @@
--- The order holds every composition, each once: `rankOf` is the place at which a composition stands, and `unrankOf` what stands at a place.
+-- The order holds every composition, each once: `rankOf` is the place at which a composition stands.
 use mathlib.Core.Path.{_≡_, refl, sym, ap, _∙_, subst}
 use mathlib.Core.Logic.{_↔_}
 use mathlib.Core.List.{List, [], _∷_, _++_}
 use Prim.Native.Nat.{ℕ, zero, suc, _+_, _-_, _≤_, _<_}
-use native.Mathlib.Nat.{not-suc-le-zero, le-of-suc-le-suc, le-refl, zero-add, add-zero, sub-zero, sub-self}
+use native.Mathlib.Nat.{not-suc-le-zero, le-refl}
 use native.Mathlib.Omega.{arith}
 use lib.ListN.{length, getD, take, length-append, List·getD-append}
 use lib.Seq.{getD-at, take-suc, take-length}
-use borrow.Author.Tests.{lt-ltb, le-ltb}
-use Rattle.walsh.specs.Sums.{sum, sumTo}
-use Rattle.walsh.specs.Order.{CompositionTo, Composition, isOdd, least, most, partValue, partChoices, listing, order, count}
-use Rattle.walsh.specs.Rank.{partIndex, blockSize, rankOf, blockOf, unrankOf}
+use Rattle.walsh.specs.Sums.{sumTo}
+use Rattle.walsh.specs.Order.{CompositionTo, Composition, least, most, listing, order, count}
+use Rattle.walsh.specs.Rank.{rankOf}
 use Rattle.walsh.proofs.Cases.{up-to}
-use Rattle.walsh.proofs.Lists.{snoc-inj, sum-same, sum-le, sum-mono, sumTo-mono, index-lt, value-index}
+use Rattle.walsh.proofs.Lists.{snoc-inj, sum-same, sum-le, sumTo-mono}
 use Rattle.walsh.proofs.Listing.{length-listing, listing-zero, listing-zero-length, Spot, spot, spot-lt, spot-at, spot-item, inner}
 
 -- ---- compositions, by the last part and the parts before it
@@ -96,49 +95,6 @@ rank-of ms (suc k) rem t p h g l e =
     let same : (getD (inner ms k rem t (here .v)) (here .s) [] ≡ take k g) × (here .v ≡ getD g k 0) =
     snoc-inj (sym (spot-item ms k rem t p here) ∙ e ∙ take-suc g k 0 l) in
     rw (here .is, ← (same .1), rank-of ms k (rem - here .v) (t + here .v) (here .s) (here .s-lt) g (omega arith) (same .0))
-
--- ---- the composition at a place, computed
-
-module _ (f : ℕ → ℕ) where
-  block-here : (i n s : ℕ) → s < f i → blockOf f i (suc n) s ≡ (i, s)
-  unfolding blockOf
-  block-here i n s l = rw (lt-ltb s (f i) l, blockOf)
-
-  block-later : (i n s : ℕ) → f i ≤ s → blockOf f i (suc n) s ≡ blockOf f (suc i) n (s - f i)
-  unfolding blockOf
-  block-later i n s l = rw (le-ltb s (f i) l, blockOf)
-
-  block-found : (i n j s : ℕ) → j < n → s < f (i + j) → blockOf f i n (sum f (i + j) - sum f i + s) ≡ (i + j, s)
-  block-found i zero j s h l = absurd (not-suc-le-zero h)
-  block-found i (suc n) zero s h l = rw (add-zero, sub-self, zero-add) (block-here i n s (rw add-zero at l))
-  block-found i (suc n) (suc j) s h l =
-      let p : ℕ = sum f (i + suc j) - sum f i + s in
-      let next : suc i + j ≡ i + suc j = omega arith in
-      let past : sum f (suc i) ≤ sum f (i + suc j) = sum-mono f (suc i) (i + suc j) (omega arith) in
-      let rest : p - f i ≡ sum f (suc i + j) - sum f (suc i) + s = rw next (omega arith) in
-      block-later i n p (omega arith)
-      ∙ ap (blockOf f (suc i) n) rest
-      ∙ block-found (suc i) n j s (le-of-suc-le-suc h) (rw next l)
-      ∙ rw next
-
-  -- place s of block j of n blocks
-  block-at : (n j s : ℕ) → j < n → s < f j → blockOf f 0 n (sum f j + s) ≡ (j, s)
-  block-at n j s h l = rw (zero-add, sub-zero) at (block-found 0 n j s h (rw zero-add l))
-
-pub unrank-at : (ms : List ℕ) (k rem t p : ℕ) → p < length (listing ms k rem t) → getD (listing ms k rem t) p [] ≡ unrankOf ms k rem t p
-unfolding unrankOf
-unrank-at ms zero rem t p h = (listing-zero ms rem t p h) .2
-unrank-at ms (suc k) rem t p h =
-    let here : Spot ms k rem t p = spot ms k rem t p h in
-    let i : ℕ = partIndex ms k rem t (here .v) in
-    let i-lt : i < partChoices ms k rem = index-lt (least ms k rem) (most ms k rem) (isOdd t) (here .v) (here .low) (here .high) in
-    let value : partValue ms k rem t i ≡ here .v = value-index (least ms k rem) (most ms k rem) (isOdd t) (here .v) (here .low) (here .high) in
-    let inside : here .s < blockSize ms k rem t i = rw value (rw length-listing at (here .s-lt)) in
-    let found : blockOf (blockSize ms k rem t) 0 (partChoices ms k rem) p ≡ (i, here .s) =
-    ap (blockOf (blockSize ms k rem t) 0 (partChoices ms k rem)) (here .is)
-    ∙ block-at (blockSize ms k rem t) (partChoices ms k rem) i (here .s) i-lt inside in
-    spot-item ms k rem t p here
-    ∙ rw (found, value, unrank-at ms k (rem - here .v) (t + here .v) (here .s) (here .s-lt))
 
 -- ---- the whole order
 

@@ -5,6 +5,8 @@ pub mod Listing
 pub mod Window
 pub mod Peel
 pub mod Product
+pub mod Complement
+pub mod Free
 pub mod Complete
 pub mod Serials
 pub mod Compare

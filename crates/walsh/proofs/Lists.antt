@@ -54,7 +54,7 @@ sum-front f zero = omega arith
 sum-front f (suc n) = omega (arith, sum-front f n)
 
 -- the same numbers from the other end
-sum-mirror : (f g : ℕ → ℕ) (n : ℕ) → ((i j : ℕ) → suc (i + j) ≡ n → f i ≡ g j) → sum f n ≡ sum g n
+pub sum-mirror : (f g : ℕ → ℕ) (n : ℕ) → ((i j : ℕ) → suc (i + j) ≡ n → f i ≡ g j) → sum f n ≡ sum g n
 sum-mirror f g zero h = refl
 sum-mirror f g (suc n) h =
     omega (arith, sum-front g n, sum-mirror f (λ i. g (suc i)) n (λ i j e. h i (suc j) (omega arith)), h n 0 (omega arith))

@@ -108,7 +108,7 @@ extended-comm f a b r =
 
 -- ---- the two ways to peel
 
-count-last : (ms : List ℕ) (k r : ℕ) → count ms (suc k) r ≡ extended (count ms k) (getD ms k 0) r
+pub count-last : (ms : List ℕ) (k r : ℕ) → count ms (suc k) r ≡ extended (count ms k) (getD ms k 0) r
 count-last ms k r = count-suc ms k r ∙ sum-after (count ms k) (getD ms k 0) r
 
 no-parts : (ms ns : List ℕ) (r : ℕ) → count ms 0 r ≡ count ns 0 r

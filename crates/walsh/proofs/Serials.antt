@@ -10,9 +10,9 @@ use lib.ListN.{length, getD}
 use borrow.Author.Tests.{eq-eqb, eqb-true}
 use Rattle.walsh.specs.Order.{Composition, order, countOf}
 use Rattle.walsh.specs.Serial.{same, placeOf, serialOf, compositionOf}
-use Rattle.walsh.specs.Rank.{rankOf, unrankOf}
+use Rattle.walsh.specs.Rank.{rankOf}
 use Rattle.walsh.proofs.Tests.{both-left, both-right}
-use Rattle.walsh.proofs.Complete.{unrank-at, order-length, rank-inside, rank-entry, rank-composition, entry-composition, entry-rank}
+use Rattle.walsh.proofs.Complete.{order-length, rank-inside, rank-entry, rank-composition, entry-composition, entry-rank}
 
 -- ---- the place of a list in a list of lists
 
@@ -57,11 +57,6 @@ module _ (ms : List ℕ) (r : ℕ) where
   pub composition-is : (s : ℕ) → 0 < s → s ≤ countOf ms r → Composition ms r (compositionOf ms r s)
   unfolding compositionOf
   composition-is s h l = entry-composition ms r (s - 1) (place-lt s h l)
-
-  -- by the counts, from the last part down
-  pub composition-unrank : (s : ℕ) → 0 < s → s ≤ countOf ms r → compositionOf ms r s ≡ unrankOf ms (length ms) r 0 (s - 1)
-  unfolding compositionOf order
-  composition-unrank s h l = unrank-at ms (length ms) r 0 (s - 1) (place-lt s h l)
 
   -- composition to serial
   module _ (g : List ℕ) (valid : Composition ms r g) where

@@ -1,12 +1,11 @@
--- The place of a composition and the composition at a place, by counting instead of listing (source document 000, section 1). Places count
--- from 0. That these are the places of the order is proved in proofs/Complete.antt.
-use mathlib.Core.Bool.{Bool, true, false, cond}
-use mathlib.Core.List.{List, [], _∷_, _++_}
+-- The place of a composition by counting instead of listing (source document 000, section 1). Places count from 0. That it is the place in the
+-- order is proved in proofs/Complete.antt.
+use mathlib.Core.Bool.{Bool, cond}
+use mathlib.Core.List.{List}
 use Prim.Native.Nat.{ℕ, zero, suc, _+_, _-_}
-use lib.Dec.{ltb}
 use lib.ListN.{getD}
 use Rattle.walsh.specs.Sums.{sum}
-use Rattle.walsh.specs.Order.{isOdd, least, most, partValue, partChoices, count}
+use Rattle.walsh.specs.Order.{isOdd, least, most, partValue, count}
 
 -- the number of value v among the values lo..hi: the way back from `valueAt`
 abbrev pub indexOf : ℕ → ℕ → Bool → ℕ → ℕ
@@ -24,16 +23,3 @@ unfoldable pub rankOf : List ℕ → ℕ → ℕ → ℕ → List ℕ → ℕ
 rankOf ms zero rem t g = 0
 rankOf ms (suc k) rem t g =
     sum (blockSize ms k rem t) (partIndex ms k rem t (getD g k 0)) + rankOf ms k (rem - getD g k 0) (t + getD g k 0) g
-
--- where place s falls among n blocks of the sizes f i, f (i + 1), ..: the number of the block, and the place in it
-unfoldable pub blockOf : (ℕ → ℕ) → ℕ → ℕ → ℕ → ℕ × ℕ
-blockOf f i zero s = (i, s)
-blockOf f i (suc n) s = elim (ltb s (f i)) [ true ↦ (i, s) | false ↦ blockOf f (suc i) n (s - f i) ]
-
--- the composition at place s of `listing ms k rem t`
-unfoldable pub unrankOf : List ℕ → ℕ → ℕ → ℕ → ℕ → List ℕ
-unrankOf ms zero rem t s = []
-unrankOf ms (suc k) rem t s =
-    let b = blockOf (blockSize ms k rem t) 0 (partChoices ms k rem) s in
-    let v = partValue ms k rem t (b .0) in
-    unrankOf ms k (rem - v) (t + v) (b .1) ++ (v ∷ [])

@@ -1,18 +1,14 @@
 -- `count::bounds_refusal` meets its contract.
 use mathlib.Core.Path.{_≡_, sym, _∙_}
-use mathlib.Core.List.{List}
-use Prim.Native.Nat.{ℕ, _≤_, _<_}
-use native.Mathlib.Nat.{le-refl}
-use native.Mathlib.Omega.{arith}
 use lib.Arith.{le-zero}
-use lib.ListN.{length}
 use denote.Ref.{now}
 use borrow.Author.Needs.{needs}
-use Rattle.walsh.specs.Order.{countOf}
-use Rattle.band.specs.Band.{cap}
-use Rattle.count.specs.Row.{Within}
+use Rattle.bounds.specs.Refusal.{firstRefusal}
+use Rattle.bounds.specs.Edition.{whole, shapeChecks}
 use Rattle.bounds.proofs.Answers.{shaped-refused, shaped-accepted, edition-refused, edition-none}
+use Rattle.bounds.proofs.Editions.{shapely}
 use Rattle.band.proofs.Answers.{number-refusal}
+use Rattle.count.proofs.Cheap.{most}
 use Rattle.count.proofs.bounds_refusal.Statement.{statement}
 use Rattle.count.proofs.bounds_refusal.Tie as tie
 
@@ -23,28 +19,34 @@ returns c =
     let l = c .before .if1 .taken in
     c .refused .ensures ∙ sym (edition-refused (now (a .upper)) (a .total) _ _ (shaped-refused _ _ (s .result) (s .ensures) l) l)
 
-most : (ms : List ℕ) (r n : ℕ) → n ≡ length ms → ((k : ℕ) → k ≤ n → Within ms r k) → countOf ms r ≤ 9223372036854775807
-unfolding countOf
-most ms r n e h = le-of (h (length ms) (le-of-eq e) r (le-refl r))
-  where
-    le-of : {x : ℕ} → x < cap → x ≤ 9223372036854775807
-    le-of l = omega arith
+-- what the checks 1 to 4 say where they refuse nothing
+shape-at : (c : tie.Else1)
+    → let a = c .before .before .before .before .args in
+    (firstRefusal (shapeChecks (now (a .upper)) (a .total)) .number ≡ 0) × (c .before .before .shape .result .all ≡ whole (now (a .upper)))
+shape-at c = let s = c .before .before .shape in shaped-accepted _ _ (s .result) (s .ensures) (le-zero (c .if1 .left))
 
-    le-of-eq : {a b : ℕ} → a ≡ b → b ≤ a
-    le-of-eq q = omega arith
+few-parts-requires : tie.Need-few-parts-requires
+few-parts-requires c κs =
+    let a = c .before .before .before .before .args in
+    let e = shape-at c in
+    let p = shapely (now (a .upper)) (a .total) (e .0) in
+    (p .few, p .reached, e .1)
 
 returns-2 : tie.Need-returns-2
 returns-2 c =
-    let s = c .before .before .before .before .before .shape in
     let a = c .before .before .before .before .before .before .before .args in
-    let p = shaped-accepted _ _ (s .result) (s .ensures) (le-zero (c .before .before .before .if1 .left)) in
+    let e = shape-at (c .before .before .before) in
     let f = c .before .before .few-parts in
-    let few = most (now (a .upper)) (a .total) (f .result) (c .before .if2 .taken) (f .ensures .1) in
-    c .refused2 .ensures ∙ sym (edition-none (now (a .upper)) (a .total) (p .0) few)
+    let reached = shapely (now (a .upper)) (a .total) (e .0) .reached in
+    let few = most (now (a .upper)) (a .total) (f .result) reached (c .before .if2 .taken) (f .ensures .1) in
+    c .refused2 .ensures ∙ sym (edition-none (now (a .upper)) (a .total) (e .0) few)
+
+count-row-requires : tie.Need-count-row-requires
+count-row-requires c κs = let e = shape-at (c .before .before) in (e .0, e .1, c .before .few-parts .ensures .1)
 
 returns-3 : tie.Need-returns-3
 returns-3 c =
-    let n = c .before .number in
+    let n = c .before .count-row in
     let a = c .before .before .before .before .before .before .before .before .args in
     c .refused3 .ensures ∙ number-refusal (now (a .upper)) (a .total) (n .result) (n .ensures)
 
@@ -55,9 +57,9 @@ bounds-refusal-spec =
     (λ c κs. search needs)
     (λ c κs. search needs)
     returns
-    (λ c κs. search needs)
+    few-parts-requires
     (λ c κs. search needs)
     returns-2
-    (λ c κs. search needs)
+    count-row-requires
     (λ c κs. search needs)
     returns-3)

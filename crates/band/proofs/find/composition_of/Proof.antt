@@ -4,8 +4,8 @@ use denote.Ref.{now}
 use borrow.Author.Needs.{needs}
 use Rattle.band.proofs.Answers.{surveyed-refused}
 use Rattle.band.specs.Find.{Sized}
-use Rattle.band.specs.declared.find.Task.the-variants.{Unrank}
-use Rattle.band.proofs.Finds.{sized, found-shape, found-any}
+use Rattle.band.specs.declared.find.Conversion.the-variants.{Unrank}
+use Rattle.band.proofs.Finds.{sized, refused-shape, entry-any, serial-given}
 use Rattle.band.proofs.find.composition_of.Statement.{statement}
 use Rattle.band.proofs.find.composition_of.Tie as tie
 
@@ -13,7 +13,7 @@ returns : tie.Need-returns
 returns c =
     let s = c .before .before .before .survey in
     let l = c .before .if1 .taken in
-    c .nothing .ensures ∙ found-shape _ _ (Unrank _) _ _ _ (surveyed-refused _ _ (s .result) (s .ensures) l) l
+    c .nothing .ensures ∙ refused-shape _ _ (Unrank _) _ _ _ (surveyed-refused _ _ (s .result) (s .ensures) l) l
 
 sized-at : (c : tie.Else1)
     → let a = c .before .before .before .before .args in
@@ -28,7 +28,7 @@ composition-of-spec =
     (λ c κs. search needs)
     (λ c κs. search needs)
     returns
-    (λ c κs. (sized-at (c .before .before), c .if2 .taken))
-    (λ c. c .in-small .ensures ∙ found-any _ _ _ _ _)
-    (λ c κs. search needs)
-    (λ c. c .in-large .ensures ∙ found-any _ _ _ _ _))
+    (λ c κs. (sized-at (c .before .before), c .if2 .taken, serial-given _ _ _ _))
+    (λ c. c .in-small .ensures ∙ entry-any _ _ _ _ _)
+    (λ c κs. serial-given _ _ _ _)
+    (λ c. c .in-large .ensures ∙ entry-any _ _ _ _ _))

@@ -12,9 +12,9 @@ use Rattle.bounds.proofs.Editions.{shapely}
 use Rattle.band.proofs.Bands.{cell-room, whole-band}
 use Rattle.band.proofs.Rows.{last-row}
 use Rattle.band.proofs.Answers.{numbered-refused, numbered-accepted}
-use Rattle.band.specs.Find.{Ready, foundOf}
-use Rattle.band.specs.declared.find.Task.{Task}
-use Rattle.band.proofs.Finds.{found-edition, found-any}
+use Rattle.band.specs.Find.{Ready, convertedOf}
+use Rattle.band.specs.declared.find.Conversion.{Conversion}
+use Rattle.band.proofs.Finds.{refused-edition, entry-any}
 use Rattle.band.proofs.find.find_in.Statement.{statement}
 use Rattle.band.proofs.find.find_in.Tie as tie
 
@@ -24,7 +24,8 @@ returns c =
     let ms = now (a .upper) in
     let f = c .before .before .before .before .before .fill .result in
     let l = c .before .if1 .taken in
-    c .nothing .ensures ∙ found-edition ms (a .total) (a .task) _ (f .number) (f .detail)
+    let p = c .before .before .before .before .before .before .before .before .before .before .pre in
+    c .nothing .ensures ∙ refused-edition ms (a .total) (p .0) (a .asked) _ (f .number) (f .detail) (p .3)
     (numbered-refused ms (a .total) f (c .before .before .before .before .before .fill .ensures .0) l) l
 
 -- the table has a cell
@@ -75,6 +76,11 @@ ready-at c =
     back : {x : ℕ} → 0 < x → x - 1 + 1 ≡ x
     back l = omega arith
 
+rank-in-requires : tie.Need-rank-in-requires
+rank-in-requires c κs =
+    let s = c .before .before .before .before .before .before .before .before .before .before .before .before in
+    (ready-at (c .before .before .before), s .pre .3 (c .before .enum-told .given .1))
+
 pub find-in-spec : {M : Type 1} → statement M
 find-in-spec =
     tie.close
@@ -85,14 +91,15 @@ find-in-spec =
     returns
     (λ c. size-at (c .before .before .before .before) .0)
     (λ c. search needs)
-    (λ c κs. ready-at (c .before .before .before))
+    rank-in-requires
     (λ c. search needs)
     (λ c κs. ready-at (c .before .before .before .before))
     (λ c. search needs)
     (λ c. let a = c .before .before .before .before .before .before .before .before .before .before .before .before .before .args in
-    c .rank-in .ensures ∙ ap (λ (q : Task). foundOf q (now (a .upper)) (a .total) (now (a .given))) (sym (c .before .before .enum-told .given .1)))
+    c .rank-in .ensures
+    ∙ ap (λ (q : Conversion). convertedOf q (now (a .upper)) (a .total) (now (a .given))) (sym (c .before .before .enum-told .given .1)))
     (λ c. search needs)
     (λ c. let a = c .before .before .before .before .before .before .before .before .before .before .before .before .before .before .args in
     c .unrank-in .ensures
-    ∙ found-any _ _ _ _ (now (a .given))
-    ∙ ap (λ (q : Task). foundOf q (now (a .upper)) (a .total) (now (a .given))) (sym (c .before .before .before .task .given .1))))
+    ∙ entry-any _ _ _ _ (now (a .given))
+    ∙ ap (λ (q : Conversion). convertedOf q (now (a .upper)) (a .total) (now (a .given))) (sym (c .before .before .before .asked .given .1))))

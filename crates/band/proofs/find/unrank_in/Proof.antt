@@ -9,7 +9,7 @@ use Rattle.walsh.specs.Serial.{compositionOf}
 use Rattle.bounds.specs.Edition.{cellsOf}
 use Rattle.band.specs.Find.{clamp}
 use Rattle.bounds.proofs.Cells.{prefix-length, in-cells}
-use Rattle.band.proofs.Finds.{found-entry, clamp-place}
+use Rattle.band.proofs.Finds.{entry-found, clamp-place}
 use Rattle.band.proofs.find.unrank_in.Statement.{statement}
 use Rattle.band.proofs.find.unrank_in.Tie as tie
 
@@ -30,7 +30,7 @@ unfolding compositionOf
 returns c =
     let s = c .before .before .before .before .before .before in
     let w = c .before .write in
-    found-entry _ _ (s .pre .accepted) _ (s .args .count) (s .args .serial) (c .before .before .before .clamp .result) _ (s .pre .count)
+    entry-found _ _ (s .pre .accepted) _ (s .args .count) (s .args .serial) (c .before .before .before .clamp .result) _ (s .pre .count)
     (place-at (c .before .before .before) .2)
     (in-cells (w .last .1 .1 .1 .1 .1 .0) (length (now (s .args .upper))) (w .kept .1 .1 .1 .1 .1 .0 ∙ length-at s) ∙ ap cellsOf (w .ensures))
 

@@ -8,7 +8,8 @@ returns : tie.Need-returns
 unfolding runOf
 returns c =
     let at-over = c .before .before .before .before in
-    simp (at-over .over .ensures, c .before .lesser .ensures, c .is-odd .ensures, c .before .before .wide .ensures .0, at-over .before .before .pre .1)
+    let wide = c .before .before .wide .ensures .0 in
+    simp (at-over .over .ensures, c .before .lesser .ensures, c .is-odd .ensures, wide, at-over .before .before .pre .1)
 
 pub run-of-spec : {M : Type 1} → statement M
 run-of-spec =

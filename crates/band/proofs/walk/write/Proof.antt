@@ -7,19 +7,17 @@ use lib.ListN.{length, length-set, getD, drop}
 use lib.Seq.{drop-length}
 use denote.Ref.{now}
 use borrow.Author.Needs.{needs}
-use Rattle.walsh.specs.Order.{count, listing, order}
+use Rattle.walsh.specs.Order.{listing, order}
 use Rattle.band.proofs.Numbers.{suc-pred}
 use Rattle.band.proofs.Picks.{picked-le, picked-store, listing-done}
-use Rattle.band.proofs.Parts.{Walks, walk-starts, turn-down, turn-here, turn-next}
+use Rattle.band.specs.Walk.{Written}
+use Rattle.band.proofs.Parts.{walk-starts, turn-down, turn-here, turn-next}
 use Rattle.band.proofs.walk.write.Statement.{statement}
 use Rattle.band.proofs.walk.write.Tie as tie
 
 abbrev Inv-loop : tie.InvT-loop
 Inv-loop upper total cells rank out₀ k₀ row₀ rem₀ t₀ s₀ out k row rem t s =
-    Walks upper total k rem t row
-    × (length out ≡ length out₀)
-    × (s < count upper k rem)
-    × (getD (listing upper k rem t) s [] ++ drop k out ≡ getD (order upper total) rank [])
+    Written upper total rank k rem t s row out × (length out ≡ length out₀)
 
 abbrev μ-loop : tie.MeasureT-loop
 μ-loop upper total cells rank out₀ k₀ row₀ rem₀ t₀ s₀ out k row rem t s = k
@@ -30,10 +28,12 @@ loop-holds c =
     let s = c .before .before .before in
     let a = s .args in
     let e = s .pre .1 in (
-      walk-starts (now (a .upper)) (a .total) (a .last) (now (a .cells)) (s .pre .0) _ e,
+      record {
+        walks = walk-starts (now (a .upper)) (a .total) (a .last) (now (a .cells)) (s .pre .0) _ e;
+        inside = rw e (s .pre .2);
+        entry = rw (drop-length, append-nil) (ap (λ (n : ℕ). getD (listing (now (a .upper)) n (a .total) 0) (a .rank) []) e);
+      },
       refl,
-      rw e (s .pre .2),
-      rw (drop-length, append-nil) (ap (λ (n : ℕ). getD (listing (now (a .upper)) n (a .total) 0) (a .rank) []) e),
     )
 
 some-at : (c : tie.In-loop Inv-loop μ-loop) → 0 < c .before .loop .k
@@ -43,16 +43,16 @@ down-requires : tie.Need-down-requires Inv-loop μ-loop
 down-requires c κs =
     let s = c .before .before .before .before .before in
     let l = c .before .loop in
-    turn-down _ _ (s .args .last) _ (s .pre .0) (l .k) (l .rem) (l .t) (l .row) (l .inv .0) (some-at c)
+    turn-down _ _ (s .args .last) _ (s .pre .0) (l .k) (l .rem) (l .t) (l .row) (l .inv .0 .walks) (some-at c)
 
 pick-value-requires : tie.Need-pick-value-requires Inv-loop μ-loop
 pick-value-requires c κs =
     let s = c .before .before .before .before .before .before in
     let l = c .before .before .loop in
     let some = some-at (c .before) in (
-      turn-here _ _ (s .args .last) _ (s .pre .0) (l .k) (l .rem) (l .t) (l .row) (l .inv .0) some (c .down .result) (c .down .ensures),
+      turn-here _ _ (s .args .last) _ (s .pre .0) (l .k) (l .rem) (l .t) (l .row) (l .inv .0 .walks) some (c .down .result) (c .down .ensures),
       rw
-          (← suc-pred some) (l .inv .2),
+          (← suc-pred some) (l .inv .0 .inside),
     )
 
 -- the value is at most what is left, and that is small
@@ -63,8 +63,8 @@ value-at : (c : tie.After-pick-value Inv-loop μ-loop)
 value-at c =
     let s = c .before .before .before .before .before .before .before in
     let l = c .before .before .before .loop in
-    let d = turn-down _ _ (s .args .last) _ (s .pre .0) (l .k) (l .rem) (l .t) (l .row) (l .inv .0) (some-at (c .before .before)) in
-    (picked-le _ _ _ _ _ _ _ (c .pick-value .ensures), rw (l .inv .0 .sum) (s .pre .0 .small), rw (l .inv .1, s .pre .1) (d .2))
+    let d = turn-down _ _ (s .args .last) _ (s .pre .0) (l .k) (l .rem) (l .t) (l .row) (l .inv .0 .walks) (some-at (c .before .before)) in
+    (picked-le _ _ _ _ _ _ _ (c .pick-value .ensures), rw (l .inv .0 .walks .sum) (s .pre .0 .small), rw (l .inv .1, s .pre .1) (d .2))
 
 loop-again : tie.Need-loop-again Inv-loop μ-loop
 loop-again c =
@@ -72,17 +72,20 @@ loop-again c =
     let l = c .before .before .before .loop in
     let p = c .pick-value in
     let some = some-at (c .before .before) in (
-      turn-next _ _ (s .args .last) _ (s .pre .0) (l .k) (l .rem) (l .t) (l .row) (l .inv .0) some (c .before .down .result)
-          (c .before .down .ensures) (p .result .value) (p .ensures .low) (p .ensures .high),
+      record {
+        walks =
+            turn-next _ _ (s .args .last) _ (s .pre .0) (l .k) (l .rem) (l .t) (l .row) (l .inv .0 .walks) some (c .before .down .result)
+            (c .before .down .ensures) (p .result .value) (p .ensures .low) (p .ensures .high);
+        inside = p .ensures .inside;
+        entry = picked-store _ _ _ _ _ _ _ (p .ensures) (l .k) (l .out) (suc-pred some) (value-at c .2) ∙ l .inv .0 .entry;
+      },
       length-set (l .out) (l .k - 1) (p .result .value) ∙ l .inv .1,
-      p .ensures .inside,
-      picked-store _ _ _ _ _ _ _ (p .ensures) (l .k) (l .out) (suc-pred some) (value-at c .2) ∙ l .inv .3,
     )
 
 returns : tie.Need-returns Inv-loop μ-loop
 returns c =
     let l = c .before .loop in
-    sym (listing-done _ (l .k) (l .rem) (l .t) (l .s) (l .out) (omega arith) (l .inv .2)) ∙ l .inv .3
+    sym (listing-done _ (l .k) (l .rem) (l .t) (l .s) (l .out) (omega arith) (l .inv .0 .inside)) ∙ l .inv .0 .entry
 
 pub write-spec : {M : Type 1} → statement M
 write-spec =

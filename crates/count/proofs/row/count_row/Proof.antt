@@ -13,7 +13,7 @@ rows-requires : tie.Need-rows-requires
 rows-requires c κs =
     let s = c .before .before in
     let p = shapely (now (s .args .upper)) (s .args .total) (s .pre .0) in
-    (p .few, p .small, p .reached, s .pre .1, omega arith)
+    (p .few, p .small, p .reached, s .pre .1, omega arith, s .pre .2)
 
 returns : tie.Need-returns
 unfolding countOf

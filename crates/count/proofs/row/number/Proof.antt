@@ -7,6 +7,7 @@ use Rattle.bounds.specs.Refusal.{firstRefusal}
 use Rattle.bounds.specs.Edition.{whole, shapeChecks}
 use Rattle.band.specs.Band.{limited}
 use Rattle.bounds.proofs.Answers.{shaped-refused, shaped-accepted, edition-refused}
+use Rattle.bounds.proofs.Editions.{shapely}
 use Rattle.band.proofs.Answers.{number-refused, number-limited}
 use Rattle.count.proofs.Answers.{staircase-number}
 use Rattle.count.proofs.Stairs.{staircase-shape}
@@ -35,6 +36,13 @@ returns-2 c =
     let e = edition-refused (now (a .upper)) (a .total) _ _ (shaped-refused _ _ (s .result) (s .ensures) l) l in
     c .uncounted .ensures ∙ number-refused (now (a .upper)) (a .total) _ _ e l
 
+few-parts-requires : tie.Need-few-parts-requires
+few-parts-requires c κs =
+    let a = c .before .before .before .before .before .before .before .args in
+    let e = shape-at c in
+    let p = shapely (now (a .upper)) (a .total) (e .0) in
+    (p .few, p .reached, e .1)
+
 pub number-spec : {M : Type 1} → statement M
 number-spec =
     tie.close
@@ -47,5 +55,6 @@ number-spec =
     (λ c κs. search needs)
     (λ c κs. search needs)
     returns-2
-    (λ c κs. shape-at c)
+    few-parts-requires
+    (λ c κs. let e = shape-at (c .before) in (e .0, e .1, c .few-parts .ensures .1))
     (λ c. search needs))
