@@ -47,8 +47,8 @@ pub fn shape(upper: &[u8], total: u32) -> Result<usize, Refused> {
     Ok(all)
 }
 
-/// One row of the band from the row before it: cells for the sums from `low` on, each a window of `m + 1` cells. A window over the limit is seen before
-/// anything wraps, since every cell before it is within the limit.
+/// One row of the band from the row before it: cells for the sums from `low` on, each a window of `m + 1` cells. A window over the limit is seen
+/// before anything wraps, since every cell before it is within the limit.
 #[inline(always)]
 fn slide(old: &[u64], old_low: usize, m: usize, low: usize, new: &mut [MaybeUninit<u64>]) -> bool {
     let old_end = old_low + old.len();
@@ -135,7 +135,7 @@ impl Table<'_> {
 }
 
 /// N with two rows only.
-fn count_rows(upper: &[u8], total: u32, all: usize) -> Result<u64, Refused> {
+pub fn count_rows(upper: &[u8], total: u32, all: usize) -> Result<u64, Refused> {
     let mut rows = [[MaybeUninit::<u64>::uninit(); 256]; 2];
     let total = total as usize;
     rows[0][0].write(1);
@@ -156,40 +156,74 @@ fn count_rows(upper: &[u8], total: u32, all: usize) -> Result<u64, Refused> {
     Ok(unsafe { rows[upper.len() % 2][0].assume_init() })
 }
 
-fn number(upper: &[u8], total: u32) -> Result<u64, Refused> {
-    let all = shape(upper, total)?;
+/// N or 5 of a shape that is accepted.
+pub fn number(upper: &[u8], total: u32, all: usize) -> Result<u64, Refused> {
     if upper.len() <= 15 && is_staircase(upper) {
         return Ok(MAHONIAN[upper.len() + 1][total as usize]);
     }
     count_rows(upper, total, all)
 }
 
-/// 1 to 5, without counting where the product of all ranges but the widest is within the limit.
-pub fn edition(upper: &[u8], total: u32) -> Result<(), Refused> {
-    let all = shape(upper, total)?;
+/// The largest sum, up to 255, whose compositions into n parts, without bounds, are within the limit.
+const fn free() -> [u16; 25] {
+    let mut most = [255u16; 25];
+    // the sums' numbers of compositions, one part more each time: running sums
+    let mut row = [0u64; 256];
+    row[0] = 1;
+    let mut n = 1;
+    while n < 25 {
+        let mut sum = 0u64;
+        let mut q = 0;
+        while q < 256 {
+            sum = sum.saturating_add(row[q]);
+            row[q] = sum;
+            if sum > LIMIT && most[n] as usize >= q {
+                most[n] = q as u16 - 1;
+            }
+            q += 1;
+        }
+        n += 1;
+    }
+    most
+}
+
+static FREE: [u16; 25] = free();
+
+/// 5 of a shape that is accepted. There are as many compositions of the total as of what it leaves of the bounds' sum, so the smaller of the two
+/// counts. Nothing is counted where the compositions of that into as many parts without bounds are within the limit, or the product of the numbers
+/// of values of all parts but the widest.
+pub fn limit(upper: &[u8], total: u32, all: usize) -> Result<(), Refused> {
+    let smaller = (total as usize).min(all - total as usize);
+    if smaller <= FREE[upper.len()] as usize {
+        return Ok(());
+    }
     let mut product: u64 = 1;
     let mut widest = 1;
     for &m in upper {
-        let range = (m as u64).min(total as u64) + 1;
-        let (wide, narrow) = if range > widest { (range, widest) } else { (widest, range) };
+        let values = (m as u64).min(smaller as u64) + 1;
+        let (wide, narrow) = if values > widest { (values, widest) } else { (widest, values) };
         widest = wide;
         product = product.saturating_mul(narrow);
     }
     if product <= LIMIT {
         return Ok(());
     }
-    if upper.len() <= 15 && is_staircase(upper) {
-        return Ok(());
-    }
     count_rows(upper, total, all).map(|_| ())
+}
+
+/// 1 to 5.
+pub fn edition(upper: &[u8], total: u32) -> Result<(), Refused> {
+    let all = shape(upper, total)?;
+    limit(upper, total, all)
 }
 
 pub fn memory<const CLEAR: bool>() -> [MaybeUninit<u64>; CELLS] {
     if CLEAR { [MaybeUninit::new(0); CELLS] } else { [MaybeUninit::uninit(); CELLS] }
 }
 
+#[inline(never)]
 pub fn check(upper: &[u8], total: u32) -> Checked {
-    match number(upper, total) {
+    match shape(upper, total).and_then(|all| number(upper, total, all)) {
         Ok(count) => Checked { number: 0, detail: 0, bounds: Bounds { parts: upper.len(), upper: pack(upper), total }, count },
         Err((number, detail)) => Checked { number, detail, ..Checked::default() },
     }
