@@ -80,6 +80,12 @@ def lists(seed=212):
     yield ((1, 1), 3, after, first, (0, 0, 0, 0))  # the opening is refused first
     saturday = [(CLAIM, s, 2000 + s) for s in range(1, 212)] + [peek, peek, (CLAIM, 212, 1007), (CLAIM, 212, 1014)]
     yield fitting(large, [0] * n, saturday)
-    # the column has orders before that will be claimed, some on the line of another serial
-    column = [rng.choice((0, 1, rng.randrange(5000, 5600), rng.getrandbits(32))) for _ in range(n + 3)]
-    yield fitting(large, column, list(interleaving(*large, rng)))
+    # half of the orders that will be accepted stand in the column before, past the line that they are to get
+    calls, paper = list(interleaving(*large, rng)), ref.Paper(*large)
+    for call in calls:
+        answer(paper, call)
+    column = [rng.getrandbits(32) for _ in range(n + 3)]
+    for line, order in enumerate(paper.lines):
+        if order and rng.random() < 0.5:
+            column[min(line + rng.randrange(1, 9), n + 2)] = order
+    yield fitting(large, column, calls)
