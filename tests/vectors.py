@@ -132,6 +132,7 @@ def fits(fields):
 
 def lists():
     for ms, r, column, calls, sizes in interleave.lists():
+        assert max(len(column), len(calls)) <= ENTRIES
         yield command("l", ms, r, column, *([c[i] for c in calls] for i in range(3)), *sizes)
 
 
