@@ -76,12 +76,12 @@ pub fn write(table: &Table, upper: &[u8], total: u32, rank: u64, out: &mut [u8])
 }
 
 fn unrank_in<const CLEAR: bool>(upper: &[u8], total: u32, serial: u64, out: &mut [u8]) -> Result<(), Refused> {
-    let all = shape(upper, total)?;
-    // nor does a part of another length: it is refused unless 5 or 6 comes first
+    // nor does a part of another length: it is refused unless 1 to 6 come first
     if out.len() != upper.len() {
-        let count = number(upper, total, all)?;
+        let count = number(upper, total)?;
         return Err(if serial == 0 || serial > count { (6, 0) } else { (13, 0) });
     }
+    let all = shape(upper, total)?;
     let mut memory = memory::<CLEAR>();
     let table = fill(upper, total, all, &mut memory)?;
     if serial == 0 || serial > table.count(upper.len(), total as usize) {
