@@ -206,44 +206,34 @@ fn listing(table: &mut Table, ours: &str, theirs: &str, folder: &str, e: &Editio
     table.row(&work, turns(run(clock::children, |_| listed(ours)), run(clock::children, |_| listed(theirs))));
 }
 
-fn main() {
-    let arguments: Vec<String> = std::env::args().collect();
-    let [_, ours, theirs, folder] = &arguments[..] else { panic!("three arguments") };
-    agree::check(20_000);
+/// Editions of which nothing is listed and no register is kept.
+fn conversions(table: &mut Table) {
     let six = edition("24 x 6, total 72", vec![6; 24], 72);
     let ten = edition("24 x 10, total 239", vec![10; 24], 239);
     let five = edition("24 x 5, total 60", vec![5; 24], 60);
     let twelve = edition("12 sheets, 33 inversions", stairs(11), 33);
     let sheets = edition("25 sheets, 57 inversions", stairs(24), 57);
     let few = edition("25 sheets, 8 inversions", stairs(24), 8);
+    [&six, &ten, &twelve].map(|e| counts(table, e));
+    [&six, &twelve].map(|e| serials(table, e));
+    [&six, &twelve].map(|e| refusals(table, e));
+    [&twelve, &five, &ten, &six].map(|e| steps(table, e));
+    [&six, &twelve].map(|e| batches(table, e, 1_000_000, "a million"));
+    batches(table, &six, 1_000, "a thousand");
+    [&few, &sheets, &twelve].map(|e| permutations(table, e));
+}
+
+fn main() {
+    let arguments: Vec<String> = std::env::args().collect();
+    let [_, ours, theirs, folder] = &arguments[..] else { panic!("three arguments") };
+    agree::check(20_000);
+    let mut table = Table::new("Rust");
+    conversions(&mut table);
     let million = edition("8 kinds, N = 1000000", vec![5, 4, 11, 6, 13, 2, 20, 18], 29);
     let mut upper = vec![1; 12];
     upper.extend([2, 3, 3, 3, 3, 5, 60, 60, 60, 60, 60, 60]);
     let long = edition("24 kinds, N = 999476", upper, 7);
-
-    let mut table = Table::new("Rust");
-    for e in [&six, &ten, &twelve] {
-        counts(&mut table, e);
-    }
-    for e in [&six, &twelve] {
-        serials(&mut table, e);
-    }
-    for e in [&six, &twelve] {
-        refusals(&mut table, e);
-    }
-    for e in [&twelve, &five, &ten, &six] {
-        steps(&mut table, e);
-    }
-    for e in [&six, &twelve] {
-        batches(&mut table, e, 1_000_000, "a million");
-    }
-    batches(&mut table, &six, 1_000, "a thousand");
-    for e in [&few, &sheets, &twelve] {
-        permutations(&mut table, e);
-    }
-    for entries in [1, 1_000, 999_999] {
-        claims(&mut table, &million, entries);
-    }
+    [1, 1_000, 999_999].map(|entries| claims(&mut table, &million, entries));
     claims(&mut table, &long, 1);
     listing(&mut table, ours, theirs, folder, &long);
     sqlite::compare(&million, &[1, 1_000, 999_999], folder);

@@ -65,50 +65,62 @@ def fixed():
         yield command("i", (4, 3, 2, 1), 5, bytes(map(int, p)), 4)
 
 
-def drawn(rng, count):
-    """so many commands of each kind, and more until every number that it can answer has come up"""
-    def bounded():
+class Draw:
+    """a command of each kind at random, as its letter and its fields"""
+
+    def __init__(self, rng):
+        self.rng = rng
+
+    def bounded(self):
         while True:
-            ms, r = inputs.any_edition(rng)
+            ms, r = inputs.any_edition(self.rng)
             if len(ms) <= WIDEST:
                 return ms, r
 
-    def serial(ms, r):
-        return inputs.any_serial(rng, ref.number(ms, r) if inputs.accepted(ms, r) else 9)
+    def count(self):
+        return "c", *self.bounded()
 
-    def unrank():
-        ms, r = bounded()
-        return "u", ms, r, serial(ms, r), inputs.any_length(rng, len(ms))
+    def given(self, letter):
+        ms, r = self.bounded()
+        return letter, ms, r, inputs.any_mix(self.rng, ms, r)
 
-    def given(letter):
-        ms, r = bounded()
-        return letter, ms, r, inputs.any_mix(rng, ms, r)
+    def unrank(self):
+        ms, r = self.bounded()
+        serial = inputs.any_serial(self.rng, ref.number(ms, r) if inputs.accepted(ms, r) else 9)
+        return "u", ms, r, serial, inputs.any_length(self.rng, len(ms))
 
-    def batch():
-        return ("b", *inputs.tray(rng))
+    def batch(self):
+        return "b", *inputs.tray(self.rng)
 
-    def converted(letter, values, more):
-        ms, r = inputs.puzzle(rng)
-        return letter, ms, r, values(rng, ms, r), inputs.any_length(rng, len(ms) + more)
+    def permutation(self):
+        ms, r = inputs.puzzle(self.rng)
+        return "o", ms, r, inputs.any_mix(self.rng, ms, r), inputs.any_length(self.rng, len(ms) + 1)
 
-    def table():
-        k = rng.randint(0, 17)
-        return "t", k, rng.randint(0, k * (k - 1) // 2 + 1)
+    def inversions(self):
+        ms, r = inputs.puzzle(self.rng)
+        return "i", ms, r, inputs.any_sheet_order(self.rng, ms, r), inputs.any_length(self.rng, len(ms))
 
-    def opening():
-        ms, r, size = inputs.opening(rng, ENTRIES)
-        return "n", ms, r, size
+    def table(self):
+        k = self.rng.randint(0, 17)
+        return "t", k, self.rng.randint(0, k * (k - 1) // 2 + 1)
 
-    def call():
-        record, column, serial, order = inputs.call(rng)
+    def opening(self):
+        return "n", *inputs.opening(self.rng, ENTRIES)
+
+    def call(self):
+        record, column, serial, order = inputs.call(self.rng)
         n, upper, r, lines, sold, voided, mix = record
-        return "k", n, upper, r, lines, sold, voided, mix, column, rng.choice((0, 1, 1, 2)), serial, order
+        return "k", n, upper, r, lines, sold, voided, mix, column, self.rng.choice((0, 1, 1, 2)), serial, order
 
-    kinds = (
-        lambda: ("c", *bounded()), lambda: given("r"), unrank, lambda: given("s"), lambda: given("p"), batch,
-        lambda: converted("o", inputs.any_mix, 1), lambda: converted("i", inputs.any_sheet_order, 0), table, opening, call,
-    )
-    for draw in kinds:
+    def kinds(self):
+        yield self.count
+        yield from (lambda letter=letter: self.given(letter) for letter in "rsp")
+        yield from (self.unrank, self.batch, self.permutation, self.inversions, self.table, self.opening, self.call)
+
+
+def drawn(rng, count):
+    """so many commands of each kind, and more until every number that it can answer has come up"""
+    for draw in Draw(rng).kinds():
         wanted, left = None, count
         while left or wanted:
             while not fits(fields := draw()):

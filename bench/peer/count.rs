@@ -57,9 +57,7 @@ fn slide<const CAREFUL: bool>(old: &[u64], old_low: usize, m: usize, low: usize,
     let (mut window, mut widest) = (0u64, 0u64);
     for &cell in &old[bottom - old_low..top - old_low] {
         window = window.wrapping_add(cell);
-        if CAREFUL {
-            widest |= window;
-        }
+        widest |= if CAREFUL { window } else { 0 };
     }
     new[0].write(window);
     // then the window only grows, or moves, or stands still, or only shrinks
@@ -71,18 +69,14 @@ fn slide<const CAREFUL: bool>(old: &[u64], old_low: usize, m: usize, low: usize,
     let (first, rest) = new[1..].split_at_mut(grows.min(holds));
     for (cell, &a) in first.iter_mut().zip(add) {
         window = window.wrapping_add(a);
-        if CAREFUL {
-            widest |= window;
-        }
+        widest |= if CAREFUL { window } else { 0 };
         cell.write(window);
     }
     let (middle, end) = rest.split_at_mut(if both > 0 { both } else { holds - grows });
     if both > 0 {
         for ((cell, &a), &d) in middle.iter_mut().zip(&add[holds..]).zip(drop) {
             window = window.wrapping_add(a.wrapping_sub(d));
-            if CAREFUL {
-                widest |= window;
-            }
+            widest |= if CAREFUL { window } else { 0 };
             cell.write(window);
         }
     } else {
