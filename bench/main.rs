@@ -11,7 +11,7 @@ use std::fs::File;
 use std::hint::black_box;
 use std::process::{Command, Stdio};
 
-use measure::{run, turns, Beside, Table};
+use measure::{Beside, Table, run, turns};
 
 const INPUTS: u64 = 64;
 
@@ -214,13 +214,25 @@ fn conversions(table: &mut Table) {
     let twelve = edition("12 sheets, 33 inversions", stairs(11), 33);
     let sheets = edition("25 sheets, 57 inversions", stairs(24), 57);
     let few = edition("25 sheets, 8 inversions", stairs(24), 8);
-    [&six, &ten, &twelve].map(|e| counts(table, e));
-    [&six, &twelve].map(|e| serials(table, e));
-    [&six, &twelve].map(|e| refusals(table, e));
-    [&twelve, &five, &ten, &six].map(|e| steps(table, e));
-    [&six, &twelve].map(|e| batches(table, e, 1_000_000, "a million"));
+    for e in [&six, &ten, &twelve] {
+        counts(table, e);
+    }
+    for e in [&six, &twelve] {
+        serials(table, e);
+    }
+    for e in [&six, &twelve] {
+        refusals(table, e);
+    }
+    for e in [&twelve, &five, &ten, &six] {
+        steps(table, e);
+    }
+    for e in [&six, &twelve] {
+        batches(table, e, 1_000_000, "a million");
+    }
     batches(table, &six, 1_000, "a thousand");
-    [&few, &sheets, &twelve].map(|e| permutations(table, e));
+    for e in [&few, &sheets, &twelve] {
+        permutations(table, e);
+    }
 }
 
 fn main() {
@@ -233,7 +245,9 @@ fn main() {
     let mut upper = vec![1; 12];
     upper.extend([2, 3, 3, 3, 3, 5, 60, 60, 60, 60, 60, 60]);
     let long = edition("24 kinds, N = 999476", upper, 7);
-    [1, 1_000, 999_999].map(|entries| claims(&mut table, &million, entries));
+    for entries in [1, 1_000, 999_999] {
+        claims(&mut table, &million, entries);
+    }
     claims(&mut table, &long, 1);
     listing(&mut table, ours, theirs, folder, &long);
     sqlite::compare(&million, &[1, 1_000, 999_999], folder);

@@ -1,11 +1,11 @@
 //! A claim as an insert into SQLite: a table with the serial for its primary key and a unique order, one transaction a claim. The library is opened
 //! while running, so that nothing of it is needed to build.
-use std::ffi::{c_char, c_int, c_void, CStr, CString};
+use std::ffi::{CStr, CString, c_char, c_int, c_void};
 use std::hint::black_box;
 use std::time::{Duration, Instant};
 
-use crate::measure::{run, shown, turns, Spread, Table, RUNS};
-use crate::{claim_with, clock, Edition, Opened};
+use crate::measure::{RUNS, Spread, Table, run, shown, turns};
+use crate::{Edition, Opened, claim_with, clock};
 
 unsafe extern "C" {
     fn dlopen(name: *const c_char, flags: c_int) -> *mut c_void;

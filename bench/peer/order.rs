@@ -1,5 +1,5 @@
 //! Rank, unrank, steps and batches.
-use super::count::{edition, fill, limit, memory, number, shape, Table};
+use super::count::{Table, edition, fill, limit, memory, number, shape};
 use super::types::*;
 
 pub fn given(upper: &[u8], total: u32, g: &[u8]) -> Result<(), Refused> {
