@@ -3,16 +3,20 @@ use crate::peer::{Checked, Claimed, Ledger, Opened, Ranked, Refusal, Stepped};
 
 mod c {
     use super::*;
+
+    /// An edition's bounds, their number and the total come first; a part is a pointer and a length.
+    type Bounds = *const u8;
+
     unsafe extern "C" {
-        pub fn huz_check(upper: *const u8, parts: usize, total: u32) -> Checked;
-        pub fn huz_rank(upper: *const u8, parts: usize, total: u32, composition: *const u8, len: usize) -> Ranked;
-        pub fn huz_unrank(upper: *const u8, parts: usize, total: u32, serial: u64, out: *mut u8, len: usize) -> Refusal;
-        pub fn huz_successor(upper: *const u8, parts: usize, total: u32, composition: *const u8, len: usize) -> Stepped;
-        pub fn huz_predecessor(upper: *const u8, parts: usize, total: u32, composition: *const u8, len: usize) -> Stepped;
-        pub fn huz_batch(upper: *const u8, parts: usize, total: u32, serial: u64, copies: u64, out: *mut u8, len: usize) -> Refusal;
-        pub fn huz_permutation(upper: *const u8, parts: usize, total: u32, composition: *const u8, len: usize, out: *mut u8, out_len: usize) -> Refusal;
-        pub fn huz_inversions(upper: *const u8, parts: usize, total: u32, permutation: *const u8, len: usize, out: *mut u8, out_len: usize) -> Refusal;
-        pub fn huz_open(upper: *const u8, parts: usize, total: u32, orders: *const u32, len: usize) -> Opened;
+        pub fn huz_check(u: Bounds, n: usize, r: u32) -> Checked;
+        pub fn huz_rank(u: Bounds, n: usize, r: u32, composition: *const u8, len: usize) -> Ranked;
+        pub fn huz_unrank(u: Bounds, n: usize, r: u32, serial: u64, out: *mut u8, len: usize) -> Refusal;
+        pub fn huz_successor(u: Bounds, n: usize, r: u32, composition: *const u8, len: usize) -> Stepped;
+        pub fn huz_predecessor(u: Bounds, n: usize, r: u32, composition: *const u8, len: usize) -> Stepped;
+        pub fn huz_batch(u: Bounds, n: usize, r: u32, serial: u64, copies: u64, out: *mut u8, len: usize) -> Refusal;
+        pub fn huz_permutation(u: Bounds, n: usize, r: u32, given: *const u8, len: usize, out: *mut u8, out_len: usize) -> Refusal;
+        pub fn huz_inversions(u: Bounds, n: usize, r: u32, given: *const u8, len: usize, out: *mut u8, out_len: usize) -> Refusal;
+        pub fn huz_open(u: Bounds, n: usize, r: u32, orders: *const u32, len: usize) -> Opened;
         pub fn huz_claim(ledger: Ledger, orders: *mut u32, len: usize, serial: u64, order: u32) -> Claimed;
     }
 }

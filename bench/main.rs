@@ -1,73 +1,22 @@
 //! The engine beside plain Rust (bench/peer) and SQLite, on the same inputs in the same run. Prints Markdown tables.
 //! Arguments: the engine's listing program; the peer's; a folder for the slip and for SQLite's files.
+mod agree;
 mod clock;
 mod engine;
+mod measure;
 mod peer;
 mod sqlite;
 
 use std::fs::File;
 use std::hint::black_box;
 use std::process::{Command, Stdio};
-use std::time::{Duration, Instant};
 
-const RUNS: usize = 101;
+use measure::{Beside, Table, run, turns};
+
 const INPUTS: u64 = 64;
 
-/// Nanoseconds a call, each the least of many runs, and the median of the runs' ratios.
-#[derive(Clone, Copy)]
-struct Times {
-    ours: f64,
-    theirs: f64,
-    ratio: f64,
-}
-
-/// The two take turns by a clock, in runs of a millisecond or more. A ratio is of two runs that follow each other, so that a machine that is slower
-/// for a while is slower for both.
-fn beside_by(clock: fn() -> Duration, mut ours: impl FnMut(usize), mut theirs: impl FnMut(usize)) -> Times {
-    let calls = |f: &mut dyn FnMut(usize)| {
-        let start = Instant::now();
-        let mut calls = 0usize;
-        while start.elapsed() < Duration::from_millis(1) {
-            f(calls);
-            calls += 1;
-        }
-        calls
-    };
-    let time = |f: &mut dyn FnMut(usize), calls: usize| {
-        let start = clock();
-        for i in 0..calls {
-            f(i);
-        }
-        (clock() - start).as_nanos() as f64 / calls as f64
-    };
-    let (a, b) = (calls(&mut ours), calls(&mut theirs));
-    let (mut best, mut other) = (f64::MAX, f64::MAX);
-    let mut ratios: Vec<f64> = (0..RUNS)
-        .map(|_| {
-            let (x, y) = (time(&mut ours, a), time(&mut theirs, b));
-            best = best.min(x);
-            other = other.min(y);
-            x / y
-        })
-        .collect();
-    ratios.sort_by(f64::total_cmp);
-    Times { ours: best, theirs: other, ratio: ratios[RUNS / 2] }
-}
-
-fn beside(ours: impl FnMut(usize), theirs: impl FnMut(usize)) -> Times {
-    beside_by(clock::own, ours, theirs)
-}
-
-fn shown(ns: f64) -> String {
-    match ns {
-        _ if ns < 1e4 => format!("{ns:.1} ns"),
-        _ if ns < 1e7 => format!("{:.1} us", ns / 1e3),
-        _ => format!("{:.1} ms", ns / 1e6),
-    }
-}
-
-fn row(work: &str, times: Times) {
-    println!("| {work} | {} | {} | {:.2} |", shown(times.ours), shown(times.theirs), times.ratio);
+fn beside(ours: impl FnMut(usize), theirs: impl FnMut(usize)) -> Beside {
+    turns(run(clock::own, ours), run(clock::own, theirs))
 }
 
 struct Edition {
@@ -90,15 +39,8 @@ fn stairs(n: u8) -> Vec<u8> {
 
 impl Edition {
     fn serials(&self) -> Vec<u64> {
-        let mut x = 88172645463325252u64;
-        (0..INPUTS)
-            .map(|_| {
-                x ^= x << 13;
-                x ^= x >> 7;
-                x ^= x << 17;
-                1 + x % self.count
-            })
-            .collect()
+        let mut random = agree::Random::new();
+        (0..INPUTS).map(|_| 1 + random.next() % self.count).collect()
     }
 
     fn compositions(&self) -> Vec<Vec<u8>> {
@@ -117,12 +59,14 @@ fn at(inputs: &[Vec<u8>], i: usize) -> &[u8] {
     black_box(&inputs[i % INPUTS as usize])
 }
 
-fn counts(e: &Edition) {
+fn counts(table: &mut Table, e: &Edition) {
     let (u, r) = (&e.upper, e.total);
-    row(&format!("count: {}", e.name), beside(|_| _ = black_box(engine::check(black_box(u), r)), |_| _ = black_box(peer::check(black_box(u), r))));
+    let ours = |_| _ = black_box(engine::check(black_box(u), black_box(r)));
+    let theirs = |_| _ = black_box(peer::check(black_box(u), black_box(r)));
+    table.row(&format!("count: {}", e.name), beside(ours, theirs));
 }
 
-fn serials(e: &Edition) {
+fn serials(table: &mut Table, e: &Edition) {
     let (u, r, n) = (&e.upper, e.total, e.upper.len());
     let (serials, given) = (e.serials(), e.compositions());
     let (mut a, mut b) = (vec![0; n], vec![0; n]);
@@ -130,41 +74,64 @@ fn serials(e: &Edition) {
         assert_eq!(engine::unrank(u, r, *s, &mut a).number, 0);
         assert_eq!((&a, engine::rank(u, r, g)), (g, peer::rank::<false>(u, r, g)));
     }
-    let mut ours = |i| _ = black_box(engine::unrank(u, r, serials[i % INPUTS as usize], &mut a));
-    row(&format!("unrank: {}", e.name), beside(&mut ours, |i| _ = black_box(peer::unrank::<false>(u, r, serials[i % INPUTS as usize], &mut b))));
-    row("  the same, the peer's table cleared first", beside(&mut ours, |i| _ = black_box(peer::unrank::<true>(u, r, serials[i % INPUTS as usize], &mut b))));
+    let serial = |i: usize| black_box(serials[i % INPUTS as usize]);
+    let mut ours = |i| _ = black_box(engine::unrank(u, r, serial(i), &mut a));
+    let theirs = |i| _ = black_box(peer::unrank::<false>(u, r, serial(i), &mut b));
+    table.row(&format!("unrank: {}", e.name), beside(&mut ours, theirs));
+    let cleared = |i| _ = black_box(peer::unrank::<true>(u, r, serial(i), &mut b));
+    table.row("  the same, the peer's table cleared first", beside(&mut ours, cleared));
     let ours = |i| _ = black_box(engine::rank(u, r, at(&given, i)));
-    row(&format!("rank: {}", e.name), beside(ours, |i| _ = black_box(peer::rank::<false>(u, r, at(&given, i)))));
-    row("  the same, the peer's table cleared first", beside(ours, |i| _ = black_box(peer::rank::<true>(u, r, at(&given, i)))));
+    table.row(&format!("rank: {}", e.name), beside(ours, |i| _ = black_box(peer::rank::<false>(u, r, at(&given, i)))));
+    let cleared = |i| _ = black_box(peer::rank::<true>(u, r, at(&given, i)));
+    table.row("  the same, the peer's table cleared first", beside(ours, cleared));
 }
 
-fn steps(e: &Edition) {
+/// A rank of parts with another sum, and an unrank into a part of another length.
+fn refusals(table: &mut Table, e: &Edition) {
+    let (u, r, n) = (&e.upper, e.total, e.upper.len());
+    let mut given = e.compositions();
+    for g in &mut given {
+        let i = g.iter().zip(u).position(|(v, m)| v < m).unwrap();
+        g[i] += 1;
+        assert_eq!((engine::rank(u, r, g).number, peer::rank::<false>(u, r, g).number), (8, 8));
+    }
+    let ours = |i| _ = black_box(engine::rank(u, r, at(&given, i)));
+    let theirs = |i| _ = black_box(peer::rank::<false>(u, r, at(&given, i)));
+    table.row(&format!("rank, refused 8: {}", e.name), beside(ours, theirs));
+    let serials = e.serials();
+    let (mut a, mut b) = (vec![0; n - 1], vec![0; n - 1]);
+    assert_eq!((engine::unrank(u, r, 1, &mut a).number, peer::unrank::<false>(u, r, 1, &mut b).number), (13, 13));
+    let serial = |i: usize| black_box(serials[i % INPUTS as usize]);
+    let ours = |i| _ = black_box(engine::unrank(u, r, serial(i), &mut a));
+    let theirs = |i| _ = black_box(peer::unrank::<false>(u, r, serial(i), &mut b));
+    table.row(&format!("unrank, refused 13: {}", e.name), beside(ours, theirs));
+}
+
+fn steps(table: &mut Table, e: &Edition) {
     let (u, r) = (&e.upper, e.total);
     let given = e.compositions();
     for g in &given {
         assert_eq!(engine::successor(u, r, g), peer::successor(u, r, g));
         assert_eq!(engine::predecessor(u, r, g), peer::predecessor(u, r, g));
     }
-    row(
-        &format!("successor: {}", e.name),
-        beside(|i| _ = black_box(engine::successor(u, r, at(&given, i))), |i| _ = black_box(peer::successor(u, r, at(&given, i)))),
-    );
+    let ours = |i| _ = black_box(engine::successor(u, r, at(&given, i)));
+    table.row(&format!("successor: {}", e.name), beside(ours, |i| _ = black_box(peer::successor(u, r, at(&given, i)))));
 }
 
-fn batches(e: &Edition) {
-    const COPIES: u64 = 1_000_000;
+fn batches(table: &mut Table, e: &Edition, copies: u64, name: &str) {
     let (u, r, n) = (&e.upper, e.total, e.upper.len());
-    let serial = 1 + (e.count - COPIES) / 3;
-    let (mut a, mut b) = (vec![1; n * COPIES as usize], vec![2; n * COPIES as usize]);
-    assert_eq!((engine::batch(u, r, serial, COPIES, &mut a).number, peer::batch(u, r, serial, COPIES, &mut b).number), (0, 0));
+    let serial = 1 + (e.count - copies) / 3;
+    let (mut a, mut b) = (vec![1; n * copies as usize], vec![2; n * copies as usize]);
+    assert_eq!((engine::batch(u, r, serial, copies, &mut a).number, peer::batch::<true>(u, r, serial, copies, &mut b).number), (0, 0));
     assert!(a == b);
-    row(
-        &format!("batch of a million: {}", e.name),
-        beside(|_| _ = black_box(engine::batch(u, r, serial, COPIES, &mut a)), |_| _ = black_box(peer::batch(u, r, serial, COPIES, &mut b))),
-    );
+    let mut ours = |_| _ = black_box(engine::batch(u, r, serial, copies, &mut a));
+    let theirs = |_| _ = black_box(peer::batch::<true>(u, r, serial, copies, &mut b));
+    table.row(&format!("batch of {name}: {}", e.name), beside(&mut ours, theirs));
+    let narrow = |_| _ = black_box(peer::batch::<false>(u, r, serial, copies, &mut b));
+    table.row("  the same, the peer copies no byte too many", beside(&mut ours, narrow));
 }
 
-fn permutations(e: &Edition) {
+fn permutations(table: &mut Table, e: &Edition) {
     let (u, r, n) = (&e.upper, e.total, e.upper.len());
     let given = e.compositions();
     let (mut a, mut b) = (vec![0; n + 1], vec![0; n + 1]);
@@ -179,42 +146,54 @@ fn permutations(e: &Edition) {
             a.clone()
         })
         .collect();
-    row(
-        &format!("permutation: {}", e.name),
-        beside(|i| _ = black_box(engine::permutation(u, r, at(&given, i), &mut a)), |i| _ = black_box(peer::permutation(u, r, at(&given, i), &mut b))),
-    );
+    let ours = |i| _ = black_box(engine::permutation(u, r, at(&given, i), &mut a));
+    let theirs = |i| _ = black_box(peer::permutation(u, r, at(&given, i), &mut b));
+    table.row(&format!("permutation: {}", e.name), beside(ours, theirs));
     let (mut a, mut b) = (vec![0; n], vec![0; n]);
-    row(
-        &format!("inversions: {}", e.name),
-        beside(|i| _ = black_box(engine::inversions(u, r, at(&orders, i), &mut a)), |i| _ = black_box(peer::inversions(u, r, at(&orders, i), &mut b))),
-    );
+    let ours = |i| _ = black_box(engine::inversions(u, r, at(&orders, i), &mut a));
+    let theirs = |i| _ = black_box(peer::inversions(u, r, at(&orders, i), &mut b));
+    table.row(&format!("inversions: {}", e.name), beside(ours, theirs));
 }
 
 fn claim_with(entries: u64) -> String {
     format!("claim with {entries} {} written", if entries == 1 { "entry" } else { "entries" })
 }
 
-/// A ledger with so many entries, which an accepted claim does not change: each claim starts from the same record and writes the same entry.
-fn claims(e: &Edition, entries: u64) -> f64 {
-    let mut orders: Vec<u32> = (0..e.count as u32).map(|i| i * 3 + 7).collect();
-    let mut ledger = engine::open(&e.upper, e.total, &orders).ledger;
-    ledger.entries = entries;
-    ledger.sold = entries;
-    assert_eq!(peer::unrank::<false>(&e.upper, e.total, entries + 1, &mut ledger.next[..e.upper.len()]).number, 0);
-    let mut copy = orders.clone();
-    let (serial, order) = (entries + 1, u32::MAX);
-    let (a, b) = (engine::claim(ledger, &mut orders, serial, order), peer::claim(ledger, &mut copy, serial, order));
-    assert_eq!((a, a.number), (b, 0));
-    assert!(orders == copy);
-    let times = beside(
-        |_| _ = black_box(engine::claim(black_box(ledger), &mut orders, serial, order)),
-        |_| _ = black_box(peer::claim(black_box(ledger), &mut copy, serial, order)),
-    );
-    row(&format!("{}: {}", claim_with(entries), e.name), times);
-    times.ours
+/// A ledger with so many entries and its column. An accepted claim does not change it: each starts from the same record and writes the same entry.
+struct Opened {
+    ledger: peer::Ledger,
+    orders: Vec<u32>,
 }
 
-fn listing(ours: &str, theirs: &str, folder: &str, e: &Edition) {
+impl Opened {
+    fn with(e: &Edition, entries: u64) -> Opened {
+        let orders: Vec<u32> = (0..e.count as u32).map(|i| i * 3 + 7).collect();
+        let mut ledger = engine::open(&e.upper, e.total, &orders).ledger;
+        ledger.entries = entries;
+        ledger.sold = entries;
+        assert_eq!(peer::unrank::<false>(&e.upper, e.total, entries + 1, &mut ledger.next[..e.upper.len()]).number, 0);
+        Opened { ledger, orders }
+    }
+
+    fn claim(&mut self) -> peer::Claimed {
+        engine::claim(black_box(self.ledger), &mut self.orders, self.ledger.entries + 1, u32::MAX)
+    }
+
+    fn claim_of_peer(&mut self) -> peer::Claimed {
+        peer::claim(black_box(self.ledger), &mut self.orders, self.ledger.entries + 1, u32::MAX)
+    }
+}
+
+fn claims(table: &mut Table, e: &Edition, entries: u64) {
+    let (mut a, mut b) = (Opened::with(e, entries), Opened::with(e, entries));
+    let (x, y) = (a.claim(), b.claim_of_peer());
+    assert_eq!((x, x.number), (y, 0));
+    assert!(a.orders == b.orders);
+    let times = beside(|_| _ = black_box(a.claim()), |_| _ = black_box(b.claim_of_peer()));
+    table.row(&format!("{}: {}", claim_with(entries), e.name), times);
+}
+
+fn listing(table: &mut Table, ours: &str, theirs: &str, folder: &str, e: &Edition) {
     let words: Vec<String> = e.upper.iter().map(|m| m.to_string()).collect();
     let slip = format!("{folder}/slip.txt");
     std::fs::write(&slip, format!("mixes\n{}\n{}\n", words.join(" "), e.total)).unwrap();
@@ -222,41 +201,56 @@ fn listing(ours: &str, theirs: &str, folder: &str, e: &Edition) {
     let text = |program: &str| start(program, Stdio::piped()).wait_with_output().unwrap().stdout;
     let (a, b) = (text(ours), text(theirs));
     assert!(a == b, "the two listings differ");
-    let run = |program: &str| _ = start(program, Stdio::null()).wait().unwrap();
-    row(&format!("listing of {} lines, {} MB, to nowhere: {}", e.count, a.len() / 1_000_000, e.name), beside_by(clock::children, |_| run(ours), |_| run(theirs)));
+    let listed = |program: &str| _ = start(program, Stdio::null()).wait().unwrap();
+    let work = format!("listing of {} lines, {} MB, to nowhere: {}", e.count, a.len() / 1_000_000, e.name);
+    table.row(&work, turns(run(clock::children, |_| listed(ours)), run(clock::children, |_| listed(theirs))));
 }
 
-fn main() {
-    let arguments: Vec<String> = std::env::args().collect();
-    let [_, ours, theirs, folder] = &arguments[..] else { panic!("three arguments") };
+/// Editions of which nothing is listed and no register is kept.
+fn conversions(table: &mut Table) {
     let six = edition("24 x 6, total 72", vec![6; 24], 72);
     let ten = edition("24 x 10, total 239", vec![10; 24], 239);
     let five = edition("24 x 5, total 60", vec![5; 24], 60);
     let twelve = edition("12 sheets, 33 inversions", stairs(11), 33);
     let sheets = edition("25 sheets, 57 inversions", stairs(24), 57);
+    let few = edition("25 sheets, 8 inversions", stairs(24), 8);
+    for e in [&six, &ten, &twelve] {
+        counts(table, e);
+    }
+    for e in [&six, &twelve] {
+        serials(table, e);
+    }
+    for e in [&six, &twelve] {
+        refusals(table, e);
+    }
+    for e in [&twelve, &five, &ten, &six] {
+        steps(table, e);
+    }
+    for e in [&six, &twelve] {
+        batches(table, e, 1_000_000, "a million");
+    }
+    batches(table, &six, 1_000, "a thousand");
+    for e in [&few, &sheets, &twelve] {
+        permutations(table, e);
+    }
+}
+
+fn main() {
+    let arguments: Vec<String> = std::env::args().collect();
+    let [_, ours, theirs, folder] = &arguments[..] else { panic!("three arguments") };
+    agree::check(20_000);
+    let mut table = Table::new("Rust");
+    conversions(&mut table);
     let million = edition("8 kinds, N = 1000000", vec![5, 4, 11, 6, 13, 2, 20, 18], 29);
     let mut upper = vec![1; 12];
     upper.extend([2, 3, 3, 3, 3, 5, 60, 60, 60, 60, 60, 60]);
     let long = edition("24 kinds, N = 999476", upper, 7);
-
-    println!("| Work | Engine | Rust | Ratio |\n|---|---|---|---|");
-    for e in [&six, &ten, &twelve] {
-        counts(e);
+    for entries in [1, 1_000, 999_999] {
+        claims(&mut table, &million, entries);
     }
-    for e in [&six, &twelve] {
-        serials(e);
-    }
-    for e in [&twelve, &five] {
-        steps(e);
-    }
-    for e in [&six, &twelve] {
-        batches(e);
-    }
-    for e in [&sheets, &twelve] {
-        permutations(e);
-    }
-    let claimed: Vec<(u64, f64)> = [1, 1_000, 999_999].iter().map(|&n| (n, claims(&million, n))).collect();
-    claims(&long, 1);
-    listing(ours, theirs, folder, &long);
-    sqlite::compare(&claimed, folder);
+    claims(&mut table, &long, 1);
+    listing(&mut table, ours, theirs, folder, &long);
+    sqlite::compare(&million, &[1, 1_000, 999_999], folder);
+    println!("\n## Over 1.05\n");
+    println!("{}", if table.over.is_empty() { "No row.".into() } else { format!("- {}", table.over.join("\n- ")) });
 }

@@ -1,9 +1,11 @@
-//! A claim as an insert into SQLite: a table with a unique serial and a unique order, one transaction a claim. The library is opened while running, so
-//! that nothing of it is needed to build.
-use std::ffi::{c_char, c_int, c_void, CStr, CString};
+//! A claim as an insert into SQLite: a table with the serial for its primary key and a unique order, one transaction a claim. The library is opened
+//! while running, so that nothing of it is needed to build.
+use std::ffi::{CStr, CString, c_char, c_int, c_void};
+use std::hint::black_box;
 use std::time::{Duration, Instant};
 
-use crate::{claim_with, clock, shown};
+use crate::measure::{RUNS, Spread, Table, run, shown, turns};
+use crate::{Edition, Opened, claim_with, clock};
 
 unsafe extern "C" {
     fn dlopen(name: *const c_char, flags: c_int) -> *mut c_void;
@@ -50,58 +52,90 @@ fn load() -> Option<Sqlite> {
     }
 }
 
-/// Nanoseconds by a clock for a claim after so many: the least mean of several runs of `claims`.
-fn claims(sqlite: &Sqlite, path: &str, clock: impl Fn() -> Duration, entries: u64, claims: u64) -> f64 {
-    unsafe {
+/// A table with so many claims.
+struct Claims<'a> {
+    sqlite: &'a Sqlite,
+    db: *mut c_void,
+    insert: *mut c_void,
+    entries: u64,
+}
+
+impl Claims<'_> {
+    fn with<'a>(sqlite: &'a Sqlite, path: &str, entries: u64) -> Claims<'a> {
         let (mut db, mut insert) = (std::ptr::null_mut(), std::ptr::null_mut());
         let path = CString::new(path).unwrap();
-        assert_eq!((sqlite.open)(path.as_ptr(), &mut db), 0);
-        let exec = |text: &CStr| {
-            let none = std::ptr::null();
-            assert_eq!((sqlite.exec)(db, text.as_ptr(), none, none, std::ptr::null_mut()), 0);
-        };
-        exec(c"create table line(serial integer not null unique, number integer not null unique)");
+        assert_eq!(unsafe { (sqlite.open)(path.as_ptr(), &mut db) }, 0);
+        let mut table = Claims { sqlite, db, insert, entries };
+        table.exec("create table line(serial integer primary key, number integer not null unique)");
         let text = c"insert into line values(?, ?)";
-        assert_eq!((sqlite.prepare)(db, text.as_ptr(), -1, &mut insert, std::ptr::null()), 0);
-        let mut serial = 0u64;
-        let mut claim = || {
-            serial += 1;
-            (sqlite.bind)(insert, 1, serial as i64);
+        assert_eq!(unsafe { (sqlite.prepare)(db, text.as_ptr(), -1, &mut insert, std::ptr::null()) }, 0);
+        table.insert = insert;
+        table.exec("begin");
+        (1..=entries).for_each(|serial| table.claim(serial));
+        table.exec("commit");
+        table
+    }
+
+    fn exec(&self, text: &str) {
+        let (text, none) = (CString::new(text).unwrap(), std::ptr::null());
+        assert_eq!(unsafe { (self.sqlite.exec)(self.db, text.as_ptr(), none, none, std::ptr::null_mut()) }, 0);
+    }
+
+    fn claim(&self, serial: u64) {
+        unsafe {
+            (self.sqlite.bind)(self.insert, 1, serial as i64);
             // an order number that no other line has, in no order
-            (sqlite.bind)(insert, 2, (serial as u32).wrapping_mul(2_654_435_761) as i64);
-            assert_eq!((sqlite.step)(insert), 101);
-            (sqlite.reset)(insert);
-        };
-        exec(c"begin");
-        (0..entries).for_each(|_| claim());
-        exec(c"commit");
-        let mut best = f64::MAX;
-        for _ in 0..5 {
-            let start = clock();
-            (0..claims).for_each(|_| claim());
-            best = best.min((clock() - start).as_nanos() as f64 / claims as f64);
+            (self.sqlite.bind)(self.insert, 2, (serial as u32).wrapping_mul(2_654_435_761) as i64);
+            assert_eq!((self.sqlite.step)(self.insert), 101);
+            (self.sqlite.reset)(self.insert);
         }
-        (sqlite.finalize)(insert);
-        assert_eq!((sqlite.close)(db), 0);
-        best
+    }
+
+    /// A run of so many claims: nanoseconds a claim by a clock. They are deleted again before the next run.
+    fn run(&self, clock: impl Fn() -> Duration, claims: u64) -> f64 {
+        let start = clock();
+        (1..=claims).for_each(|j| self.claim(self.entries + j));
+        let time = (clock() - start).as_nanos() as f64 / claims as f64;
+        self.exec(&format!("delete from line where serial > {}", self.entries));
+        time
     }
 }
 
-pub fn compare(engine: &[(u64, f64)], folder: &str) {
+impl Drop for Claims<'_> {
+    fn drop(&mut self) {
+        unsafe {
+            (self.sqlite.finalize)(self.insert);
+            assert_eq!((self.sqlite.close)(self.db), 0);
+        }
+    }
+}
+
+/// On disk a claim waits for the disk: its times stand alone, on the clock.
+fn on_disk(sqlite: &Sqlite, entries: &[u64], folder: &str) {
+    println!("\n| Work | SQLite on disk | Its quartiles |\n|---|---|---|");
+    let start = Instant::now();
+    for &entries in entries {
+        let path = format!("{folder}/claims-{entries}.db");
+        _ = std::fs::remove_file(&path);
+        let table = Claims::with(sqlite, &path, entries);
+        let times = Spread::of((0..RUNS).map(|_| table.run(|| start.elapsed(), 5)).collect());
+        println!("| {} | {} | {} to {} |", claim_with(entries), shown(times.median), shown(times.low), shown(times.high));
+        drop(table);
+        std::fs::remove_file(&path).unwrap();
+    }
+}
+
+pub fn compare(e: &Edition, entries: &[u64], folder: &str) {
     let Some(sqlite) = load() else {
         println!("\nSQLite: libsqlite3.so.0 is not on this machine.");
         return;
     };
-    println!("\nClaims beside SQLite {}, through libsqlite3.so.0:\n", sqlite.version);
-    println!("| Work | Engine | SQLite in memory | SQLite on disk | Ratio, in memory | Ratio, on disk |\n|---|---|---|---|---|---|");
-    let start = Instant::now();
-    for &(entries, ours) in engine {
-        let memory = claims(&sqlite, ":memory:", clock::own, entries, if entries < 1000 { 20 } else { 2000 });
-        let path = format!("{folder}/claims-{entries}.db");
-        _ = std::fs::remove_file(&path);
-        let disk = claims(&sqlite, &path, || start.elapsed(), entries, 50);
-        std::fs::remove_file(&path).unwrap();
-        let work = claim_with(entries);
-        println!("| {work} | {} | {} | {} | {:.3} | {:.5} |", shown(ours), shown(memory), shown(disk), ours / memory, ours / disk);
+    println!("\nClaims of {} beside SQLite {}, through libsqlite3.so.0:\n", e.name, sqlite.version);
+    let mut table = Table::new("SQLite in memory");
+    for &entries in entries {
+        let (mut ours, theirs) = (Opened::with(e, entries), Claims::with(&sqlite, ":memory:", entries));
+        let ours = run(clock::own, move |_| _ = black_box(ours.claim()));
+        table.row(&claim_with(entries), turns(ours, || theirs.run(clock::own, 50)));
     }
+    on_disk(&sqlite, entries, folder);
 }

@@ -77,7 +77,7 @@ def accepted(ms, r):
 
 def any_serial(rng, n):
     return rng.choice((0, 1, 2, n, n - 1 if n else 0, n + 1, (1 << 63) - 1, 1 << 63, LARGEST, LARGEST - 1, (1 << 32) + 1, rng.randint(1, max(1, n)),
-                       rng.randint(1, max(1, n)), rng.randint(1, max(1, n)), rng.getrandbits(64)))
+                       rng.randint(1, max(1, n)), rng.randint(1, max(1, n)), rng.getrandbits(64)) + (rng.randint(1, max(1, n)),) * 9)
 
 
 def any_mix(rng, ms, r):
@@ -116,7 +116,7 @@ def any_mix(rng, ms, r):
 
 
 def any_length(rng, wanted):
-    return rng.choice((wanted, wanted, wanted, max(0, wanted - 1), wanted + 1, 0, 1, 24, 25, 2 * wanted))
+    return rng.choice((wanted,) * 9 + (max(0, wanted - 1), wanted + 1, 0, 1, 24, 25, 2 * wanted))
 
 
 def any_order(rng, lines):
@@ -142,6 +142,40 @@ def any_sheet_order(rng, ms, r):
     elif damage < 0.5:
         p = p + [rng.choice((0, k + 1, p[at]))] * rng.choice((1, 300))
     return bytes(p)
+
+
+def tray(rng):
+    """an edition, a serial, how many copies, and the bytes of a part lent for them"""
+    ms, r = any_edition(rng)
+    n = ref.number(ms, r) if accepted(ms, r) else 0
+    serial = any_serial(rng, n)
+    rest = max(0, n - serial + 1)
+    kinds = len(ms)
+    copies = rng.choice((0, 1, 2, min(rest, 40), min(rest, 40), rest, rest + 1, rng.getrandbits(64), LARGEST, n))
+    if rng.random() < 0.2 and kinds:  # copies whose bytes are few in 64 bits only
+        copies = -(-(rng.randint(1, kinds) << 64) // kinds)
+    wanted = copies * kinds
+    length = wanted if wanted <= 4096 else wanted % (1 << 64)
+    return ms, r, serial, copies & LARGEST, min(any_length(rng, length), 4096)
+
+
+def puzzle(rng):
+    """mostly an edition of a puzzle"""
+    if rng.random() < 0.25:
+        return any_edition(rng)
+    n = rng.choice((1, 2, 3, 4, 5, 24, rng.randint(1, 24)))
+    ms = list(stairs(n))
+    r = rng.choice((rng.randint(0, min(255, sum(ms))), rng.randint(0, min(57, sum(ms)))))
+    if rng.random() < 0.1:
+        ms[rng.randrange(n)] = rng.randint(1, 60)
+    return tuple(ms), r
+
+
+def opening(rng, most=5000):
+    """an edition, and the entries of a column for it"""
+    ms, r = any_edition(rng) if rng.random() < 0.5 else sound(rng, small=True)
+    n = min(ref.number(ms, r), most) if accepted(ms, r) else 3
+    return ms, r, rng.choice((n, n, n + 1, max(0, n - 1), 0, n + 9))
 
 
 def register(rng):
@@ -192,3 +226,15 @@ def damaged(rng, record, column):
         at = rng.randrange(lines)
         column[at] = 0 if column[at] else 1
     return (n, tuple(upper), r, lines, sold, spoilt, tuple(mix)), column
+
+
+def call(rng):
+    """a record and a column, sound or damaged, a serial and an order, which may stand among the lines or past them"""
+    record, column = register(rng)
+    if rng.random() < 0.4:
+        record, column = damaged(rng, record, column)
+    lines = column[:min(record[3], 2000)]
+    following = len(lines) + 1
+    serial = rng.choice((following, following, following, following - 1, 0, following + 1, any_serial(rng, len(column)), rng.randint(1, 9)))
+    order = rng.choice((any_order(rng, lines), any_order(rng, lines), rng.getrandbits(32), (column + [3] * 2000)[len(lines)]))
+    return record, column, serial, order

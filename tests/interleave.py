@@ -1,27 +1,29 @@
-"""Lists of ledger calls for crates/vectors, with the answers of an independent implementation.
+"""Lists of ledger calls for crates/vectors, as several workers make them in turn.
 
-The lists are document 01's copies I and J, openings that are refused, the Saturday of copy 212, and a long interleaving of five workers, each of whom
-peeks and then claims or voids what it saw, at times too late, with an order that stands already, with no order, or with a serial out of nowhere.
+The lists are document 01's copies I and J, openings that are refused, buffers that do not fit, orders that stand in the column past the lines, the
+Saturday of copy 212, and a long interleaving of five workers, each of whom peeks and then claims or voids what it saw, at times too late, with an
+order that stands already, with no order, or with a serial out of nowhere. A list is (ceilings, total, column before, calls, lengths of the buffers).
 """
 import random
 
+import reference as ref
+
 PEEK, CLAIM, VOID = 0, 1, 2
-# what the column and the buffer for the numbers hold before the opening
-FILL = 7
+WORDS = "look", "take", "spoil"
 
 
-def answer(book, call):
+def answer(paper, call):
+    """what the paper register answers to (which, serial, order)"""
     which, serial, order = call
-    if which == PEEK:
-        return book.look()
-    return book.take(serial, order) if which == CLAIM else book.spoil(serial)
+    return getattr(paper, WORDS[which])(*((), (serial, order), (serial,))[which])
 
 
-def interleaving(book, rng, workers=5):
+def interleaving(ms, r, rng, workers=5):
     """calls until all is written, and thirty more"""
+    paper = ref.Paper(ms, r)
     seen, order, after = [1] * workers, 5000, 30
     while after:
-        if book.look()[0] == 21:
+        if paper.next() > paper.n:
             after -= 1
         w, dice = rng.randrange(workers), rng.random()
         call = (PEEK, 0, 0)
@@ -29,52 +31,61 @@ def interleaving(book, rng, workers=5):
             order += rng.randrange(1, 4)
             call = (CLAIM, seen[w], order)
         elif dice < 0.58:
-            call = (CLAIM, seen[w], rng.choice([o for o, _ in book.entries] or [1]))
+            call = (CLAIM, seen[w], rng.choice(paper.lines or [1]))
         elif dice < 0.60:
             call = (CLAIM, seen[w], 0)
         elif dice < 0.66:
             call = (VOID, seen[w], 0)
         elif dice < 0.69:
-            call = (rng.choice([CLAIM, VOID]), rng.choice([0, book.next() + 1, book.edition.N, book.edition.N + 1, 2 ** 64 - 1]), 1)
-        got = answer(book, call)
+            call = (rng.choice([CLAIM, VOID]), rng.choice([0, paper.next() + 1, paper.n, paper.n + 1, 2 ** 64 - 1]), 1)
+        got = answer(paper, call)
         if call[0] == PEEK and got[0] == 0:
             seen[w] = got[2]
-        yield call, got
+        yield call
 
 
-def replay(register, upper, total, size, calls):
-    """the command for a list, and its lines of numbers; calls: a list, or a function of the model that yields each call with its answer"""
-    opened = register.open_register(upper, total, size)
-    book, said, left = None, [], [FILL] * size
-    if opened[0] == 0:
-        book = register.PaperRegister(upper, total)
-        pairs = list(calls(book)) if callable(calls) else [(c, answer(book, c)) for c in calls]
-        calls = [c for c, _ in pairs]
-        said = [list(a[:3]) + list(a[3][:len(upper)]) for _, a in pairs]
-        orders = [o for o, _ in book.entries]
-        left[:len(orders)] = orders
-    else:
-        said = [[FILL] + [0] * (2 + len(upper)) for _ in calls]
-    numbers = [len(upper), *upper, total, size, len(calls)] + [n for c in calls for n in c]
-    counts = list(book.counts()) if book else [0, 0, 0]
-    return numbers, [list(opened[:2]), *said, counts, [size, *left]]
+def buffers(calls):
+    """lengths of the buffers for so many answers"""
+    return calls, calls, calls, 24 * calls
 
 
-def lists(register, seed=212):
-    """each list as a command, with the lines that answer it"""
+def lists(seed=212):
     rng = random.Random(seed)
-    small, large = ([1, 1], 1), ([4, 4, 3, 3, 3], 8)
-    peek = [(PEEK, 0, 0)]
-    saturday = [(CLAIM, s, 2000 + s) for s in range(1, 212)] + peek * 2 + [(CLAIM, 212, 1007), (CLAIM, 212, 1014)]
-    for numbers, lines in (
-        replay(register, *small, 3, peek * 2 + [(CLAIM, 1, 1007), (CLAIM, 1, 1014), (CLAIM, 2, 1014)] + peek),
-        replay(register, *small, 3, [(VOID, 1, 0), (CLAIM, 1, 1007)]),
-        replay(register, *small, 3, []),
-        replay(register, *small, 1, peek),
-        replay(register, [1, 1], 3, 3, peek),
-        replay(register, [1, 61], 1, 3, peek),
-        replay(register, [9] * 8, 36, 3, peek),
-        replay(register, *large, 250, saturday),
-        replay(register, *large, 250, lambda book: interleaving(book, rng)),
-    ):
-        yield "l " + " ".join(str(n) for n in numbers), lines
+    small, peek = ((1, 1), 1), (PEEK, 0, 0)
+    large = (4, 4, 3, 3, 3), 8
+    n = ref.number(*large)
+    after = [7, 7, 7]
+    first = [peek, (CLAIM, 1, 1007), (CLAIM, 1, 1014)]
+
+    def fitting(edition, column, calls):
+        return *edition, column, calls, buffers(len(calls))
+
+    yield fitting(small, after, [peek, peek, (CLAIM, 1, 1007), (CLAIM, 1, 1014), (CLAIM, 2, 1014), peek])
+    yield fitting(small, after, [(VOID, 1, 0), (CLAIM, 1, 1007)])
+    yield fitting(small, after, [])
+    # an order that stands past the lines is free; once it stands among them, it is not
+    yield fitting(small, [5, 1007, 1007], [(CLAIM, 1, 1007), (CLAIM, 2, 1007), peek, (CLAIM, 2, 5), peek])
+    yield fitting(small, [1014, 1014], [(CLAIM, 1, 1014), (VOID, 2, 0), (CLAIM, 2, 1014)])
+    yield fitting(small, [0, 0, 0], [(VOID, 1, 0), (CLAIM, 2, 9)])
+    # openings that are refused
+    yield fitting(small, [7], [peek])
+    for edition in ((1, 1), 3), ((1, 61), 1), ((9,) * 8, 36), ((), 0), ((1, 1), 256), ((60,) * 24, 255):
+        yield fitting(edition, after, [peek])
+    # buffers that do not fit, by one entry or one composition more or fewer, and by one cell
+    for at in range(4):
+        for more in (1, -1) if at < 3 else (1, -1, 24, -24):
+            yield (*small, after, first, tuple(size + more * (i == at) for i, size in enumerate(buffers(3))))
+    yield (*small, after, first, (0, 0, 0, 0))
+    yield (*small, after, [], (0, 0, 1, 0))
+    yield ((1, 1), 3, after, first, (0, 0, 0, 0))  # the opening is refused first
+    saturday = [(CLAIM, s, 2000 + s) for s in range(1, 212)] + [peek, peek, (CLAIM, 212, 1007), (CLAIM, 212, 1014)]
+    yield fitting(large, [0] * n, saturday)
+    # half of the orders that will be accepted stand in the column before, past the line that they are to get
+    calls, paper = list(interleaving(*large, rng)), ref.Paper(*large)
+    for call in calls:
+        answer(paper, call)
+    column = [rng.getrandbits(32) for _ in range(n + 3)]
+    for line, order in enumerate(paper.lines):
+        if order and rng.random() < 0.5:
+            column[min(line + rng.randrange(1, 9), n + 2)] = order
+    yield fitting(large, column, calls)

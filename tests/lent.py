@@ -11,6 +11,9 @@ import huztiral  # noqa: E402
 GUARD = 64
 PATTERN = bytes(random.Random(20).randrange(1, 256) for _ in range(GUARD))
 TYPES = {1: ctypes.c_uint8, 4: ctypes.c_uint32}
+# the structures of the record, by the fields of include/huztiral.h
+LEDGER = huztiral.FUNCTIONS["huz_peek"][1][0]
+BOUNDS, CELLS = dict(LEDGER._fields_)["bounds"], dict(LEDGER._fields_)["next"]
 
 
 class Lent:
@@ -51,7 +54,7 @@ class LentRecord:
     def __init__(self, ledger):
         self.whole = ctypes.create_string_buffer(PATTERN * 3, 2 * GUARD + ctypes.sizeof(ledger))
         ctypes.memmove(ctypes.addressof(self.whole) + GUARD + ctypes.sizeof(ledger), PATTERN, GUARD)
-        self.ledger = huztiral.Ledger.from_buffer(self.whole, GUARD)
+        self.ledger = LEDGER.from_buffer(self.whole, GUARD)
         self.write(ledger, self.ledger)
 
     def write(self, given, to):
@@ -86,7 +89,7 @@ def flat(answer):
 def ledger_of(record):
     """a record of tests/reference.py as the C structure"""
     n, upper, total, lines, sold, spoilt, mix = record
-    return huztiral.Ledger(huztiral.Bounds(n, huztiral.CELLS(*upper), total), lines, sold, spoilt, huztiral.CELLS(*mix))
+    return LEDGER(BOUNDS(n, CELLS(*upper), total), lines, sold, spoilt, CELLS(*mix))
 
 
 def call(name, *arguments):

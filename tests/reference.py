@@ -282,6 +282,27 @@ def entries(record, column):
     return record[3] if is_register(record, column) else 0
 
 
+# ---- which numbers a call can answer: 0, and the refusals that include/huztiral.h names for the function, in the order in which they are checked
+
+SHAPE = 0, 1, 2, 3, 4, 5
+ANSWERS = {
+    "huz_check": SHAPE,
+    "huz_rank": (*SHAPE, 7, 8),
+    "huz_unrank": (*SHAPE, 6, 13),
+    "huz_successor": (*SHAPE, 7, 8, 9),
+    "huz_predecessor": (*SHAPE, 7, 8, 9),
+    "huz_batch": (*SHAPE, 6, 13),
+    "huz_permutation": (*SHAPE, 10, 7, 8, 13),
+    "huz_inversions": (*SHAPE, 10, 11, 12, 13),
+    "huz_open": (*SHAPE, 14, 15),
+    "huz_peek": (0, 16, 21),
+    "huz_claim": (0, 16, 17, 6, 18, 19, 20),
+    "huz_void": (0, 16, 6, 18, 19),
+    "huz_claim_in": (0, 16, 17, 6, 18, 19, 20),
+    "huz_void_in": (0, 16, 6, 18, 19),
+}
+
+
 # ---- Listing program
 
 NUMBER = rb"(?:0|[1-9][0-9]{0,2})"

@@ -1,27 +1,40 @@
 #!/usr/bin/env python3
-"""Writes the commands and the expected answers of crates/vectors from an independent implementation.
+"""The commands and the expected answers of crates/vectors.
 
-    tests/vectors.py ORACLE [COUNT [SEED]]     ORACLE: a folder whose package `oracle` answers `python3 -m oracle vectors`
+    tests/vectors.py [--count COUNT] [--seed SEED]     draws the commands and writes crates/vectors/stdin and stdout
+    tests/vectors.py --check                           only compares stdout with the answers to the commands in stdin
 
-Vectors come as lines `KIND after=0 NAME=VALUE.. -> NAME=VALUE..`; a list is numbers parted by commas, the empty list `-`. A lent part is filled with
-170 before each call, so that one left as it was shows. Cases with a lent part over 1,000 bytes are left out. Lists of ledger calls come last
-(interleave.py).
+A command is a letter and numbers, a list its length and its entries; crates/vectors/src/main.rt says which letter is which call. The answers are
+those of tests/reference.py to the text of the commands, and no program of the engine is asked. A lent part is filled before each call, so that one
+left as it was shows.
 """
+import argparse
 import os
-import subprocess
+import random
 import sys
 
 import inputs
 import interleave
+import reference as ref
 
-HERE = os.path.dirname(os.path.abspath(__file__))
-CRATE = os.path.join(HERE, "..", "crates", "vectors")
-FILL = 170
+CRATE = os.path.join(os.path.dirname(os.path.abspath(__file__)), "..", "crates", "vectors")
+FILL = 170  # of the lent part of an unrank, a batch, a permutation or inversions
+ROOM = 7  # of the buffers for a list of calls
+PIECE = 65_536  # no command may stand in two pieces of this size
+LONGEST, WIDEST, ENTRIES = 1000, 64, 2048  # of a lent part, of a list of bytes, and of a column
 
 # editions' records that nobody has checked: the number of parts, the first cells (the others are 0) and the total. More than 24 parts have no cells.
 RECORDS = [
     (3, [2, 2, 2], 3), (2, [2, 2, 2], 3), (2, [2, 2, 61], 3), (3, [2, 2, 61], 3), (4, [2, 2, 2], 3), (0, [2, 2, 2], 0), (24, [1] * 24, 12),
     (24, [10] * 24, 239), (24, [60] * 24, 255), (25, [1] * 24, 12), (25, [], 256), (256, [1] * 24, 12), (18446744073709551615, [1] * 24, 12),
+]
+
+# editions with 1,000,000 mixes, one more, and those next to the limit of number 5
+NEXT_TO_A_LIMIT = [
+    ((49, 56, 54, 54, 22), 73), ((38, 28, 49, 59, 21), 89),
+    ((23, 4, 7, 8, 30, 30, 31, 35, 40, 43, 44, 44, 46, 48, 48, 55, 55, 55, 55, 55, 58, 57), 60),
+    ((23, 4, 7, 8, 30, 30, 31, 35, 40, 43, 44, 44, 46, 48, 48, 55, 55, 55, 55, 55, 58, 58), 60),
+    ((46, 40, 3, 21, 31, 60, 4, 57, 10, 2, 45, 13, 14, 3, 56, 43, 33), 148), ((43, 52, 31, 18, 41, 48, 59, 39, 37, 57, 47, 24, 60, 10, 16), 140),
 ]
 
 # Table 1 of source document 000: the compositions of 5 under 4 3 2 1, each with its permutation
@@ -33,97 +46,292 @@ TABLE_1 = (
 ).split()
 
 
-def numbers(text):
-    return [] if text == "-" else [int(x) for x in text.split(",")]
+# ---- commands: a letter, then numbers and lists
+
+def command(letter, *fields):
+    words = [letter]
+    for field in fields:
+        words += map(str, (len(field), *field) if isinstance(field, (tuple, list, bytes)) else (field,))
+    return " ".join(words)
 
 
-def listed(values):
-    return " ".join(str(v) for v in (len(values), *values))
-
-
-def lent(answer, length):
-    return [FILL] * length if answer == "unchanged" else numbers(answer)
-
-
-def case(kind, given, answer):
-    """the command and the answer of one vector, or None"""
-    head = [answer.get("number"), answer.get("detail")]
-    bounds = f"{listed(numbers(given['ceilings']))} {given['total']}" if "ceilings" in given else ""
-    length = int(given.get("length", "0"))
-    if length > 1000:
-        return None
-    if kind == "count":
-        return f"c {bounds}", head + [answer["N"]]
-    if kind == "rank":
-        return f"r {bounds} {listed(numbers(given['mix']))}", head + [answer["serial"]]
-    if kind == "unrank":
-        return f"u {bounds} {given['serial']} {length}", head + lent(answer["mix"], length)
-    if kind == "step":
-        letter = "p" if given["back"] == "1" else "s"
-        return f"{letter} {bounds} {listed(numbers(given['mix']))}", head + numbers(answer["mix"])
-    if kind == "tray":
-        return f"b {bounds} {given['serial']} {given['copies']} {length}", head + lent(answer["tray"], length)
-    if kind == "mix-to-order":
-        return f"o {bounds} {listed(numbers(given['mix']))} {length}", head + lent(answer["order"], length)
-    if kind == "order-to-mix":
-        return f"i {bounds} {listed(numbers(given['order']))} {length}", head + lent(answer["mix"], length)
-    if kind == "table":
-        return f"t {given['sheets']} {given['inversions']}", [answer["M"]]
-    return None
-
-
-def parse(line):
-    left, right = line.split(" -> ")
-    kind, *fields = left.split()
-    split = lambda words: dict(w.split("=", 1) for w in words)
-    return kind, split(fields), split(right.split())
-
-
-def vectors(oracle, kind, count, seed):
-    words = ["python3", "-m", "oracle", "vectors", "--kind", kind, "--count", str(count), "--seed", str(seed)]
-    return subprocess.run(words, cwd=oracle, check=True, stdout=subprocess.PIPE, text=True).stdout.splitlines()
-
-
-def counts(oracle):
-    """the answers for the editions of inputs.NAMED and for those next to a limit"""
-    sys.path.insert(0, oracle)
-    from oracle import bounds, editions
-    for ms, r in inputs.NAMED + [(ms, r) for _, ms, r in bounds.BOUNDS]:
-        yield f"c {listed(ms)} {r}", list(editions.answer_count(ms, r))
-
-
-def records():
-    """the same for RECORDS"""
-    from oracle import editions
+def fixed():
+    for ms, r in inputs.NAMED + NEXT_TO_A_LIMIT:
+        yield command("c", ms, r)
     for n, m, r in RECORDS:
-        cells = m + [0] * (24 - len(m))
-        yield f"e {n} {listed(cells)} {r}", list(editions.answer_count(cells[:n], r)) if n <= 24 else [1, 0, 0]
-
-
-def table_1():
+        yield command("e", n, m + [0] * (24 - len(m)), r)
     for g, p in zip(TABLE_1[::2], TABLE_1[1::2]):
-        g, p = [int(x) for x in g], [int(x) for x in p]
-        yield f"o 4 4 3 2 1 5 {listed(g)} 5", [0, 0] + p
-        yield f"i 4 4 3 2 1 5 {listed(p)} 4", [0, 0] + g
+        yield command("o", (4, 3, 2, 1), 5, bytes(map(int, g)), 5)
+        yield command("i", (4, 3, 2, 1), 5, bytes(map(int, p)), 4)
+
+
+class Draw:
+    """a command of each kind at random, as its letter and its fields"""
+
+    def __init__(self, rng):
+        self.rng = rng
+
+    def bounded(self):
+        while True:
+            ms, r = inputs.any_edition(self.rng)
+            if len(ms) <= WIDEST:
+                return ms, r
+
+    def count(self):
+        return "c", *self.bounded()
+
+    def given(self, letter):
+        ms, r = self.bounded()
+        return letter, ms, r, inputs.any_mix(self.rng, ms, r)
+
+    def unrank(self):
+        ms, r = self.bounded()
+        serial = inputs.any_serial(self.rng, ref.number(ms, r) if inputs.accepted(ms, r) else 9)
+        return "u", ms, r, serial, inputs.any_length(self.rng, len(ms))
+
+    def batch(self):
+        return "b", *inputs.tray(self.rng)
+
+    def permutation(self):
+        ms, r = inputs.puzzle(self.rng)
+        return "o", ms, r, inputs.any_mix(self.rng, ms, r), inputs.any_length(self.rng, len(ms) + 1)
+
+    def inversions(self):
+        ms, r = inputs.puzzle(self.rng)
+        return "i", ms, r, inputs.any_sheet_order(self.rng, ms, r), inputs.any_length(self.rng, len(ms))
+
+    def table(self):
+        k = self.rng.randint(0, 17)
+        return "t", k, self.rng.randint(0, k * (k - 1) // 2 + 1)
+
+    def opening(self):
+        return "n", *inputs.opening(self.rng, ENTRIES)
+
+    def call(self):
+        record, column, serial, order = inputs.call(self.rng)
+        n, upper, r, lines, sold, voided, mix = record
+        return "k", n, upper, r, lines, sold, voided, mix, column, self.rng.choice((0, 1, 1, 2)), serial, order
+
+    def kinds(self):
+        yield self.count
+        yield from (lambda letter=letter: self.given(letter) for letter in "rsp")
+        yield from (self.unrank, self.batch, self.permutation, self.inversions, self.table, self.opening, self.call)
+
+
+def drawn(rng, count):
+    """so many commands of each kind, and more until every number that it can answer has come up"""
+    for draw in Draw(rng).kinds():
+        wanted, left = None, count
+        while left or wanted:
+            while not fits(fields := draw()):
+                pass
+            wanted = numbers(fields[0]) if wanted is None else wanted
+            line = command(*fields)
+            number = answer_of(line)
+            if left or number in wanted:
+                yield line
+            left, wanted = max(0, left - 1), wanted - {number}
+
+
+def fits(fields):
+    """there is room in the program for what the command has, and it is not long"""
+    letter, *rest = fields
+    wide = [len(f) for f in rest if isinstance(f, (tuple, bytes))]
+    if letter in "uboi" and rest[-1] > LONGEST:
+        return False
+    return max(wide, default=0) <= WIDEST and all(len(f) <= 40 for f in rest if isinstance(f, list))
+
+
+def lists():
+    for ms, r, column, calls, sizes in interleave.lists():
+        assert max(len(column), len(calls)) <= ENTRIES
+        yield command("l", ms, r, column, *([c[i] for c in calls] for i in range(3)), *sizes)
+
+
+# ---- answers: lines of numbers
+
+class Reader:
+    """the numbers of a command, from the left"""
+
+    def __init__(self, text):
+        self.letter, *self.words = text.split()
+        self.words.reverse()
+
+    def number(self):
+        return int(self.words.pop())
+
+    def list(self):
+        return tuple(self.number() for _ in range(self.number()))
+
+    def edition(self):
+        return self.list(), self.number()
+
+
+def flat(*values):
+    for v in values:
+        if isinstance(v, (tuple, list, bytes)):
+            yield from flat(*v)
+        else:
+            yield v
+
+
+def counted(ms, r):
+    number, detail, *_, n = ref.check(ms, r)
+    return number, detail, n
+
+
+def record_counted(read):
+    n, cells, r = read.number(), read.list(), read.number()
+    return counted(cells[:n], r) if n <= 24 else (1, 0, 0)
+
+
+def in_table(k, r):
+    return ref.number(inputs.stairs(k - 1), r) if 2 <= k <= 16 and r <= k * (k - 1) // 2 else ()
+
+
+def converted(call, read):
+    (ms, r), values, length = read.edition(), read.list(), read.number()
+    return call(ms, r, values, bytes([FILL]) * length)
+
+
+def unranked(read):
+    (ms, r), serial, length = read.edition(), read.number(), read.number()
+    return ref.unrank(ms, r, serial, bytes([FILL]) * length)
+
+
+def batched(read):
+    (ms, r), serial, copies, length = read.edition(), read.number(), read.number(), read.number()
+    return ref.batch(ms, r, serial, copies, bytes([FILL]) * length)
+
+
+def opened(read):
+    number, detail, record = ref.opening(*read.edition(), read.number())
+    return [(number, detail), record]
+
+
+def called(read):
+    n, upper, r = read.number(), read.list(), read.number()
+    record = n, upper, r, read.number(), read.number(), read.number(), read.list()
+    column, which = list(read.list()), read.number()
+    serial, order = read.number(), read.number()
+    before = column[:ref.entries(record, column)]
+    answer, record, column = ref.call(record, column, interleave.WORDS[which], ((), (serial, order), (serial,))[which])
+    return [(len(before), before), answer, record, (len(column), column)]
+
+
+def replayed(read):
+    (ms, r), column = read.edition(), list(read.list())
+    calls = list(zip(read.list(), read.list(), read.list()))
+    sizes = [read.number() for _ in range(4)]
+    number, detail, record = ref.opening(ms, r, len(column))
+    buffers = [[ROOM] * size for size in sizes]
+    if not number and tuple(sizes) != interleave.buffers(len(calls)):
+        number, record = 13, ref.NO_RECORD
+    if not number:
+        paper = ref.Paper(ms, r)
+        answers = [interleave.answer(paper, call) for call in calls]
+        buffers = [[a[i] for a in answers] for i in range(3)] + [list(flat(*(a[3] for a in answers)))]
+        record, column = ref.record_of(ms, r, paper.lines), paper.lines + column[len(paper.lines):]
+    return [(number, detail), record, *((len(part), part) for part in (column, *buffers))]
+
+
+ANSWERED_BY = {
+    "c": lambda read: [counted(*read.edition())],
+    "e": lambda read: [record_counted(read)],
+    "t": lambda read: [in_table(read.number(), read.number())],
+    "r": lambda read: [ref.rank(*read.edition(), read.list())],
+    "u": lambda read: [unranked(read)],
+    "s": lambda read: [ref.step(*read.edition(), read.list(), 1)],
+    "p": lambda read: [ref.step(*read.edition(), read.list(), -1)],
+    "b": lambda read: [batched(read)],
+    "o": lambda read: [converted(ref.permutation, read)],
+    "i": lambda read: [converted(ref.inversions, read)],
+    "n": opened,
+    "k": called,
+    "l": replayed,
+}
+
+
+# the calls that a letter stands for, by the function of the C interface, which says what numbers they answer
+CALLS = {
+    "c": ["huz_check"], "r": ["huz_rank"], "u": ["huz_unrank"], "s": ["huz_successor"], "p": ["huz_predecessor"], "b": ["huz_batch"],
+    "o": ["huz_permutation"], "i": ["huz_inversions"], "n": ["huz_open"], "k": ["huz_peek", "huz_claim", "huz_void"],
+}
+
+
+def numbers(letter):
+    """what numbers a letter's command can answer"""
+    if letter == "l":
+        return {*ref.ANSWERS["huz_open"], 13}
+    return {number for name in CALLS.get(letter, ()) for number in ref.ANSWERS[name]}
+
+
+def lines_of(line):
+    """the numbers of each line that answers a command"""
+    read = Reader(line)
+    lines = [list(flat(values)) for values in ANSWERED_BY[read.letter](read)]
+    assert not read.words, line
+    return lines
+
+
+def answer_of(line):
+    """the number that a command answers; a Mahonian number, or none, for that of the table"""
+    first = lines_of(line)[1 if line[0] == "k" else 0]
+    return first[0] if first else None
+
+
+def answered(text):
+    """the lines that answer the commands"""
+    return [" ".join(map(str, answer)) + "\n" for line in text.split("\n") if line for answer in lines_of(line)]
+
+
+# ---- the files
+
+def in_pieces(commands):
+    """a line for each command; before one that would stand in two pieces, empty lines"""
+    text = ""
+    for line in commands:
+        left = PIECE - len(text) % PIECE
+        text += "\n" * left if left <= len(line) else ""
+        text += line + "\n"
+    return text
+
+
+def path(name):
+    return os.path.join(CRATE, name)
+
+
+def checked():
+    """stdout is what the reference says, and every number that a command can answer comes up"""
+    with open(path("stdin"), encoding="ascii") as f:
+        commands = f.read()
+    with open(path("stdout"), encoding="ascii") as f:
+        same = f.readlines() == answered(commands)
+    came_up = {(line[0], answer_of(line)) for line in commands.split("\n") if line}
+    differences = [] if same else ["stdout is not what the reference says"]
+    differences += [f"{letter} does not answer {number}" for letter in ANSWERED_BY for number in numbers(letter) if (letter, number) not in came_up]
+    print("\n".join(differences), end="\n" if differences else "")
+    print(f"vectors: {sum(map(bool, commands.split(chr(10))))} commands, {len(differences)} differences")
+    return 1 if differences else 0
 
 
 def main():
-    oracle = os.path.abspath(sys.argv[1])
-    count = int(sys.argv[2]) if len(sys.argv) > 2 else 100
-    seed = int(sys.argv[3]) if len(sys.argv) > 3 else 7
-    cases = list(counts(oracle)) + list(records()) + list(table_1())
-    for kind in ("count", "rank", "unrank", "step", "tray", "mix-to-order", "order-to-mix", "table"):
-        for line in vectors(oracle, kind, count, seed):
-            found = case(*parse(line))
-            if found:
-                cases.append(found)
-    from oracle import register
-    cases = [(command, [answer]) for command, answer in cases] + list(interleave.lists(register))
-    with open(os.path.join(CRATE, "stdin"), "w", encoding="ascii") as f:
-        f.writelines(command + "\n" for command, _ in cases)
-    with open(os.path.join(CRATE, "stdout"), "w", encoding="ascii") as f:
-        f.writelines(" ".join(str(v) for v in line) + "\n" for _, lines in cases for line in lines)
-    print(len(cases), "vectors,", os.path.getsize(os.path.join(CRATE, "stdin")), "bytes of commands")
+    parser = argparse.ArgumentParser(description=__doc__, formatter_class=argparse.RawDescriptionHelpFormatter)
+    parser.add_argument("--check", action="store_true")
+    parser.add_argument("--count", type=int, default=90)
+    parser.add_argument("--seed", type=int, default=7)
+    options = parser.parse_args()
+    if options.check:
+        return checked()
+    commands = [*lists(), *fixed(), *drawn(random.Random(options.seed), options.count)]
+    text = in_pieces(commands)
+    with open(path("stdin"), "w", encoding="ascii") as f:
+        f.write(text)
+    with open(path("stdout"), "w", encoding="ascii") as f:
+        f.writelines(answered(text))
+    print(len(commands), "vectors,", len(text), "bytes of commands in", -(-len(text) // PIECE), "pieces")
+    return 0
 
 
-main()
+if __name__ == "__main__":
+    sys.exit(main())

@@ -47,17 +47,17 @@ pub fn shape(upper: &[u8], total: u32) -> Result<usize, Refused> {
     Ok(all)
 }
 
-/// One row of the band from the row before it: cells for the sums from `low` on, each a window of `m + 1` cells. A window over the limit is seen before
-/// anything wraps, since every cell before it is within the limit.
+/// One row of the band from the row before it: cells for the sums from `low` on, each a window of `m + 1` cells. A window over the limit is seen
+/// before anything wraps, since every cell before it is within the limit; without CAREFUL the numbers are known to be.
 #[inline(always)]
-fn slide(old: &[u64], old_low: usize, m: usize, low: usize, new: &mut [MaybeUninit<u64>]) -> bool {
+fn slide<const CAREFUL: bool>(old: &[u64], old_low: usize, m: usize, low: usize, new: &mut [MaybeUninit<u64>]) -> bool {
     let old_end = old_low + old.len();
     let bottom = low.saturating_sub(m).max(old_low);
     let top = (low + 1).min(old_end);
     let (mut window, mut widest) = (0u64, 0u64);
     for &cell in &old[bottom - old_low..top - old_low] {
         window = window.wrapping_add(cell);
-        widest |= window;
+        widest |= if CAREFUL { window } else { 0 };
     }
     new[0].write(window);
     // then the window only grows, or moves, or stands still, or only shrinks
@@ -69,14 +69,14 @@ fn slide(old: &[u64], old_low: usize, m: usize, low: usize, new: &mut [MaybeUnin
     let (first, rest) = new[1..].split_at_mut(grows.min(holds));
     for (cell, &a) in first.iter_mut().zip(add) {
         window = window.wrapping_add(a);
-        widest |= window;
+        widest |= if CAREFUL { window } else { 0 };
         cell.write(window);
     }
     let (middle, end) = rest.split_at_mut(if both > 0 { both } else { holds - grows });
     if both > 0 {
         for ((cell, &a), &d) in middle.iter_mut().zip(&add[holds..]).zip(drop) {
             window = window.wrapping_add(a.wrapping_sub(d));
-            widest |= window;
+            widest |= if CAREFUL { window } else { 0 };
             cell.write(window);
         }
     } else {
@@ -91,6 +91,33 @@ fn slide(old: &[u64], old_low: usize, m: usize, low: usize, new: &mut [MaybeUnin
     widest <= LIMIT
 }
 
+/// The same, by the way that fits.
+#[inline(always)]
+fn row(within: bool, old: &[u64], old_low: usize, m: usize, low: usize, new: &mut [MaybeUninit<u64>]) -> bool {
+    if old.len() <= 4 && new.len() <= 4 {
+        return narrow(old, old_low, m, low, new);
+    }
+    if within {
+        return slide::<false>(old, old_low, m, low, new);
+    }
+    slide::<true>(old, old_low, m, low, new)
+}
+
+/// The same for a row of few cells: each is the sum of what is in its window.
+#[inline(always)]
+fn narrow(old: &[u64], old_low: usize, m: usize, low: usize, new: &mut [MaybeUninit<u64>]) -> bool {
+    let mut widest = 0u64;
+    for (t, cell) in (low..).zip(new) {
+        let mut window = 0u64;
+        for (s, &c) in (old_low..).zip(old) {
+            window = window.wrapping_add(if s <= t && t <= s + m { c } else { 0 });
+            widest |= window;
+        }
+        cell.write(window);
+    }
+    widest <= LIMIT
+}
+
 /// The counting table: a row for each number of parts, cells for the sums from which the total can still be reached.
 pub struct Table<'a> {
     pub cells: &'a [u64],
@@ -100,6 +127,7 @@ pub struct Table<'a> {
 }
 
 pub fn fill<'a>(upper: &[u8], total: u32, all: usize, memory: &'a mut [MaybeUninit<u64>; CELLS]) -> Result<Table<'a>, Refused> {
+    let few = few_rows(upper, total, all);
     let (mut start, mut low, mut left) = ([0u16; 25], [0u16; 25], [0u16; 25]);
     let total = total as usize;
     memory[0].write(1);
@@ -113,7 +141,7 @@ pub fn fill<'a>(upper: &[u8], total: u32, all: usize, memory: &'a mut [MaybeUnin
         let size = new_high + 1 - new_low;
         // the cells before are written
         let old = unsafe { std::slice::from_raw_parts(before[at..].as_ptr().cast::<u64>(), width) };
-        if !slide(old, old_low, m as usize, new_low, &mut new[..size]) {
+        if !row(i < few, old, old_low, m as usize, new_low, &mut new[..size]) {
             return Err((5, 0));
         }
         at += width;
@@ -134,8 +162,9 @@ impl Table<'_> {
     }
 }
 
-/// N with two rows only.
-fn count_rows(upper: &[u8], total: u32, all: usize) -> Result<u64, Refused> {
+/// N with two rows only, of which the first `few` are within the limit.
+#[inline(never)]
+fn rows(upper: &[u8], total: u32, all: usize, few: usize) -> Result<u64, Refused> {
     let mut rows = [[MaybeUninit::<u64>::uninit(); 256]; 2];
     let total = total as usize;
     rows[0][0].write(1);
@@ -147,7 +176,7 @@ fn count_rows(upper: &[u8], total: u32, all: usize) -> Result<u64, Refused> {
         let (a, b) = rows.split_at_mut(1);
         let (old, new) = if i % 2 == 0 { (&a[0], &mut b[0]) } else { (&b[0], &mut a[0]) };
         let old = unsafe { std::slice::from_raw_parts(old.as_ptr().cast::<u64>(), width) };
-        if !slide(old, low, m as usize, new_low, &mut new[..size]) {
+        if !row(i < few, old, low, m as usize, new_low, &mut new[..size]) {
             return Err((5, 0));
         }
         low = new_low;
@@ -156,38 +185,87 @@ fn count_rows(upper: &[u8], total: u32, all: usize) -> Result<u64, Refused> {
     Ok(unsafe { rows[upper.len() % 2][0].assume_init() })
 }
 
-fn number(upper: &[u8], total: u32) -> Result<u64, Refused> {
-    let all = shape(upper, total)?;
-    if upper.len() <= 15 && is_staircase(upper) {
-        return Ok(MAHONIAN[upper.len() + 1][total as usize]);
-    }
-    count_rows(upper, total, all)
+/// N of a staircase that the table has; it is accepted by 1 to 5.
+#[inline(always)]
+fn in_table(upper: &[u8], total: u32) -> Option<u64> {
+    let n = upper.len();
+    if (1..=15).contains(&n) && total as usize <= n * (n + 1) / 2 && is_staircase(upper) { Some(MAHONIAN[n + 1][total as usize]) } else { None }
 }
 
-/// 1 to 5, without counting where the product of all ranges but the widest is within the limit.
+/// N, or 1 to 5.
+#[inline(always)]
+pub fn number(upper: &[u8], total: u32) -> Result<u64, Refused> {
+    if let Some(count) = in_table(upper, total) {
+        return Ok(count);
+    }
+    let all = shape(upper, total)?;
+    rows(upper, total, all, few_rows(upper, total, all))
+}
+
+/// The largest sum, up to 255, whose compositions into n parts, without bounds, are within the limit.
+const fn free() -> [u16; 25] {
+    let mut most = [255u16; 25];
+    // the sums' numbers of compositions, one part more each time: running sums
+    let mut row = [0u64; 256];
+    row[0] = 1;
+    let mut n = 1;
+    while n < 25 {
+        let mut sum = 0u64;
+        let mut q = 0;
+        while q < 256 {
+            sum = sum.saturating_add(row[q]);
+            row[q] = sum;
+            if sum > LIMIT && most[n] as usize >= q {
+                most[n] = q as u16 - 1;
+            }
+            q += 1;
+        }
+        n += 1;
+    }
+    most
+}
+
+static FREE: [u16; 25] = free();
+
+/// How many rows of a shape that is accepted are within the limit by a bound that costs nothing. There are as many compositions of the total as of
+/// what it leaves of the bounds' sum, so the smaller of the two counts: that of its compositions into as many parts without bounds, or the product of
+/// the numbers of values of all parts but the widest.
+#[inline(always)]
+fn few_rows(upper: &[u8], total: u32, all: usize) -> usize {
+    let smaller = (total as usize).min(all - total as usize);
+    if smaller <= FREE[upper.len()] as usize {
+        return upper.len();
+    }
+    let (mut product, mut widest) = (1u64, 1u64);
+    for (i, &m) in upper.iter().enumerate() {
+        let values = (m as u64).min(smaller as u64) + 1;
+        product = product.saturating_mul(values.min(widest));
+        widest = values.max(widest);
+        if product > LIMIT {
+            return i;
+        }
+    }
+    upper.len()
+}
+
+/// 5 of a shape that is accepted. Nothing is counted where a bound is enough.
+#[inline(always)]
+pub fn limit(upper: &[u8], total: u32, all: usize) -> Result<(), Refused> {
+    let few = few_rows(upper, total, all);
+    if few == upper.len() { Ok(()) } else { rows(upper, total, all, few).map(|_| ()) }
+}
+
+/// 1 to 5.
 pub fn edition(upper: &[u8], total: u32) -> Result<(), Refused> {
     let all = shape(upper, total)?;
-    let mut product: u64 = 1;
-    let mut widest = 1;
-    for &m in upper {
-        let range = (m as u64).min(total as u64) + 1;
-        let (wide, narrow) = if range > widest { (range, widest) } else { (widest, range) };
-        widest = wide;
-        product = product.saturating_mul(narrow);
-    }
-    if product <= LIMIT {
-        return Ok(());
-    }
-    if upper.len() <= 15 && is_staircase(upper) {
-        return Ok(());
-    }
-    count_rows(upper, total, all).map(|_| ())
+    limit(upper, total, all)
 }
 
 pub fn memory<const CLEAR: bool>() -> [MaybeUninit<u64>; CELLS] {
     if CLEAR { [MaybeUninit::new(0); CELLS] } else { [MaybeUninit::uninit(); CELLS] }
 }
 
+#[inline(never)]
 pub fn check(upper: &[u8], total: u32) -> Checked {
     match number(upper, total) {
         Ok(count) => Checked { number: 0, detail: 0, bounds: Bounds { parts: upper.len(), upper: pack(upper), total }, count },

@@ -35,6 +35,7 @@ fn register(ledger: &Ledger, orders: &[u32], order: u32) -> Option<(u64, bool)> 
     Some((count, hits > 0))
 }
 
+#[inline(never)]
 pub fn claim(mut ledger: Ledger, orders: &mut [u32], serial: u64, order: u32) -> Claimed {
     let placed = (|| {
         let (count, stands) = register(&ledger, orders, order).ok_or((16, 0))?;

@@ -1,5 +1,5 @@
 //! Rank, unrank, steps and batches.
-use super::count::{edition, fill, memory, shape, Table};
+use super::count::{Table, edition, fill, limit, memory, number, shape};
 use super::types::*;
 
 pub fn given(upper: &[u8], total: u32, g: &[u8]) -> Result<(), Refused> {
@@ -36,12 +36,17 @@ fn place(table: &Table, upper: &[u8], total: u32, g: &[u8]) -> u64 {
 
 fn rank_in<const CLEAR: bool>(upper: &[u8], total: u32, g: &[u8]) -> Result<u64, Refused> {
     let all = shape(upper, total)?;
+    // what is no composition needs no table: it is refused unless 5 comes first
+    if let Err(refused) = given(upper, total, g) {
+        limit(upper, total, all)?;
+        return Err(refused);
+    }
     let mut memory = memory::<CLEAR>();
     let table = fill(upper, total, all, &mut memory)?;
-    given(upper, total, g)?;
     Ok(place(&table, upper, total, g) + 1)
 }
 
+#[inline(never)]
 pub fn rank<const CLEAR: bool>(upper: &[u8], total: u32, g: &[u8]) -> Ranked {
     match rank_in::<CLEAR>(upper, total, g) {
         Ok(serial) => Ranked { number: 0, detail: 0, serial },
@@ -71,19 +76,22 @@ pub fn write(table: &Table, upper: &[u8], total: u32, rank: u64, out: &mut [u8])
 }
 
 fn unrank_in<const CLEAR: bool>(upper: &[u8], total: u32, serial: u64, out: &mut [u8]) -> Result<(), Refused> {
+    // nor does a part of another length: it is refused unless 1 to 6 come first
+    if out.len() != upper.len() {
+        let count = number(upper, total)?;
+        return Err(if serial == 0 || serial > count { (6, 0) } else { (13, 0) });
+    }
     let all = shape(upper, total)?;
     let mut memory = memory::<CLEAR>();
     let table = fill(upper, total, all, &mut memory)?;
     if serial == 0 || serial > table.count(upper.len(), total as usize) {
         return Err((6, 0));
     }
-    if out.len() != upper.len() {
-        return Err((13, 0));
-    }
     write(&table, upper, total, serial - 1, out);
     Ok(())
 }
 
+#[inline(never)]
 pub fn unrank<const CLEAR: bool>(upper: &[u8], total: u32, serial: u64, out: &mut [u8]) -> Refusal {
     refusal(unrank_in::<CLEAR>(upper, total, serial, out))
 }
@@ -133,15 +141,62 @@ fn stepped(result: Result<[u8; 24], Refused>) -> Stepped {
     }
 }
 
+#[inline(never)]
 pub fn successor(upper: &[u8], total: u32, g: &[u8]) -> Stepped {
     stepped(step(upper, total, g, 0))
 }
 
+#[inline(never)]
 pub fn predecessor(upper: &[u8], total: u32, g: &[u8]) -> Stepped {
     stepped(step(upper, total, g, 1))
 }
 
-fn batch_in(upper: &[u8], total: u32, serial: u64, copies: u64, out: &mut [u8]) -> Result<(), Refused> {
+/// The first two parts, which way the second goes, and how often it can still move: most steps move these two alone.
+struct Run {
+    first: u8,
+    second: u8,
+    falling: bool,
+    more: usize,
+}
+
+#[inline(always)]
+fn run_of(upper: &[u8], total: usize, g: &[u8]) -> Run {
+    let (first, second) = (g[0], g[1]);
+    let (v, sum) = (second as usize, first as usize + second as usize);
+    let falling = (total - sum) % 2 == 1;
+    let (lo, hi) = (sum.saturating_sub(upper[0] as usize), (upper[1] as usize).min(sum));
+    Run { first, second, falling, more: if falling { v - lo } else { hi - v } }
+}
+
+/// As many compositions as `out` has room for, from that in `cells` on: runs of the first two parts, and a step of all where one ends.
+fn write_runs<const WIDE: bool>(upper: &[u8], total: usize, mut cells: [u8; 24], out: &mut [u8]) {
+    let n = upper.len();
+    let mut run = run_of(upper, total, &cells);
+    let mut at = 0;
+    while at < out.len() {
+        // 24 bytes at once where there is room: what is too much is overwritten by the next
+        if WIDE && at + 24 <= out.len() {
+            out[at..at + 24].copy_from_slice(&cells);
+        } else {
+            out[at..at + n].copy_from_slice(&cells[..n]);
+        }
+        out[at] = run.first;
+        out[at + 1] = run.second;
+        at += n;
+        if run.more > 0 {
+            let (up, down) = if run.falling { (1, 255) } else { (255, 1) };
+            run.first = run.first.wrapping_add(up);
+            run.second = run.second.wrapping_add(down);
+            run.more -= 1;
+        } else {
+            (cells[0], cells[1]) = (run.first, run.second);
+            advance(upper, total, &mut cells[..n], 0);
+            run = run_of(upper, total, &cells);
+        }
+    }
+}
+
+fn batch_in<const WIDE: bool>(upper: &[u8], total: u32, serial: u64, copies: u64, out: &mut [u8]) -> Result<(), Refused> {
     let n = upper.len();
     let all = shape(upper, total)?;
     let mut memory = memory::<false>();
@@ -158,21 +213,15 @@ fn batch_in(upper: &[u8], total: u32, serial: u64, copies: u64, out: &mut [u8]) 
     }
     let mut cells = [0u8; 24];
     write(&table, upper, total, serial - 1, &mut cells[..n]);
-    // 24 bytes at once where there is room: what is too much is overwritten by the next
-    let mut at = 0;
-    while at + 24 <= out.len() {
-        out[at..at + 24].copy_from_slice(&cells);
-        at += n;
-        advance(upper, total as usize, &mut cells[..n], 0);
-    }
-    while at < out.len() {
-        out[at..at + n].copy_from_slice(&cells[..n]);
-        at += n;
-        advance(upper, total as usize, &mut cells[..n], 0);
+    if n == 1 {
+        out[0] = cells[0];
+    } else {
+        write_runs::<WIDE>(upper, total as usize, cells, out);
     }
     Ok(())
 }
 
-pub fn batch(upper: &[u8], total: u32, serial: u64, copies: u64, out: &mut [u8]) -> Refusal {
-    refusal(batch_in(upper, total, serial, copies, out))
+#[inline(never)]
+pub fn batch<const WIDE: bool>(upper: &[u8], total: u32, serial: u64, copies: u64, out: &mut [u8]) -> Refusal {
+    refusal(batch_in::<WIDE>(upper, total, serial, copies, out))
 }

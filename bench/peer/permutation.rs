@@ -29,6 +29,7 @@ fn permutation_in(upper: &[u8], total: u32, g: &[u8], out: &mut [u8]) -> Result<
     Ok(())
 }
 
+#[inline(never)]
 pub fn permutation(upper: &[u8], total: u32, g: &[u8], out: &mut [u8]) -> Refusal {
     refusal(permutation_in(upper, total, g, out))
 }
@@ -62,6 +63,7 @@ fn inversions_in(upper: &[u8], total: u32, p: &[u8], out: &mut [u8]) -> Result<(
     Ok(())
 }
 
+#[inline(never)]
 pub fn inversions(upper: &[u8], total: u32, p: &[u8], out: &mut [u8]) -> Refusal {
     refusal(inversions_in(upper, total, p, out))
 }

@@ -1,16 +1,21 @@
 // Runs vectors from outside through the library. Standard input has a command a line, a letter and numbers (a list has its length in front); each is
-// answered by a line of numbers, a list of ledger calls by several. tests/vectors.py writes the commands and the expected answers from an independent
+// answered by a line of numbers, those on the ledger by several. tests/vectors.py draws the commands and has the answers from an independent
 // implementation.
 ghost use Prim.Native.Nat.{_≤_};
 
 mod interleave;
 mod read;
+mod record;
+mod room;
 mod show;
 
 use libc::STDIN_FILENO;
 
 // What a lent part holds before a call.
 const FILL: u8 = 170;
+
+// The most pieces that are read.
+const PIECES: u32 = 4;
 
 // count: c, upper, total: number, detail, N
 fn count(s: &[u8], from: usize) -> usize
@@ -184,6 +189,8 @@ fn command(s: &[u8], letter: u8, from: usize) -> usize
         b'b' => batch(s, from),
         b'o' => permutation(s, from),
         b'i' => inversions(s, from),
+        b'n' => record::opening(s, from),
+        b'k' => record::call(s, from),
         b'l' => interleave::list(s, from),
         _ => from,
     }
@@ -197,8 +204,18 @@ fn run(s: &[u8]) {
     }
 }
 
-fn main() {
+// Every command of a piece of standard input. A piece has 65,536 bytes, but for the last, and no command stands in two of them: where one would,
+// there are empty lines before it.
+fn piece() {
     let mut input = io::large_buffer();
     let got = io::read_full(STDIN_FILENO, &mut input);
     run(read::part(&input, got));
+}
+
+fn main() {
+    let mut i: u32 = 0;
+    while i < PIECES {
+        piece();
+        i += 1;
+    }
 }

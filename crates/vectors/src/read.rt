@@ -90,6 +90,43 @@ pub(crate) fn list(s: &[u8], from: usize, out: &mut [u8]) -> Listed
     Listed { len: i, at }
 }
 
+// The same, as words and as longs.
+pub(crate) fn words(s: &[u8], from: usize, out: &mut [u32]) -> Listed
+    ensures { λ r. ⌜ from ≤ r .at ⌝ }
+{
+    let n = number(s, from);
+    let mut at = n.at;
+    let mut i: usize = 0;
+    while (i as u64) < n.value {
+        if out.len() <= i {
+            return Listed { len: i, at };
+        }
+        let x = number(s, at);
+        out[i] = (x.value % 4294967296) as u32;
+        at = x.at;
+        i += 1;
+    }
+    Listed { len: i, at }
+}
+
+pub(crate) fn longs(s: &[u8], from: usize, out: &mut [u64]) -> Listed
+    ensures { λ r. ⌜ from ≤ r .at ⌝ }
+{
+    let n = number(s, from);
+    let mut at = n.at;
+    let mut i: usize = 0;
+    while (i as u64) < n.value {
+        if out.len() <= i {
+            return Listed { len: i, at };
+        }
+        let x = number(s, at);
+        out[i] = x.value;
+        at = x.at;
+        i += 1;
+    }
+    Listed { len: i, at }
+}
+
 // The first n bytes, or all.
 pub(crate) fn part(s: &[u8], n: usize) -> &[u8] {
     if s.len() < n {

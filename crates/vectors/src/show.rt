@@ -10,6 +10,10 @@ pub(crate) fn next(n: u64) {
     io::print_decimal(STDOUT_FILENO, n);
 }
 
+fn next_word(n: u32) {
+    next(n as u64);
+}
+
 pub(crate) fn end() {
     io::write_all(STDOUT_FILENO, b"\n");
 }
@@ -46,4 +50,73 @@ pub(crate) fn stepped(answer: step::Stepped) {
     next(answer.detail);
     bytes(&composition);
     end();
+}
+
+// ---- lines of a list: its length, and each entry
+
+pub(crate) fn cells(list: &[u8]) {
+    first(list.len() as u64);
+    bytes(list);
+    end();
+}
+
+pub(crate) fn words(list: &[u32]) {
+    first(list.len() as u64);
+    let mut i = 0;
+    while i < list.len() {
+        next_word(list[i]);
+        i += 1;
+    }
+    end();
+}
+
+pub(crate) fn longs(list: &[u64]) {
+    first(list.len() as u64);
+    let mut i = 0;
+    while i < list.len() {
+        next(list[i]);
+        i += 1;
+    }
+    end();
+}
+
+// ---- lines of the ledger
+
+// A line of a record: number of parts, bounds, total, entries, sold, voided, composition.
+pub(crate) fn ledger(ledger: model::Ledger) {
+    let bounds = ledger.bounds;
+    let upper = bounds.upper;
+    let composition = ledger.next;
+    first(bounds.parts as u64);
+    bytes(&upper);
+    next(bounds.total as u64);
+    next(ledger.entries);
+    next(ledger.sold);
+    next(ledger.voided);
+    bytes(&composition);
+    end();
+}
+
+// A line of an opening's refusal, and the record.
+pub(crate) fn opened(answer: model::Opened) {
+    first(answer.number as u64);
+    next(answer.detail);
+    end();
+    ledger(answer.ledger);
+}
+
+// A line of a call's answer.
+pub(crate) fn answer(answer: model::Answer) {
+    let composition = answer.composition;
+    first(answer.number as u64);
+    next(answer.detail);
+    next(answer.serial);
+    bytes(&composition);
+    end();
+}
+
+// The same, and the record after the call.
+pub(crate) fn claimed(done: model::Claimed) {
+    answer(done.answer);
+    ledger(done.ledger);
 }

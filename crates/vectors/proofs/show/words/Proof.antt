@@ -1,18 +1,18 @@
--- `vectors::interleave::entries` is safe.
+-- `vectors::show::words` meets its contract: it stays inside what is lent, and ends.
 use Prim.Native.Nat.{_≤_, _-_}
 use lib.ListN.{length}
 use borrow.Author.Needs.{needs}
-use Rattle.vectors.proofs.interleave.entries.Statement.{statement}
-use Rattle.vectors.proofs.interleave.entries.Tie as tie
+use Rattle.vectors.proofs.show.words.Statement.{statement}
+use Rattle.vectors.proofs.show.words.Tie as tie
 
 abbrev Inv-loop : tie.InvT-loop
-Inv-loop column i₀ i = i ≤ length column
+Inv-loop list i₀ i = i ≤ length list
 
 abbrev μ-loop : tie.MeasureT-loop
-μ-loop column i₀ i = length column - i
+μ-loop list i₀ i = length list - i
 
-pub entries-spec : {M : Type 1} → statement M
-entries-spec =
+pub words-spec : {M : Type 1} → statement M
+words-spec =
     tie.close
     (tie.spec
     Inv-loop
@@ -21,7 +21,6 @@ entries-spec =
     (λ c. search needs)
     (λ c. search needs)
     (λ c. search needs)
-    (λ c κs. search needs)
     (λ c κs. search needs)
     (λ c. search needs)
     (λ c. search needs)

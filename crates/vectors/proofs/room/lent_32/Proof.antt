@@ -1,10 +1,10 @@
--- `vectors::interleave::lent_32` is safe: the part has the length that was asked for.
+-- `vectors::room::lent_32` is safe: the part has the length that was asked for.
 use mathlib.Core.Path.{sym}
 use native.Mathlib.Omega.{arith}
 use borrow.Author.Needs.{needs}
 use lib.Seq.{length-take-le}
-use Rattle.vectors.proofs.interleave.lent_32.Statement.{statement}
-use Rattle.vectors.proofs.interleave.lent_32.Tie as tie
+use Rattle.vectors.proofs.room.lent_32.Statement.{statement}
+use Rattle.vectors.proofs.room.lent_32.Tie as tie
 
 slice-aggregate-result : tie.Need-slice-aggregate-result
 slice-aggregate-result c = sym (length-take-le (c .before .before .args .n) (c .before .before .args .s .now) (omega arith))

@@ -1,0 +1,101 @@
+//! The peer has to answer what the engine answers, refusals too, or its times mean nothing: both are asked the same at random before any is timed.
+use crate::{engine, peer};
+
+pub struct Random(u64);
+
+impl Random {
+    pub fn new() -> Random {
+        Random(88172645463325252)
+    }
+
+    pub fn next(&mut self) -> u64 {
+        self.0 ^= self.0 << 13;
+        self.0 ^= self.0 >> 7;
+        self.0 ^= self.0 << 17;
+        self.0
+    }
+
+    fn below(&mut self, n: u64) -> u64 {
+        self.next() % n
+    }
+
+    /// Mostly an edition that is accepted or whose N is over the limit.
+    fn edition(&mut self) -> (Vec<u8>, u32) {
+        let n = [1, 2, 3, 11, 15, 16, 20, 24, 24, 25][self.below(10) as usize];
+        let most = [1, 2, 5, 6, 10, 24, 60][self.below(7) as usize];
+        let mut upper: Vec<u8> = (0..n).map(|i| if most == 24 { (n - i) as u8 } else { 1 + self.below(most) as u8 }).collect();
+        if self.below(20) == 0 {
+            upper[0] = [0, 61, 255][self.below(3) as usize];
+        }
+        let all: u64 = upper.iter().map(|&m| m as u64).sum();
+        let total = [self.below(all + 2), all - self.below(all + 1).min(9), self.below(60), self.below(300)][self.below(4) as usize];
+        (upper, total as u32)
+    }
+}
+
+/// Bytes as they were given, or with one changed, left out or put in.
+fn damaged(random: &mut Random, mut given: Vec<u8>) -> Vec<u8> {
+    match random.below(6) {
+        0 => _ = given.pop(),
+        1 => given.push(random.below(4) as u8),
+        2 if !given.is_empty() => {
+            let i = random.below(given.len() as u64) as usize;
+            given[i] = given[i].wrapping_add([1, 255, 100][random.below(3) as usize]);
+        }
+        _ => {}
+    }
+    given
+}
+
+fn case(random: &mut Random) {
+    let (u, r) = random.edition();
+    let count = engine::check(&u, r).count;
+    assert_eq!(engine::check(&u, r), peer::check(&u, r), "check {u:?} {r}");
+    let serial = [0, 1, count, count.saturating_add(1), 1 + random.below(count.max(1))][random.below(5) as usize];
+    let n = [u.len(), u.len(), u.len() + 1, 0][random.below(4) as usize];
+    let (mut a, mut b) = (vec![9; n], vec![9; n]);
+    assert_eq!((engine::unrank(&u, r, serial, &mut a), &a), (peer::unrank::<false>(&u, r, serial, &mut b), &b), "unrank {u:?} {r} {serial} {n}");
+    let g = damaged(random, a);
+    assert_eq!(engine::rank(&u, r, &g), peer::rank::<false>(&u, r, &g), "rank {u:?} {r} {g:?}");
+    assert_eq!(engine::successor(&u, r, &g), peer::successor(&u, r, &g), "successor {u:?} {r} {g:?}");
+    assert_eq!(engine::predecessor(&u, r, &g), peer::predecessor(&u, r, &g), "predecessor {u:?} {r} {g:?}");
+    let copies = random.below(40).min(count + 1);
+    let size = copies as usize * u.len() + (random.below(9) == 0) as usize;
+    let (mut a, mut b, mut c) = (vec![9; size], vec![9; size], vec![9; size]);
+    let (x, y, z) = (
+        engine::batch(&u, r, serial, copies, &mut a),
+        peer::batch::<true>(&u, r, serial, copies, &mut b),
+        peer::batch::<false>(&u, r, serial, copies, &mut c),
+    );
+    assert_eq!((x, &a, x, &a), (y, &b, z, &c), "batch {u:?} {r} {serial} {copies} {size}");
+    let k = u.len() + 1 - (random.below(9) == 0) as usize;
+    let (mut a, mut b) = (vec![9; k], vec![9; k]);
+    assert_eq!((engine::permutation(&u, r, &g, &mut a), &a), (peer::permutation(&u, r, &g, &mut b), &b), "permutation {u:?} {r} {g:?}");
+    let p = damaged(random, a);
+    let (mut a, mut b) = (vec![9; n], vec![9; n]);
+    assert_eq!((engine::inversions(&u, r, &p, &mut a), &a), (peer::inversions(&u, r, &p, &mut b), &b), "inversions {u:?} {r} {p:?}");
+    if 0 < count && count < 5000 {
+        claims(random, &u, r, count);
+    }
+}
+
+fn claims(random: &mut Random, u: &[u8], r: u32, count: u64) {
+    let mut orders: Vec<u32> = (0..count).map(|_| random.below(50) as u32).collect();
+    let mut copy = orders.clone();
+    let mut ledger = engine::open(u, r, &orders).ledger;
+    for _ in 0..12 {
+        let serial = [ledger.entries + 1, ledger.entries + 1, ledger.entries, random.below(count + 2)][random.below(4) as usize];
+        let order = random.below(60) as u32;
+        let (a, b) = (engine::claim(ledger, &mut orders, serial, order), peer::claim(ledger, &mut copy, serial, order));
+        assert_eq!((a, &orders), (b, &copy), "claim {u:?} {r} {ledger:?} {serial} {order}");
+        ledger = a.ledger;
+        if random.below(20) == 0 {
+            ledger.sold ^= 1;
+        }
+    }
+}
+
+pub fn check(cases: usize) {
+    let mut random = Random::new();
+    (0..cases).for_each(|_| case(&mut random));
+}
