@@ -3,8 +3,9 @@
 
     python3 tests/listing.py [SEED [PROGRAM [SECONDS]]]
 
-The program is target/bin/list, proved and built where it is missing or old. The last line is `listing: N slips, 0 differences`; any difference makes
-the exit status 1. A machine that is too slow for all slips drawn at random draws no more after SECONDS.
+The program is target/bin/list, proved and built where it is missing or old; then ./list is tested too, on inputs and outputs that fail. The last line
+is `listing: N slips, 0 differences`; any difference makes the exit status 1. A machine that is too slow for all slips drawn at random draws no more
+after SECONDS.
 """
 import os
 import random
@@ -18,6 +19,7 @@ import reference as ref
 
 TOP = os.path.dirname(os.path.dirname(os.path.abspath(__file__)))
 PROGRAM = os.path.join(TOP, "target", "bin", "list")
+SCRIPT = os.path.join(TOP, "list")
 MANY = 20_000  # the most lines that are listed but for near_the_million
 REFUSALS = 1, 2, 3, 4, 5, 14, 22
 
@@ -178,6 +180,39 @@ def compare(program, text, cuts):
     return number, f"{shown}, {cuts}: line {line}, byte {at}: {got[at:at + 60]}, expected {expected[at:at + 60]}; exit status {status}"
 
 
+# ---- ./list where it cannot read or write
+
+def script(text, redirected=""):
+    """the exit status of ./list with its input or output redirected by the shell, what it printed, and what it said on standard error"""
+    command = ["bash", "-c", f'"$0" {redirected}; exit "${{PIPESTATUS[0]}}"', SCRIPT]
+    run = subprocess.run(command, input=text, stdout=subprocess.PIPE, stderr=subprocess.PIPE, timeout=60)
+    return run.returncode, run.stdout, run.stderr.decode()
+
+
+def failures():
+    """how ./list differs where a read or a write fails, which is said on standard error with status 1, and where none does, with status 0"""
+    long, good, refused = slip((60,) * 4, 60), ref.printed(DOCUMENT)[1], b"refused 4\n"
+    output, full = "list: standard output: ", "No space left on device\n"
+    for text, redirected, expected in (
+            (DOCUMENT, "", (0, good, "")),
+            (slip((2, 2), 5), "", (0, refused, "")),
+            (DOCUMENT, "| cat", (0, good, "")),
+            (DOCUMENT, "2>&-", (0, good, "")),
+            (DOCUMENT, "> /dev/full", (1, b"", output + full)),
+            (b"", "> /dev/full", (1, b"", output + full)),
+            (long, "> /dev/full", (1, b"", output + full)),
+            (long, "| head -n 1", (1, ref.printed(long)[1].partition(b"\n")[0] + b"\n", output + "Broken pipe\n")),
+            (long, "| head -c 100000 > /dev/null", (1, b"", output + "Broken pipe\n")),
+            (DOCUMENT, ">&-", (1, b"", output + "closed\n")),
+            (DOCUMENT, "<&-", (1, b"", "list: standard input: closed\n")),
+            (DOCUMENT, "< /", (1, b"", "list: standard input: Is a directory\n")),
+            (DOCUMENT, "< / 2>&-", (1, b"", "")),
+    ):
+        got = script(text, redirected)
+        if got != expected:
+            yield f"./list {redirected}: {got}, expected {expected}"
+
+
 def all_of(rng, seconds, rounds=250):
     start = time.monotonic()
     for slips in editions, numbers, forms, lengths, near_the_million:
@@ -188,9 +223,10 @@ def all_of(rng, seconds, rounds=250):
 
 
 def main(seed=1, program=PROGRAM, seconds=30):
-    if program == PROGRAM:  # the script builds it
-        subprocess.run([os.path.join(TOP, "list")], check=True, stdin=subprocess.DEVNULL, stdout=subprocess.DEVNULL)
     cases, differences = Counter(), []
+    if program == PROGRAM:  # the script builds it
+        subprocess.run([SCRIPT], check=True, stdin=subprocess.DEVNULL, stdout=subprocess.DEVNULL)
+        differences += failures()
     for text in all_of(random.Random(int(seed)), float(seconds)):
         text, *cuts = text if isinstance(text, tuple) else (text,)
         number, difference = compare(program, text, cuts)

@@ -13,7 +13,7 @@ use Rattle.bounds.specs.Edition.{outside, firstOutside, editionChecks}
 use Rattle.bounds.proofs.Chains.{accepts-split}
 use Rattle.bounds.proofs.Editions.{edition-shapely}
 use Rattle.request.specs.Request.{held}
-use Rattle.lines.specs.Chunk.{listChecks, fillOf}
+use Rattle.lines.specs.Printed.{listChecks, listed}
 
 over : (m : ℕ) → 60 < m → outside m ≡ true
 over m h = rw (le-ltb m 1 (omega arith), lt-ltb 60 m h)
@@ -40,19 +40,18 @@ same-held (m ∷ ms) i e =
     let h : held m ≡ m = on-less 60 m (λ l _. absurd (false≢true (sym t ∙ over m l))) (λ l _. omega arith) in
     rw (h, same-held ms (i + 1) (rw t at e)))
 
-module _ (ms : List ℕ) (r s : ℕ) where
-  first-same : (firstOutside ms 0 ≡ 0 → ⊥) → firstRefusal (listChecks (map held ms) r s) ≡ firstRefusal (listChecks ms r s)
+module _ (ms : List ℕ) (r : ℕ) where
+  first-same : (firstOutside ms 0 ≡ 0 → ⊥) → firstRefusal (listChecks (map held ms) r) ≡ firstRefusal (listChecks ms r)
   unfolding firstRefusal
   first-same ne = rw (length-map ms held, first-held ms 0, lt-ltb 0 (firstOutside ms 0) (omega (arith, ne)))
 
-  refused : (firstOutside ms 0 ≡ 0 → ⊥) → firstRefusal (listChecks ms r s) .number ≡ 0 → ⊥
+  refused : (firstOutside ms 0 ≡ 0 → ⊥) → firstRefusal (listChecks ms r) .number ≡ 0 → ⊥
   refused ne e = ne (edition-shapely ms r (accepts-split (editionChecks ms r) _ refl e .0) .inside)
 
-  -- the answer and the buffer
-  pub held-fill : (out : List ℕ) → fillOf (map held ms) r s out ≡ fillOf ms r s out
-  unfolding fillOf
-  held-fill out = go (ℕ-discrete (firstOutside ms 0) 0)
+  pub held-listed : listed (map held ms) r ≡ listed ms r
+  unfolding listed
+  held-listed = go (ℕ-discrete (firstOutside ms 0) 0)
     where
-      go : Dec (firstOutside ms 0 ≡ 0) → fillOf (map held ms) r s out ≡ fillOf ms r s out
-      go (yes e) = ap (λ (l : List ℕ). fillOf l r s out) (same-held ms 0 e)
-      go (no ne) = rw (first-same ne, ne-eqb (firstRefusal (listChecks ms r s) .number) 0 (refused ne))
+      go : Dec (firstOutside ms 0 ≡ 0) → listed (map held ms) r ≡ listed ms r
+      go (yes e) = ap (λ (l : List ℕ). listed l r) (same-held ms 0 e)
+      go (no ne) = rw (first-same ne, ne-eqb (firstRefusal (listChecks ms r) .number) 0 (refused ne))

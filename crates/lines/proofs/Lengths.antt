@@ -42,7 +42,7 @@ length-myriad n h =
     ap length (decimal-myriad n h) ∙ length-append (decimal (n / 10000)) (pairOf (n / 100 % 100) ++ pairOf (n % 100))
 
 -- a number below 10 * 10^k has at most k + 1 digits
-length-decimal : (k n : ℕ) → n < 10 * 10 ^ k → length (decimal n) ≤ suc k
+pub length-decimal : (k n : ℕ) → n < 10 * 10 ^ k → length (decimal n) ≤ suc k
 length-decimal zero n h = omega (arith, length-small n (omega arith))
 length-decimal (suc k) n h = go (length-decimal k (n / 10))
   where

@@ -1,9 +1,12 @@
 pub mod Appends
 pub mod Lengths
 pub mod Lined
-pub mod Refuses
+pub mod Fitting
 pub mod Pieces
-pub mod Fills
-pub mod Chunks
+pub mod Paged
+pub mod Refuses
+pub mod Listed
 pub mod Held
-pub mod Whole
+pub mod Printed
+pub mod Longest
+pub mod Pages

@@ -2,6 +2,7 @@
 use mathlib.Core.Path.{_≡_, refl, sym, ap, _∙_}
 use mathlib.Core.List.{List, [], _∷_, _++_, append-assoc}
 use Prim.Native.Nat.{ℕ, suc, _+_, _*_, _≤_, _<_}
+use native.Mathlib.Nat.{suc-mul}
 use native.Mathlib.Numerals.{add-one}
 use native.Mathlib.Omega.{arith}
 use lib.ListN.{length, getD, drop, length-append, drop-of-length-le}
@@ -29,16 +30,19 @@ pub length-line : (n : ℕ) (parts : List ℕ) → length (line (n ∷ parts)) �
 unfolding line
 length-line n parts = length-append (decimal n) (lineEnd parts)
 
--- the longest line of so many bytes
-length-end : (parts : List ℕ) → ((i : ℕ) → i < length parts → getD parts i 0 < 256) → length (lineEnd parts) ≤ 1 + 4 * length parts
+-- parts of at most d digits
+pub length-end : (d : ℕ) (parts : List ℕ) → ((i : ℕ) → i < length parts → length (decimal (getD parts i 0)) ≤ d)
+    → length (lineEnd parts) ≤ 1 + length parts * suc d
 unfolding lineEnd
-length-end [] h = omega arith
-length-end (p ∷ parts) h =
-    omega (arith, length-append (decimal p) (lineEnd parts), length-byte p (h 0 (omega arith)), length-end parts (λ i l. h (suc i) (omega arith)))
+length-end d [] h = omega arith
+length-end d (p ∷ parts) h =
+    rw (suc-mul (length parts) (suc d))
+    (omega (arith, length-append (decimal p) (lineEnd parts), h 0 (omega arith), length-end d parts (λ i l. h (suc i) (omega arith))))
 
+-- the longest line of so many bytes
 pub line-short : (n : ℕ) (parts : List ℕ) → n < 18446744073709551616 → ((i : ℕ) → i < length parts → getD parts i 0 < 256)
     → length (line (n ∷ parts)) ≤ 21 + 4 * length parts
-line-short n parts h b = omega (arith, length-line n parts, length-serial n h, length-end parts b)
+line-short n parts h b = omega (arith, length-line n parts, length-serial n h, length-end 3 parts (λ i l. length-byte (getD parts i 0) (b i l)))
 
 -- ---- the first i parts are put, each with a space in front
 

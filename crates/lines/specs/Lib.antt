@@ -1,4 +1,4 @@
 pub mod Lines
-pub mod Chunk
-pub mod Refuse
+pub mod Printed
+pub mod Page
 pub mod Append

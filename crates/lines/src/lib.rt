@@ -6,29 +6,13 @@ ghost use lib.Dec.{leb};
 ghost use lib.ListN.{length};
 ghost use Rattle.request.specs.Text.{decimal, line};
 ghost use Rattle.lines.specs.Append.{Appended, pairOf};
-ghost use Rattle.lines.specs.Refuse.{refusalOf};
-ghost use Rattle.lines.specs.Chunk.{refusedChunk, fillOf, Ready, Filled};
+ghost use Rattle.lines.specs.Printed.{refusal, listed};
+ghost use Rattle.lines.specs.Page.{pageIn, pageOf, Ready, Filled};
 
-// What a call put into a buffer: N, the serial of the next line, and where the lines end; or a refusal's number and detail, with all else 0.
-#[repr(C)]
-pub struct Chunk {
-    pub number: u32,
-    pub detail: u64,
-    pub count: u64,
+// A part of what is printed: where it ends in the buffer, and the number of the line at which the next page begins, or 0 behind the last.
+pub struct Page {
     pub next: u64,
     pub end: usize,
-}
-
-// The serial of the next line, and where those before it end.
-struct Piece {
-    next: u64,
-    end: usize,
-}
-
-fn long(x: u8) -> u64
-    ensures { λ r. ⌜ r ≡ x ⌝ }
-{
-    x as u64
 }
 
 // Puts two digits into out from `at` on, and answers where they end.
@@ -92,7 +76,7 @@ fn put_line(serial: u64, parts: &[u8], out: &mut [u8], at: usize) -> usize
     let mut i = 0;
     while i < parts.len() {
         out[end] = 32;
-        end = put_number(long(parts[i]), out, end + 1);
+        end = put_number(walsh::wide(parts[i]) as u64, out, end + 1);
         i += 1;
     }
     out[end] = 10;
@@ -120,7 +104,7 @@ fn line_len(serial: u64, parts: &[u8]) -> usize
     let mut len = digits(serial) + 1;
     let mut i = 0;
     while i < parts.len() {
-        len += 1 + digits(long(parts[i]));
+        len += 1 + digits(walsh::wide(parts[i]) as u64);
         i += 1;
     }
     len
@@ -146,74 +130,83 @@ fn put_lines(
     count: u64,
     parts: &mut [u8],
     out: &mut [u8],
-) -> Piece
+) -> Page
     requires { ⌜ Ready (now upper) total serial count (now parts) ⌝ }
-    ensures { λ p. ⌜ Filled (now (upper .entry)) total serial (now (out .entry)) (now (out .exit)) p ⌝ }
+    ensures { λ p. ⌜ Filled (now (upper .entry)) total serial count (now (out .entry)) (now (out .exit)) p ⌝ }
 {
     let mut s = serial;
     let mut end = 0;
     while s <= count {
         if !fits(s, parts, out.len() - end) {
-            return Piece { next: s, end };
+            return Page { next: s, end };
         }
         end = put_line(s, parts, out, end);
         step::advance(upper, total, parts);
         s += 1;
     }
-    Piece { next: s, end }
+    Page { next: 0, end }
 }
 
-fn refused(number: u32, detail: u64) -> Chunk
-    ensures { λ r. ⌜ r ≡ refusedChunk (record { number = number; detail = detail }) ⌝ }
+// A page behind the last.
+fn no_page() -> Page
+    ensures { λ p. ⌜ p ≡ record { next = 0; end = 0 } ⌝ }
 {
-    Chunk {
-        number,
-        detail,
-        count: 0,
-        next: 0,
-        end: 0,
-    }
+    Page { next: 0, end: 0 }
 }
 
-// Fills the beginning of out with the lines from that of a serial on, as many whole ones as have room.
-pub fn fill(upper: &[u8], total: u32, serial: u64, out: &mut [u8]) -> Chunk
-    ensures { λ c. ⌜ (c, now (out .exit)) ≡ fillOf (now (upper .entry)) total serial (now (out .entry)) ⌝ }
+// The page of a refusal, which has one line.
+fn refuse(number: u32, at: u64, out: &mut [u8]) -> Page
+    ensures { λ p. ⌜ (p, now (out .exit)) ≡ pageIn (refusal number) at (now (out .entry)) ⌝ }
 {
-    let l = rank::locate(upper, total, serial);
-    if 0 < l.number {
-        return refused(l.number, l.detail);
+    if at != 1 {
+        return no_page();
     }
-    if bounds::MOST_ENTRIES < l.count {
-        return refused(14, 0);
-    }
-    if serial == 0 {
-        return refused(6, 0);
-    }
-    if l.count < serial {
-        return refused(6, 0);
-    }
-    let n = upper.len();
-    let mut cells = l.composition;
-    let p = put_lines(upper, total, serial, l.count, &mut cells[..n], out);
-    Chunk {
-        number: 0,
-        detail: 0,
-        count: l.count,
-        next: p.next,
-        end: p.end,
-    }
-}
-
-// Puts the line of a refusal at the beginning of out, and answers where it ends; 0 where it has no room.
-pub fn refusal_line(number: u32, out: &mut [u8]) -> usize
-    ensures { λ r. ⌜ (r, now (out .exit)) ≡ refusalOf number (now (out .entry)) ⌝ }
-{
     let n = number as u64;
     if out.len() < 9 + digits(n) {
-        return 0;
+        return Page { next: 1, end: 0 };
     }
     bounds::copy(b"refused ", out);
     let end = put_decimal(n, out, 8);
     out[end] = 10;
-    end + 1
+    Page {
+        next: 0,
+        end: end + 1,
+    }
+}
+
+// The page of a listing that is asked for, or of its refusal.
+fn list(upper: &[u8], total: u32, serial: u64, out: &mut [u8]) -> Page
+    ensures { λ p. ⌜ (p, now (out .exit)) ≡ pageIn (listed (now (upper .entry)) total) serial (now (out .entry)) ⌝ }
+{
+    let l = rank::locate(upper, total, serial);
+    if 0 < l.number {
+        return refuse(l.number, serial, out);
+    }
+    if bounds::MOST_ENTRIES < l.count {
+        return refuse(14, serial, out);
+    }
+    if serial == 0 {
+        return no_page();
+    }
+    if l.count < serial {
+        return no_page();
+    }
+    let n = upper.len();
+    let mut cells = l.composition;
+    put_lines(upper, total, serial, l.count, &mut cells[..n], out)
+}
+
+// Puts a page of what is printed for a text at the beginning of out: whole lines from line `at` on, as many as have room. The first page begins
+// at line 1, the next one where this one says. The longest line has 80 bytes: a buffer of so many always takes one. Where the buffer is too
+// small for line `at`, the page is empty and the next one begins at `at` again.
+pub fn put_page(text: &[u8], at: u64, out: &mut [u8]) -> Page
+    ensures { λ p. ⌜ (p, now (out .exit)) ≡ pageOf (now (text .entry)) at (now (out .entry)) ⌝ }
+{
+    let asked = request::parse(text);
+    if 0 < asked.number {
+        return refuse(asked.number, at, out);
+    }
+    let n = asked.parts;
+    let upper = asked.upper;
+    list(&upper[..n], asked.total, at, out)
 }

@@ -1,46 +1,46 @@
-// Lists the compositions that the request on standard input asks for (document 01, "Listing program").
+// Lists the compositions that the request on standard input asks for (document 01, "Listing program"). What is printed is said by `put_page` of
+// crate `lines`, page after page; here it is read, written, and said on standard error where that fails.
 use libc::STDIN_FILENO;
 use libc::STDOUT_FILENO;
 
-// Prints the line of a refusal.
-fn refuse(number: u32) {
-    let mut text = [0u8; 32];
-    let end = lines::refusal_line(number, &mut text);
-    io::write_all(STDOUT_FILENO, &text[..end]);
-}
-
-// Prints every line, a buffer at a time, or the refusal. A write that fails ends it.
-fn print(upper: &[u8], total: u32) {
+fn print(text: &[u8]) {
     let mut space = io::large_buffer();
     let buffer: &mut [u8] = &mut space;
-    let mut serial = 1;
+    let mut at = 1;
     loop {
-        let chunk = lines::fill(upper, total, serial, buffer);
-        if 0 < chunk.number {
-            refuse(chunk.number);
-            return;
-        }
-        let end = chunk.end;
+        let page = lines::put_page(text, at, buffer);
+        let end = page.end;
         if !io::write_all(STDOUT_FILENO, &buffer[..end]) {
+            os::fail(b"list: standard output");
             return;
         }
-        if chunk.count < chunk.next {
+        if page.next == 0 {
             return;
         }
-        serial = chunk.next;
+        at = page.next;
+    }
+}
+
+// Reads until no more bytes come, because the input ends or the text is full, and prints.
+fn run(text: &mut [u8]) {
+    let mut end = 0;
+    loop {
+        let got = libc::read(STDIN_FILENO, &mut text[end..]);
+        if got < 0 {
+            os::fail(b"list: standard input");
+            return;
+        }
+        let more = io::count(got, &text[end..]);
+        if more == 0 {
+            print(&text[..end]);
+            return;
+        }
+        end += more;
     }
 }
 
 // A request has at most 256 bytes, so one more shows that it is longer.
 fn main() {
     let mut text = [0u8; 257];
-    let got = io::read_full(STDIN_FILENO, &mut text);
-    let request = request::parse(&text[..got]);
-    if 0 < request.number {
-        refuse(request.number);
-        return;
-    }
-    let n = request.parts;
-    let upper = request.upper;
-    print(&upper[..n], request.total);
+    run(&mut text);
 }

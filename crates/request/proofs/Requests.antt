@@ -16,13 +16,13 @@ use Rattle.request.proofs.Scans.{Small, small-one, scan-complete, scan-
 -- ---- a text that asks for a listing is read
 
 module _ {s ms : List ℕ} {r : ℕ} (q : Asks s ms r) where
-  asks-title : take 6 s ≡ title
+  pub asks-title : take 6 s ≡ title
   asks-title = ap (take 6) (q .is)
 
   asks-long : 6 ≤ length s
   asks-long = omega (arith, ap length (q .is), length-append title (line ms ++ line (r ∷ [])))
 
-  asks-bounds : scan [] Empty (drop 6 s) ≡ found ms (line (r ∷ []))
+  pub asks-bounds : scan [] Empty (drop 6 s) ≡ found ms (line (r ∷ []))
   asks-bounds = ap (λ (l : List ℕ). scan [] Empty (drop 6 l)) (q .is) ∙ scan-complete ms (line (r ∷ [])) (q .some) (q .small)
 
   asks-total : (end : ℕ) → end ≡ length s - length (line (r ∷ [])) → scan [] Empty (drop end s) ≡ found (r ∷ []) []

@@ -1,3 +1,4 @@
 pub mod Text
 pub mod Request
 pub mod Scan
+pub mod Asked

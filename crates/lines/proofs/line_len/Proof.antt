@@ -22,7 +22,7 @@ loop-again : tie.Need-loop-again Inv-loop μ-loop
 loop-again c =
     let at = c .before .before .before .before in
     let next = length-next (now (at .before .before .before .args .parts)) (at .loop .i) (omega arith) in
-    (omega arith, omega (arith, c .digits2 .ensures .0, ap (λ x. length (decimal x)) (c .before .long .ensures), next), omega arith)
+    (omega arith, omega (arith, c .digits2 .ensures .0, ap (λ x. length (decimal x)) (c .before .wide .ensures .0), next), omega arith)
 
 pub line-len-spec : {M : Type 1} → statement M
 line-len-spec =

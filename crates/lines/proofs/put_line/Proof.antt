@@ -35,18 +35,18 @@ put-number-requires c κs =
     let at = c .before .before .before .before in
     let l = at .loop in
     let next = length-next (now (at .before .before .before .before .before .before .before .args .parts)) (l .i) (omega arith) in
-    omega (arith, length-set (l .out) (l .end) 32, ap (λ n. length (decimal n)) (c .before .long .ensures), next)
+    omega (arith, length-set (l .out) (l .end) 32, ap (λ n. length (decimal n)) (c .before .wide .ensures .0), next)
 
 loop-again : tie.Need-loop-again Inv-loop μ-loop
 loop-again c =
     let at = c .before .before .before .before .before .before .before in
     let l = at .loop in
     let next = length-next (now (at .before .before .before .before .before .before .before .args .parts)) (l .i) (omega arith) in
-    let w = c .before .before .before .before .long in
+    let w = c .before .before .before .before .wide in
     let p = c .before .before .put-number .ensures in (
       omega arith,
-      omega (arith, p .ends, p .size, length-set (l .out) (l .end) 32, ap (λ n. length (decimal n)) (w .ensures), next),
-      lined-next (l .inv .2) (omega arith) (one (l .out) (l .end) 32 (omega (arith, next))) (retold (ap decimal (w .ensures)) p),
+      omega (arith, p .ends, p .size, length-set (l .out) (l .end) 32, ap (λ n. length (decimal n)) (w .ensures .0), next),
+      lined-next (l .inv .2) (omega arith) (one (l .out) (l .end) 32 (omega (arith, next))) (retold (ap decimal (w .ensures .0)) p),
     )
 
 -- the line feed has room

@@ -1,36 +1,37 @@
--- `list::print` meets its contract. Every call goes on to a later serial, and there are at most 1,000,000.
-use mathlib.Core.Path.{_≡_, sym, ap, _∙_}
-use Prim.Native.Nat.{_-_, _≤_}
+-- `list::print` meets its contract: each page begins at a later line.
+use mathlib.Core.Path.{_≡_, sym, _∙_}
+use Prim.Native.Nat.{_≤_}
 use native.Mathlib.Omega.{arith}
 use lib.ListN.{length}
 use lib.Seq.{length-take-le}
 use borrow.Author.Needs.{needs}
-use Rattle.lines.specs.declared.Chunk.{Chunk}
-use Rattle.lines.proofs.Chunks.{chunk-accepted, chunk-end, taken-some}
+use Rattle.lines.proofs.Pages.{left, page-end, page-on}
 use Rattle.list.proofs.print.Statement.{statement}
 use Rattle.list.proofs.print.Tie as tie
 
 abbrev Inv-loop : tie.InvT-loop
-Inv-loop upper total buffer₀ serial₀ buffer serial = length buffer ≡ 65536
+Inv-loop text buffer₀ at₀ t7 buffer at = length buffer ≡ 65536
 
 abbrev μ-loop : tie.MeasureT-loop
-μ-loop upper total buffer₀ serial₀ buffer serial = 1000001 - serial
+μ-loop text buffer₀ at₀ t7 buffer at = left at
 
--- the lines end in the buffer
-inside : (c : tie.Else1 Inv-loop μ-loop) →
-    let chunk = c .before .before .before .before .fill in
-    chunk .result .end ≤ length (chunk .last .1 .1 .1 .0)
+-- the page ends in the buffer
+inside : (c : tie.After-slice-known Inv-loop μ-loop) →
+    let page = c .before .before .put-page in
+    page .result .end ≤ length (page .last .1 .1 .0)
 inside c =
-    let chunk = c .before .before .before .before .fill in
-    omega (arith, chunk-end _ _ _ _ _ _ (chunk .ensures) (omega arith), chunk .kept .1 .1 .1 .0)
+    let page = c .before .before .put-page in
+    omega (arith, page-end _ _ _ _ _ (page .ensures), page .kept .1 .1 .0)
 
 loop-less : tie.Need-loop-less Inv-loop μ-loop
 loop-less c =
-    let at = c .before .before .before .before .before .before .before .before .before .before .before in
-    let byte = at .before .before .before .shared-slice-known .given in
-    let a = chunk-accepted _ _ _ _ _ _ (c .before .before .before .before .before .before .before .before .before .fill .ensures) (omega arith) in
-    let some = taken-some _ _ _ (λ i. omega (arith, byte i)) (a .0) (length (at .loop .buffer)) (omega arith) in
-    omega (arith, some, a .0 .small, a .0 .high, ap (λ (x : Chunk). x .next) (a .1), ap (λ (x : Chunk). x .count) (a .1))
+    let page = c .before .before .before .before .before .before .before .put-page in
+    page-on _ _ _ _ _ (page .ensures) (omega arith) (c .if2 .left)
+
+loop-again : tie.Need-loop-again Inv-loop μ-loop
+loop-again c =
+    let page = c .before .before .before .before .before .before .before in
+    page .put-page .kept .1 .1 .0 ∙ page .before .before .loop .inv
 
 pub print-spec : {M : Type 1} → statement M
 print-spec =
@@ -42,14 +43,12 @@ print-spec =
     (λ c. c .before .large-buffer .ensures)
     (λ c. sym (c .before .large-buffer .ensures))
     (λ c κs. search needs)
-    (λ c κs. search needs)
-    (λ c. search needs)
     (λ c. inside c)
     (λ c. sym (length-take-le _ _ (inside (c .before))))
     (λ c κs. search needs)
     (λ c. search needs)
+    (λ c κs. search needs)
+    (λ c. search needs)
     (λ c. search needs)
     loop-less
-    (λ c.
-    let chunk = c .before .before .before .before .before .before .before .before .before in
-    chunk .fill .kept .1 .1 .1 .0 ∙ chunk .before .before .loop .inv))
+    loop-again)

@@ -1,4 +1,4 @@
--- `lines::refusal_line` meets its contract.
+-- `lines::refuse` meets its contract.
 use mathlib.Core.Path.{_∙_}
 use Prim.Native.Nat.{_<_}
 use native.Mathlib.Omega.{arith}
@@ -7,12 +7,12 @@ use lib.ListN.{length, length-set}
 use borrow.Author.Needs.{needs}
 use Rattle.lines.specs.Append.{Appended}
 use Rattle.lines.proofs.Appends.{one, text}
-use Rattle.lines.proofs.Refuses.{word, refusal-none, refusal-all}
-use Rattle.lines.proofs.refusal_line.Statement.{statement}
-use Rattle.lines.proofs.refusal_line.Tie as tie
+use Rattle.lines.proofs.Refuses.{word, refuse-other, refuse-none, refuse-put}
+use Rattle.lines.proofs.refuse.Statement.{statement}
+use Rattle.lines.proofs.refuse.Tie as tie
 
 -- the word is put
-put : (c : tie.After-copy) → Appended (now (c .before .before .before .before .before .before .args .out)) (c .copy .last .1 .0) 0 8 word
+put : (c : tie.After-copy) → Appended (now (c .before .before .before .before .before .before .before .args .out)) (c .copy .last .1 .0) 0 8 word
 put c = text word _ _ (omega (arith, c .before .before .before .before .digits .ensures .0)) (c .copy .ensures)
 
 -- the line feed has room
@@ -22,13 +22,22 @@ room c =
     let copied = c .before .before .before .before .before .before in
     omega (arith, d .ends, d .size, put copied .size, copied .before .before .before .before .digits .ensures .0)
 
-pub refusal-line-spec : {M : Type 1} → statement M
-refusal-line-spec =
+returns-3 : tie.Need-returns-3
+returns-3 c =
+    let copied = c .before .before .before .before .before .before in
+    let start = copied .before .before .before .before in
+    refuse-put _ _ (start .before .if1 .left) (put copied) (c .before .before .put-decimal .ensures) (one _ _ 10 (room c))
+    (omega (arith, start .digits .ensures .0))
+
+pub refuse-spec : {M : Type 1} → statement M
+refuse-spec =
     tie.close
     (tie.spec
     (λ c κs. search needs)
+    (λ c. refuse-other _ _ _ _ (c .no-page .ensures) (c .before .if1 .taken))
+    (λ c κs. search needs)
     (λ c. search needs)
-    (λ c. refusal-none _ _ (omega (arith, c .before .digits .ensures .0)))
+    (λ c. refuse-none _ _ (c .before .before .if1 .left) _ (omega (arith, c .before .digits .ensures .0)))
     (λ c. search needs)
     (λ c κs. search needs)
     (λ c κs. let copied = c .before .before .before in omega (arith, put copied .size, copied .before .before .before .before .digits .ensures .0))
@@ -37,4 +46,4 @@ refusal-line-spec =
     (λ c.
     let number = c .before .before .put-decimal in
     length-set (number .last .1 .0) (number .result) 10 ∙ number .kept .1 .0 ∙ put (c .before .before .before .before .before .before) .size)
-    (λ c. refusal-all _ (put (c .before .before .before .before .before .before)) (c .before .before .put-decimal .ensures) (one _ _ 10 (room c))))
+    returns-3)
