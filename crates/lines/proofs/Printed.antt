@@ -1,13 +1,17 @@
 -- What is printed, said by what a text asks for, and which page is answered to it.
-use mathlib.Core.Path.{_≡_, refl, sym}
+use mathlib.Core.Path.{_≡_, refl, sym, ap}
 use mathlib.Core.List.{List}
 use Prim.Native.Nat.{ℕ, _<_}
-use lib.ListN.{take}
-use borrow.Author.Tests.{ne-eqb}
+use native.Mathlib.Omega.{arith}
+use lib.ListN.{length, take}
+use lib.Seq.{length-take-le, take-all}
+use borrow.Author.Tests.{lt-ltb, ne-eqb}
+use Rattle.walsh.proofs.Cases.{on-less}
 use Rattle.walsh.specs.Order.{countOf}
 use Rattle.bounds.specs.Refusal.{firstRefusal}
 use Rattle.request.specs.Text.{refusalLine}
 use Rattle.request.specs.Request.{Asks, Parsed}
+use Rattle.request.specs.Asked.{askedOf}
 use Rattle.request.specs.declared.Request.{Request}
 use Rattle.request.proofs.Asked.{asks-asked, asks-nothing, parsed-wanted, parsed-nothing}
 use Rattle.lines.specs.Lines.{lineAt, linesOf}
@@ -34,6 +38,14 @@ module _ {s ms : List ℕ} {r : ℕ} (q : Asks s ms r) where
   pub printed-copies : firstRefusal (listChecks ms r) .number ≡ 0 → printed s ≡ linesOf (lineAt ms r) 1 (countOf ms r)
   unfolding printed
   printed-copies e = rw (asks-asked q, listed-copies ms r e)
+
+-- "A longer slip is 22": whoever has read 257 bytes need read no more
+pub printed-front : (s : List ℕ) → printed (take 257 s) ≡ printed s
+unfolding printed askedOf
+printed-front s =
+    on-less 256 (length s)
+    (λ l t. rw (t, lt-ltb 256 (length (take 257 s)) (omega (arith, length-take-le 257 s (omega arith)))))
+    (λ l t. ap printed (take-all 257 s (omega arith)))
 
 -- ---- line by line
 

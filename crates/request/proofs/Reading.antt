@@ -8,11 +8,11 @@ use native.Mathlib.Omega.{arith}
 use lib.ListN.{length, getD, drop, set, replicate, length-append, length-drop, length-map, drop-of-length-le}
 use lib.Seq.{drop-cons, getD-at, set-at}
 use Rattle.request.specs.Request.{held, requestCells}
-use Rattle.request.specs.Scan.{grownOf, valueOf, isEnd, found, none, scan, lineOf}
+use Rattle.request.specs.Scan.{grownOf, isEnd, found, none, scan, lineOf}
 use Rattle.request.specs.declared.Number.{Number}
 use Rattle.request.specs.declared.Number.the-variants.{Empty, Value, Bad}
 use Rattle.request.specs.declared.Line.{Line}
-use Rattle.request.proofs.Scans.{scan-grow, scan-wrong, scan-last, scan-next}
+use Rattle.request.proofs.Scans.{scan-grow, scan-empty, scan-bad, scan-last, scan-next}
 
 -- the least bytes of a number being read
 abbrev width : Number → ℕ
@@ -24,11 +24,6 @@ width-le : (n : Number) → width n ≤ 1
 width-le Empty = omega arith
 width-le (Value v) = omega arith
 width-le Bad = omega arith
-
-width-value : (n : Number) → valueOf n ≤ 999 → 1 ≤ width n
-width-value Empty h = absurd (omega arith)
-width-value (Value v) h = omega arith
-width-value Bad h = omega arith
 
 -- the numbers before `at`, which stand in the cells
 pub record Reading (s : List ℕ) (from : ℕ) (upper : List ℕ) (n : Number) (parts at : ℕ) : Type 0 where
@@ -65,10 +60,16 @@ module _ {s : List ℕ} {from : ℕ} {upper : List ℕ} {n : Number} {parts at :
     here : (b : ℕ) → b ≡ getD s at 0 → drop at s ≡ b ∷ drop (at + 1) s
     here b e = rw (e, add-one at) (drop-cons s at 0 inside)
 
-    pub read-wrong : (x : Line) (b v : ℕ) → x ≡ lineOf 0 none → b ≡ getD s at 0 → isEnd b ≡ true → v ≡ valueOf n → 999 < v
+    pub read-empty : (x : Line) (b : ℕ) → x ≡ lineOf 0 none → b ≡ getD s at 0 → isEnd b ≡ true → n ≡ Empty
         → x ≡ lineOf (length s) (scan [] Empty (drop from s))
-    read-wrong x b v ex eb end ev h =
-        let q : scan (r .ns) n (drop at s) ≡ none = rw (here b eb) (scan-wrong (r .ns) n (drop (at + 1) s) b end (omega arith)) in
+    read-empty x b ex eb end e =
+        let q : scan (r .ns) n (drop at s) ≡ none = rw (here b eb) (scan-empty (r .ns) n (drop (at + 1) s) b end e) in
+        rw (← r .same, q) ex
+
+    pub read-bad : (x : Line) (b : ℕ) → x ≡ lineOf 0 none → b ≡ getD s at 0 → isEnd b ≡ true → n ≡ Bad
+        → x ≡ lineOf (length s) (scan [] Empty (drop from s))
+    read-bad x b ex eb end e =
+        let q : scan (r .ns) n (drop at s) ≡ none = rw (here b eb) (scan-bad (r .ns) n (drop (at + 1) s) b end e) in
         rw (← r .same, q) ex
 
     pub read-grow : (n′ : Number) (b : ℕ) → n′ ≡ grownOf n b → b ≡ getD s at 0 → isEnd b ≡ false → Reading s from upper n′ parts (at + 1)
@@ -82,9 +83,12 @@ module _ {s : List ℕ} {from : ℕ} {upper : List ℕ} {n : Number} {parts at :
         }
 
     -- a number ends
-    module _ (v x : ℕ) (ev : v ≡ valueOf n) (h : v ≤ 999) (ex : x ≡ held v) where
+    module _ (v x : ℕ) (ev : n ≡ Value v) (ex : x ≡ held v) where
+      wide : width n ≡ 1
+      wide = rw ev
+
       pub read-room : length s ≤ 256 → parts < 128
-      read-room l = omega (arith, r .room, width-value n (omega arith))
+      read-room l = omega (arith, r .room, wide)
 
       stored : length s ≤ 256 → set upper parts x ≡ requestCells (map held (r .ns ++ (v ∷ [])))
       stored l =
@@ -96,17 +100,17 @@ module _ {s : List ℕ} {from : ℕ} {upper : List ℕ} {n : Number} {parts at :
       read-next l b eb end ten =
           record {
             ns = r .ns ++ (v ∷ []);
-            same = rw ev (sym (scan-next (r .ns) n (drop (at + 1) s) b end (omega arith) ten) ∙ ap (scan (r .ns) n) (sym (here b eb)) ∙ r .same);
+            same = sym (scan-next (r .ns) n (drop (at + 1) s) b v end ev ten) ∙ ap (scan (r .ns) n) (sym (here b eb)) ∙ r .same;
             count = omega (arith, r .count, length-append (r .ns) (v ∷ []));
             cells = stored l;
-            room = omega (arith, r .room, width-value n (omega arith));
+            room = omega (arith, r .room, wide);
           }
 
       pub read-last : length s ≤ 256 → (b : ℕ) → b ≡ getD s at 0 → b ≡ 10
           → record { parts = parts + 1; upper = set upper parts x; last = v; end = at + 1 } ≡ lineOf (length s) (scan [] Empty (drop from s))
       read-last l b eb ten =
           let q : scan (r .ns) n (drop at s) ≡ found (r .ns ++ (v ∷ [])) (drop (at + 1) s) =
-          rw (here b eb, ten, ev) (scan-last (r .ns) n (drop (at + 1) s) (omega arith)) in
+          rw (here b eb, ten) (scan-last (r .ns) n (drop (at + 1) s) v ev) in
           let size : length (r .ns ++ (v ∷ [])) ≡ parts + 1 = omega (arith, r .count, length-append (r .ns) (v ∷ [])) in
           let last : getD (r .ns ++ (v ∷ [])) (parts + 1 - 1) 0 ≡ v = getD-at (r .ns) v [] 0 (parts + 1 - 1) (omega (arith, r .count)) in
           let end : length s - length (drop (at + 1) s) ≡ at + 1 = omega (arith, length-drop (at + 1) s) in

@@ -6,10 +6,10 @@ use Prim.Native.Nat.{ℕ, zero, suc, _+_, _-_, _*_, _/_, _%_, _≤_, _<_}
 use native.Mathlib.Omega.{arith}
 use lib.Dec.{eqb}
 use lib.ListN.{length, getD, length-append}
-use borrow.Author.Tests.{lt-ltb, le-ltb, eqb-true, eqb-false, ne-eqb}
+use borrow.Author.Tests.{le-ltb, eqb-true, eqb-false, ne-eqb}
 use Rattle.walsh.proofs.Cases.{on-test, on-less}
 use Rattle.request.specs.Text.{decimal, lineEnd, line}
-use Rattle.request.specs.Scan.{withDigit, grownOf, valueOf, isEnd, found, none, scan}
+use Rattle.request.specs.Scan.{withDigit, grownOf, isEnd, found, none, scan}
 use Rattle.request.specs.declared.Number.{Number}
 use Rattle.request.specs.declared.Number.the-variants.{Empty, Value, Bad}
 use Rattle.request.proofs.Decimals.{decimal-small, decimal-more, decimal-grow, spaced, spaced-snoc, line-snoc}
@@ -36,17 +36,21 @@ module _ (ns : List ℕ) (n : Number) (bs : List ℕ) where
   scan-grow b e = rw e
 
   -- a space or a line feed where no number was read
-  pub scan-wrong : (b : ℕ) → isEnd b ≡ true → 999 < valueOf n → scan ns n (b ∷ bs) ≡ none
+  pub scan-empty : (b : ℕ) → isEnd b ≡ true → n ≡ Empty → scan ns n (b ∷ bs) ≡ none
   unfolding scan
-  scan-wrong b e h = rw (e, lt-ltb 999 (valueOf n) h)
+  scan-empty b t e = rw (t, e)
 
-  pub scan-last : valueOf n ≤ 999 → scan ns n (10 ∷ bs) ≡ found (ns ++ (valueOf n ∷ [])) bs
+  pub scan-bad : (b : ℕ) → isEnd b ≡ true → n ≡ Bad → scan ns n (b ∷ bs) ≡ none
   unfolding scan
-  scan-last h = rw (le-ltb 999 (valueOf n) h)
+  scan-bad b t e = rw (t, e)
 
-  pub scan-next : (b : ℕ) → isEnd b ≡ true → valueOf n ≤ 999 → (b ≡ 10 → ⊥) → scan ns n (b ∷ bs) ≡ scan (ns ++ (valueOf n ∷ [])) Empty bs
+  pub scan-last : (v : ℕ) → n ≡ Value v → scan ns n (10 ∷ bs) ≡ found (ns ++ (v ∷ [])) bs
   unfolding scan
-  scan-next b e h l = rw (e, le-ltb 999 (valueOf n) h, ne-eqb b 10 l)
+  scan-last v e = rw e
+
+  pub scan-next : (b v : ℕ) → isEnd b ≡ true → n ≡ Value v → (b ≡ 10 → ⊥) → scan ns n (b ∷ bs) ≡ scan (ns ++ (v ∷ [])) Empty bs
+  unfolding scan
+  scan-next b v t e l = rw (t, e, ne-eqb b 10 l)
 
   scan-digit : (d : ℕ) → d < 10 → scan ns n ((48 + d) ∷ bs) ≡ scan ns (withDigit n d) bs
   unfolding grownOf
@@ -78,9 +82,9 @@ module _ (ns : List ℕ) where
 
 scan-end : (ns : List ℕ) (v : ℕ) (ms bs : List ℕ) → v ≤ 999 → Small ms → scan ns (Value v) (lineEnd ms ++ bs) ≡ found (ns ++ (v ∷ ms)) bs
 unfolding lineEnd
-scan-end ns v [] bs h s = scan-last ns (Value v) bs h
+scan-end ns v [] bs h s = scan-last ns (Value v) bs v refl
 scan-end ns v (m ∷ ms) bs h s =
-    scan-next ns (Value v) ((decimal m ++ lineEnd ms) ++ bs) 32 refl h (λ z. omega arith)
+    scan-next ns (Value v) ((decimal m ++ lineEnd ms) ++ bs) 32 v refl refl (λ z. omega arith)
     ∙ ap (scan (ns ++ (v ∷ [])) Empty) (append-assoc (decimal m) (lineEnd ms) bs)
     ∙ scan-decimal (ns ++ (v ∷ [])) m (s 0) (lineEnd ms ++ bs)
     ∙ scan-end (ns ++ (v ∷ [])) m ms bs (s 0) (λ i. s (suc i))
@@ -125,10 +129,24 @@ grown-grows n b = on-less b 48
     let e : 48 + (b - 48) ≡ b = omega arith in
     rw (t, u) (subst (λ (x : ℕ). Grows n x (withDigit n (b - 48))) e (with-grows n (b - 48) (omega arith)))))
 
-is-value : (n : Number) → valueOf n ≤ 999 → n ≡ Value (valueOf n)
-is-value Empty h = absurd (omega arith)
-is-value (Value v) h = refl
-is-value Bad h = absurd (omega arith)
+-- a number that is read is at most 999
+abbrev Few : Number → Type 0
+Few Empty = Unit {0}
+Few (Value v) = v ≤ 999
+Few Bad = Unit {0}
+
+with-few : (n : Number) (d : ℕ) → d < 10 → Few (withDigit n d)
+with-few Empty d h = omega arith
+with-few (Value v) d h = on-less v 1
+    (λ l t. rw t tt)
+    (λ l t. on-less 99 v (λ m u. rw (t, u) tt) (λ m u. rw (t, u) (omega arith)))
+with-few Bad d h = tt
+
+grown-few : (n : Number) (b : ℕ) → Few (grownOf n b)
+unfolding grownOf
+grown-few n b = on-less b 48
+    (λ l t. rw t tt)
+    (λ l t. on-less 57 b (λ m u. rw (t, u) tt) (λ m u. rw (t, u) (with-few n (b - 48) (omega arith))))
 
 -- the numbers ns, n and the bytes are a line of the numbers ms, and what follows it
 record Line-of (ns : List ℕ) (n : Number) (bs ms rest : List ℕ) : Type 0 where
@@ -169,27 +187,33 @@ not-found e = let z : _≡_ {A = ℕ} 0 1 = cc in omega arith
 end-is : (b : ℕ) → isEnd b ≡ true → (b ≡ 10 → ⊥) → b ≡ 32
 end-is b t h = on-test (eqb b 32) (λ u. eqb-true b 32 u) (λ u. absurd (h (eqb-true b 10 (rw u at t))))
 
-sound : (bs ns : List ℕ) (n : Number) (ms rest : List ℕ) → Small ns → scan ns n bs ≡ found ms rest → Line-of ns n bs ms rest
+-- a number ends
+sound-end : (b : ℕ) (bs ns : List ℕ) (n : Number) (ms rest : List ℕ) → Small ns → Few n → isEnd b ≡ true → scan ns n (b ∷ bs) ≡ found ms rest
+    → ((v : ℕ) → Small (ns ++ (v ∷ [])) → scan (ns ++ (v ∷ [])) Empty bs ≡ found ms rest → Line-of (ns ++ (v ∷ [])) Empty bs ms rest)
+    → Line-of ns n (b ∷ bs) ms rest
+sound-end b bs ns Empty ms rest s f t e next = absurd (not-found (sym (scan-empty ns Empty bs b t refl) ∙ e))
+sound-end b bs ns Bad ms rest s f t e next = absurd (not-found (sym (scan-bad ns Bad bs b t refl) ∙ e))
+sound-end b bs ns (Value v) ms rest s f t e next = on-test (eqb b 10)
+    (λ u. rw (eqb-true b 10 u) (last-line ns v bs ms rest s f (sym (scan-last ns (Value v) bs v refl) ∙ rw (eqb-true b 10 u) at e)))
+    (λ u.
+    let ten = eqb-false b 10 u in
+    rw (end-is b t ten) (next-line ns v bs ms rest (next v (small-snoc ns v s f) (sym (scan-next ns (Value v) bs b v t refl ten) ∙ e))))
+
+sound : (bs ns : List ℕ) (n : Number) (ms rest : List ℕ) → Small ns → Few n → scan ns n bs ≡ found ms rest → Line-of ns n bs ms rest
 unfolding scan
-sound [] ns n ms rest s e = absurd (not-found e)
-sound (b ∷ bs) ns n ms rest s e = go (sound bs ns (grownOf n b) ms rest s) (λ v. sound bs (ns ++ (v ∷ [])) Empty ms rest)
+sound [] ns n ms rest s f e = absurd (not-found e)
+sound (b ∷ bs) ns n ms rest s f e =
+    go (sound bs ns (grownOf n b) ms rest s (grown-few n b)) (λ v h. sound bs (ns ++ (v ∷ [])) Empty ms rest h tt)
   where
     go : (scan ns (grownOf n b) bs ≡ found ms rest → Line-of ns (grownOf n b) bs ms rest)
         → ((v : ℕ) → Small (ns ++ (v ∷ [])) → scan (ns ++ (v ∷ [])) Empty bs ≡ found ms rest → Line-of (ns ++ (v ∷ [])) Empty bs ms rest)
         → Line-of ns n (b ∷ bs) ms rest
     go grown next = on-test (isEnd b)
-        (λ t. on-less 999 (valueOf n)
-        (λ l _. absurd (not-found (sym (scan-wrong ns n bs b t l) ∙ e)))
-        (λ l _. on-test (eqb b 10)
-        (λ u. rw (is-value n l, eqb-true b 10 u) (last-line ns (valueOf n) bs ms rest s l (sym (scan-last ns n bs l) ∙ rw (eqb-true b 10 u) at e)))
-        (λ u.
-        let ten = eqb-false b 10 u in
-        rw (is-value n l, end-is b t ten)
-        (next-line ns (valueOf n) bs ms rest (next (valueOf n) (small-snoc ns (valueOf n) s l) (sym (scan-next ns n bs b t l ten) ∙ e))))))
+        (λ t. sound-end b bs ns n ms rest s f t e next)
         (λ t. grown-line ns n b bs ms rest (grown (sym (scan-grow ns n bs b t) ∙ e)))
 
 pub scan-sound : (bs ms rest : List ℕ) → scan [] Empty bs ≡ found ms rest → (bs ≡ line ms ++ rest) × Small ms × (0 < length ms)
 unfolding spaced
 scan-sound bs ms rest e =
-    let p = sound bs [] Empty ms rest (λ i. omega arith) e in
+    let p = sound bs [] Empty ms rest (λ i. omega arith) tt e in
     (p .is, p .small, p .some)

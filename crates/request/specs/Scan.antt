@@ -20,12 +20,6 @@ withDigit Bad d = Bad
 unfoldable pub grownOf : Number → ℕ → Number
 grownOf n b = cond (ltb b 48) Bad (cond (ltb 57 b) Bad (withDigit n (b - 48)))
 
--- the number read, or 1000 where none is
-abbrev pub valueOf : Number → ℕ
-valueOf Empty = 1000
-valueOf (Value v) = v
-valueOf Bad = 1000
-
 -- the byte ends a number
 abbrev pub isEnd : ℕ → Bool
 isEnd b = either (eqb b 32) (eqb b 10)
@@ -40,10 +34,15 @@ unfoldable pub scan : List ℕ → Number → List ℕ → Scanned
 scan ns n [] = none
 scan ns n (b ∷ bs) =
     cond (isEnd b)
-    (cond (ltb 999 (valueOf n)) none (cond (eqb b 10) (found (ns ++ (valueOf n ∷ [])) bs) (scan (ns ++ (valueOf n ∷ [])) Empty bs)))
+    (elim n [
+      | Empty ↦ none
+      | Value v ↦ cond (eqb b 10) (found (ns ++ (v ∷ [])) bs) (scan (ns ++ (v ∷ [])) Empty bs)
+      | Bad ↦ none
+    ])
     (scan ns (grownOf n b) bs)
 
 -- what the code answers of a line in a text of so many bytes
 abbrev pub lineOf : ℕ → Scanned → Line
-lineOf size (found ns bs) = record { parts = length ns; upper = requestCells (map held ns); last = getD ns (length ns - 1) 0; end = size - length bs }
+lineOf size (found ns bs) =
+    record { parts = length ns; upper = requestCells (map held ns); last = getD ns (length ns - 1) 0; end = size - length bs }
 lineOf size none = record { parts = 0; upper = replicate 128 0; last = 0; end = 0 }

@@ -5,7 +5,7 @@ ghost use Prim.Native.Nat.{_≤_, _<_};
 ghost use lib.ListN.{length, drop};
 ghost use Rattle.request.specs.declared.Number.the-variants.{Empty};
 ghost use Rattle.request.specs.Request.{held, refused, Parsed};
-ghost use Rattle.request.specs.Scan.{withDigit, grownOf, valueOf, isEnd, none, scan, lineOf};
+ghost use Rattle.request.specs.Scan.{withDigit, grownOf, isEnd, none, scan, lineOf};
 
 // The bounds asked for, each as a byte (255 for any above), and the total; or the number 22, with all else 0.
 pub struct Request {
@@ -63,17 +63,6 @@ fn grown(n: Number, b: u8) -> Number
     with_digit(n, (b - 48) as u32)
 }
 
-// The number that was read, or 1000 where it is none.
-fn value(n: Number) -> u32
-    ensures { λ r. ⌜ r ≡ valueOf n ⌝ }
-{
-    match n {
-        Number::Empty => 1000,
-        Number::Value(v) => v,
-        Number::Bad => 1000,
-    }
-}
-
 // The byte ends a number: a space or a line feed.
 fn is_end(b: u8) -> bool
     ensures { λ r. ⌜ r ≡ isEnd b ⌝ }
@@ -111,21 +100,23 @@ fn read_line(s: &[u8], from: usize) -> Line
         let b = s[at];
         at += 1;
         if is_end(b) {
-            let v = value(n);
-            if 999 < v {
-                return no_line();
+            match n {
+                Number::Value(v) => {
+                    upper[parts] = hold(v);
+                    parts += 1;
+                    if b == 10 {
+                        return Line {
+                            parts,
+                            upper,
+                            last: v,
+                            end: at,
+                        };
+                    }
+                    n = Number::Empty;
+                }
+                Number::Empty => return no_line(),
+                Number::Bad => return no_line(),
             }
-            upper[parts] = hold(v);
-            parts += 1;
-            if b == 10 {
-                return Line {
-                    parts,
-                    upper,
-                    last: v,
-                    end: at,
-                };
-            }
-            n = Number::Empty;
         } else {
             n = grown(n, b);
         }
