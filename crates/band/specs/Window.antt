@@ -10,6 +10,7 @@ use Rattle.bounds.specs.Edition.{whole}
 use Rattle.band.specs.Band.{lowest, bandSize, cap, Row-holds, Rows-hold, IsRow}
 use Rattle.band.specs.declared.Row.{Row}
 use Rattle.band.specs.declared.window.Span.{Span}
+use Rattle.band.specs.declared.window.Stretches.{Stretches}
 
 -- what does not change while row k + 1 is filled from row k, in a table of `size` cells
 pub record Filling (ms : List ℕ) (r k : ℕ) (row next : Row) (size : ℕ) : Type 0 where
@@ -45,3 +46,13 @@ pub record Stretch (row next : Row) (m : ℕ) (span : Span) : Type 0 where
   pub rising : span .from ≤ span .end
   pub high : span .end ≤ next .high + 1
   pub moves : (t : ℕ) → span .from ≤ t → t < span .end → Moves row m t (span .enters) (span .leaves)
+
+-- row k + 1 in three such parts, one behind the other
+pub record IsStretches (row next : Row) (m : ℕ) (s : Stretches) : Type 0 where
+  pub from : s .grows .from ≡ next .low
+  pub middle : s .slides .from ≡ s .grows .end
+  pub last : s .shrinks .from ≡ s .slides .end
+  pub end : s .shrinks .end ≡ next .high + 1
+  pub grows : Stretch row next m (s .grows)
+  pub slides : Stretch row next m (s .slides)
+  pub shrinks : Stretch row next m (s .shrinks)

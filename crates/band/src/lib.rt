@@ -4,7 +4,7 @@
 // they need.
 ghost use mathlib.Core.Path.{_≡_};
 ghost use Prim.Native.Nat.{_+_, _-_, _≤_, _<_, min};
-ghost use lib.ListN.{length, getD};
+ghost use lib.ListN.{length};
 ghost use Rattle.walsh.specs.Order.{count};
 ghost use Rattle.bounds.specs.Edition.{whole};
 ghost use Rattle.band.specs.Band.{InBand, bandSize, cap, Row-holds, IsRow, surveyOf};
@@ -33,14 +33,6 @@ struct Surveyed {
     size: usize,
 }
 
-// The bound of part `k`, counted from 0.
-fn bound(upper: &[u8], k: usize) -> usize
-    requires { ⌜ k < length (now upper) ⌝ }
-    ensures { λ r. ⌜ (r ≡ getD (now (upper .entry)) k 0) × (r ≤ 255) ⌝ }
-{
-    walsh::wide(upper[k])
-}
-
 fn row_of(total: usize, start: usize, left: usize, all: usize) -> Row
     requires { ⌜ left ≤ all ⌝ }
     ensures { λ r. ⌜ (r .start ≡ start) × (r .left ≡ left) × (r .all ≡ all) × (r .low ≡ total - (all - left)) × (r .high ≡ min total left) ⌝ }
@@ -60,7 +52,7 @@ fn up(upper: &[u8], total: usize, k: usize, from: Row) -> Row
         × IsRow (now upper) total k from ⌝ }
     ensures { λ r. ⌜ IsRow (now (upper .entry)) total (k + 1) r ⌝ }
 {
-    let m = bound(upper, k);
+    let m = walsh::wide(upper[k]);
     row_of(
         total,
         from.start + (from.high + 1 - from.low),

@@ -5,9 +5,8 @@ ghost use Prim.Native.Nat.{_+_, _-_, _%_, _≤_, _<_};
 ghost use lib.ListN.{length, getD};
 ghost use Rattle.walsh.specs.Order.{count};
 ghost use Rattle.band.specs.Band.{cap, Row-holds, Rows-hold};
-ghost use Rattle.band.specs.Window.{Filling, Slid, FilledTo, Moves, Stretch};
+ghost use Rattle.band.specs.Window.{Filling, Slid, FilledTo, Moves, Stretch, IsStretches};
 use crate::Row;
-use crate::bound;
 use crate::cell;
 use bounds::LIMIT;
 
@@ -126,31 +125,42 @@ fn between(low: usize, x: usize, high: usize) -> usize
     x + 1
 }
 
-// Row `k + 1` in three: up to `first` cells only enter the window, up to `second` they enter and leave it (`both`) or neither, up to `end` they
-// only leave it.
+// Row `k + 1` in three: cells only enter the window, then they enter and leave it or neither, then they only leave it.
 struct Stretches {
-    first: usize,
-    second: usize,
-    end: usize,
-    both: bool,
+    grows: Span,
+    slides: Span,
+    shrinks: Span,
 }
 
 fn stretches_of(row: Row, next: Row, m: usize) -> Stretches
     requires { ⌜ (row .low ≤ 255) × (row .high ≤ 255) × (m ≤ 255) × (next .low ≤ next .high) × (next .high ≤ 255) ⌝ }
-    ensures { λ r. ⌜ (r .end ≡ next .high + 1)
-        × Stretch row next m (record { from = next .low; end = r .first; enters = true; leaves = false })
-        × Stretch row next m (record { from = r .first; end = r .second; enters = r .both; leaves = r .both })
-        × Stretch row next m (record { from = r .second; end = r .end; enters = false; leaves = true }) ⌝ }
+    ensures { λ r. ⌜ IsStretches row next m r ⌝ }
 {
     let full = row.low + m;
     let end = next.high + 1;
     let least = walsh::lesser(row.high, full);
     let first = between(next.low, least, end);
+    let second = between(first, row.high + full - least, end);
+    let both = full < row.high;
     Stretches {
-        first,
-        second: between(first, row.high + full - least, end),
-        end,
-        both: full < row.high,
+        grows: Span {
+            from: next.low,
+            end: first,
+            enters: true,
+            leaves: false,
+        },
+        slides: Span {
+            from: first,
+            end: second,
+            enters: both,
+            leaves: both,
+        },
+        shrinks: Span {
+            from: second,
+            end,
+            enters: false,
+            leaves: true,
+        },
     }
 }
 
@@ -164,34 +174,16 @@ fn fill_row(upper: &[u8], total: usize, k: usize, row: Row, next: Row, cells: &m
     if LIMIT < w0 {
         return false;
     }
-    let m = bound(upper, k);
+    let m = walsh::wide(upper[k]);
     let s = stretches_of(row, next, m);
-    let grows = Span {
-        from: next.low,
-        end: s.first,
-        enters: true,
-        leaves: false,
-    };
-    let w1 = fill_span(upper, total, k, m, row, next, cells, grows, w0);
+    let w1 = fill_span(upper, total, k, m, row, next, cells, s.grows, w0);
     if LIMIT < w1 {
         return false;
     }
-    let slides = Span {
-        from: s.first,
-        end: s.second,
-        enters: s.both,
-        leaves: s.both,
-    };
-    let w2 = fill_span(upper, total, k, m, row, next, cells, slides, w1);
+    let w2 = fill_span(upper, total, k, m, row, next, cells, s.slides, w1);
     if LIMIT < w2 {
         return false;
     }
-    let shrinks = Span {
-        from: s.second,
-        end: s.end,
-        enters: false,
-        leaves: true,
-    };
-    let w3 = fill_span(upper, total, k, m, row, next, cells, shrinks, w2);
+    let w3 = fill_span(upper, total, k, m, row, next, cells, s.shrinks, w2);
     w3 <= LIMIT
 }

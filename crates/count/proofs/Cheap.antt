@@ -1,18 +1,18 @@
 -- Bounds on the numbers of the band that cost nothing.
 use mathlib.Core.Path.{_≡_, refl, sym, _∙_}
 use mathlib.Core.List.{List}
-use Prim.Native.Nat.{ℕ, suc, _+_, _-_, _≤_, _<_, min}
+use Prim.Native.Nat.{ℕ, _+_, _-_, _≤_, _<_, min}
 use native.Mathlib.Nat.{le-refl}
 use native.Mathlib.Omega.{arith}
-use lib.ListN.{length, getD}
+use lib.ListN.{length}
 use Rattle.walsh.specs.Sums.{sumTo}
-use Rattle.walsh.specs.Order.{count, countOf}
+use Rattle.walsh.specs.Order.{countOf}
 use Rattle.walsh.proofs.Cases.{on-less}
 use Rattle.walsh.proofs.Lists.{sumTo-mono}
 use Rattle.walsh.proofs.Complement.{count-complement}
 use Rattle.walsh.proofs.Free.{free, freeRow, running, free-row, free-mono, count-free}
 use Rattle.bounds.specs.Edition.{whole}
-use Rattle.band.specs.Band.{InBand, cap}
+use Rattle.band.specs.Band.{cap}
 use Rattle.band.proofs.Bands.{whole-band}
 use Rattle.count.specs.Row.{UpTo, Within}
 

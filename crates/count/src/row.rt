@@ -5,8 +5,10 @@ ghost use mathlib.Core.Bool.{true, false};
 ghost use Prim.Native.Nat.{ℕ, _+_, _-_, _≤_, _<_, min};
 ghost use lib.ListN.{length};
 ghost use Rattle.walsh.specs.Order.{count};
-ghost use Rattle.bounds.specs.Edition.{whole, shapeChecks};
-ghost use Rattle.bounds.specs.Refusal.{firstRefusal};
+ghost use Rattle.bounds.specs.Edition.{whole, shapeChecks, editionChecks};
+ghost use Rattle.bounds.specs.Refusal.{refused, firstRefusal};
+ghost use Rattle.mahonian.specs.Read.{staircaseCountOf};
+ghost use Rattle.mahonian.specs.declared.Entry.the-variants.{Count};
 ghost use Rattle.band.specs.Band.{InBand, cap, numberOf};
 ghost use Rattle.band.specs.Window.{Slid};
 ghost use Rattle.count.specs.Row.{Passing, Row-counts, Within, Passed, Enters, Leaves, Stretch, IsStretches};
@@ -14,6 +16,7 @@ use band::CAP;
 use band::window::table;
 use band::window::table::Counted;
 use bounds::LIMIT;
+use mahonian::Entry;
 
 // The lowest and the highest sum of a row from which the total can still be reached.
 struct Ends {
@@ -221,7 +224,7 @@ fn rows(upper: &[u8], total: usize, all: usize, few: usize, cells: &mut [u64]) -
 }
 
 // N of a shape that is accepted, where the numbers of the first `few` rows are within the limit.
-pub(crate) fn count_row(upper: &[u8], total: u32, all: usize, few: usize) -> Counted
+fn count_row(upper: &[u8], total: u32, all: usize, few: usize) -> Counted
     requires { ⌜ (firstRefusal (shapeChecks (now upper) total) .number ≡ 0) × (all ≡ whole (now upper))
         × ((k : ℕ) → k ≤ few → Within (now upper) total k) ⌝ }
     ensures { λ r. ⌜ r ≡ numberOf (now (upper .entry)) total ⌝ }
@@ -231,13 +234,32 @@ pub(crate) fn count_row(upper: &[u8], total: u32, all: usize, few: usize) -> Cou
     table::within_limit(n)
 }
 
-// N, or the refusal. "N of a puzzle edition of 2 to 16 sheets is read from" the constant table; where N stands there, the checks 1 to 4 refuse
-// nothing.
-pub fn number(upper: &[u8], total: u32) -> Counted
-    ensures { λ r. ⌜ r ≡ numberOf (now (upper .entry)) total ⌝ }
+// The constant table is asked where N is. "N of a puzzle edition of 2 to 16 sheets is read from it".
+fn looked_up(upper: &[u8], total: u32, exact: bool) -> Entry
+    ensures { λ r. ⌜ ((n : ℕ) → r ≡ Count n → staircaseCountOf (now (upper .entry)) total ≡ Count n) ⌝ }
 {
-    let e = mahonian::staircase_count(upper, total);
-    if let mahonian::Entry::Count(n) = e {
+    if exact {
+        return mahonian::staircase_count(upper, total);
+    }
+    Entry::Outside
+}
+
+// N is not asked, and all `n` rows are known to be within the limit.
+fn is_needless(exact: bool, few: usize, n: usize) -> bool
+    ensures { λ r. ⌜ (r ≡ true → (exact ≡ false) × (few ≡ n)) ⌝ }
+{
+    if exact { false } else { few == n }
+}
+
+// N, or the refusal; where `exact` is false, the refusal alone, and nothing is counted where a bound on N that costs nothing is within the limit.
+// Where N stands in the constant table, the checks 1 to 4 refuse nothing. (One function for both, so that the count is part of it: a slice that is
+// handed on is read from memory again.)
+pub(crate) fn counted(upper: &[u8], total: u32, exact: bool) -> Counted
+    ensures { λ r. ⌜ (exact ≡ true → r ≡ numberOf (now (upper .entry)) total)
+        × (refused (r .number) (r .detail) ≡ firstRefusal (editionChecks (now (upper .entry)) total)) ⌝ }
+{
+    let e = looked_up(upper, total, exact);
+    if let Entry::Count(n) = e {
         return table::within_limit(n);
     }
     let s = bounds::shape(upper, total);
@@ -245,5 +267,15 @@ pub fn number(upper: &[u8], total: u32) -> Counted
         return table::uncounted(s.number, s.detail);
     }
     let few = crate::few_parts(upper, total as usize, s.all);
+    if is_needless(exact, few, upper.len()) {
+        return table::uncounted(0, 0);
+    }
     count_row(upper, total, s.all, few)
+}
+
+// N, or the refusal.
+pub fn number(upper: &[u8], total: u32) -> Counted
+    ensures { λ r. ⌜ r ≡ numberOf (now (upper .entry)) total ⌝ }
+{
+    counted(upper, total, true)
 }

@@ -1,10 +1,10 @@
 -- Each part taken from its bound: a composition of the total becomes one of what the total leaves of the bounds' sum, so there are as many of both.
-use mathlib.Core.Path.{_≡_, refl, sym, ap, _∙_}
+use mathlib.Core.Path.{_≡_, sym, ap, _∙_}
 use mathlib.Core.List.{List}
 use Prim.Native.Nat.{ℕ, zero, suc, _+_, _-_, _≤_, _<_}
 use native.Mathlib.Omega.{arith}
 use lib.ListN.{getD}
-use Rattle.walsh.specs.Sums.{sum, sumTo}
+use Rattle.walsh.specs.Sums.{sumTo}
 use Rattle.walsh.specs.Order.{count}
 use Rattle.walsh.proofs.Cases.{on-less}
 use Rattle.walsh.proofs.Lists.{sum-mirror}

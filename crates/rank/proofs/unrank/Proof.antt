@@ -26,8 +26,8 @@ returns-2 c =
     let a = c .before .before .before .before .before .before .before .args in
     let f = c .before .before .before .composition-of in
     let l = c .before .if2 .taken in
-    let v = checked-edition (now (a .upper)) (a .total) (a .serial) (length (now (a .out))) (f .result .number) (f .result .detail) (c .refused .ensures)
-    (entry-refused (now (a .upper)) (a .total) (a .serial) _ (f .result) (f .ensures) l) l in
+    let edition = entry-refused (now (a .upper)) (a .total) (a .serial) _ (f .result) (f .ensures) l in
+    let v = checked-edition (now (a .upper)) (a .total) (a .serial) (length (now (a .out))) _ _ (c .refused .ensures) edition l in
     unrank-refused _ _ _ _ v (λ z. let q = same-number (c .refused .ensures) in omega (arith, q, l, z))
 
 entry-at : (c : tie.Else2)

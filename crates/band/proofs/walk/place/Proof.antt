@@ -1,12 +1,10 @@
 -- `band::walk::place` meets its contract. The sum so far and the rank of the parts that are left make the rank.
-use mathlib.Core.Path.{_≡_, ap, _∙_}
+use mathlib.Core.Path.{ap, _∙_}
 use Prim.Native.Nat.{ℕ, _+_, _-_, _≤_, _<_}
 use native.Mathlib.Nat.{zero-add}
 use native.Mathlib.Omega.{arith}
-use lib.ListN.{length}
 use denote.Ref.{now}
 use borrow.Author.Needs.{needs}
-use Rattle.walsh.specs.Order.{CompositionTo}
 use Rattle.walsh.specs.Rank.{rankOf}
 use Rattle.band.proofs.Numbers.{suc-pred}
 use Rattle.band.specs.Walk.{Placed}

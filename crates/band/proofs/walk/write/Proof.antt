@@ -1,9 +1,9 @@
 -- `band::walk::write` meets its contract. What is still to be found, with the parts stored so far behind it, is the composition.
 use mathlib.Core.Path.{_≡_, refl, sym, ap, _∙_}
-use mathlib.Core.List.{[], _++_, append-nil}
+use mathlib.Core.List.{[], append-nil}
 use Prim.Native.Nat.{ℕ, _+_, _-_, _≤_, _<_}
 use native.Mathlib.Omega.{arith}
-use lib.ListN.{length, length-set, getD, drop}
+use lib.ListN.{length, length-set, getD}
 use lib.Seq.{drop-length}
 use denote.Ref.{now}
 use borrow.Author.Needs.{needs}
