@@ -54,12 +54,12 @@ pub extern "C" fn huz_rank(upper: &[u8], total: u32, composition: &[u8]) -> Rank
 {
     let answer = rank::rank(upper, total, composition);
     match answer {
-        rank::Ranked::Serial(serial) => Ranked {
+        rank::Ranking::Serial(serial) => Ranked {
             number: 0,
             detail: 0,
             serial,
         },
-        rank::Ranked::Refused(number, detail) => Ranked {
+        rank::Ranking::Refused(number, detail) => Ranked {
             number,
             detail,
             serial: 0,

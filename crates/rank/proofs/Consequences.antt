@@ -8,18 +8,18 @@ use Rattle.bounds.specs.Refusal.{refused}
 use Rattle.bounds.specs.declared.Refusal.{Refusal}
 use Rattle.rank.specs.Rank.{Answer, answerOf, rankAnswer}
 use Rattle.rank.specs.Unrank.{unrankCall}
-use Rattle.rank.specs.declared.Ranked.{Ranked}
-use Rattle.rank.specs.declared.Ranked.the-variants.{Serial, Refused}
+use Rattle.rank.specs.declared.Ranking.{Ranking}
+use Rattle.rank.specs.declared.Ranking.the-variants.{Serial, Refused}
 use Rattle.rank.proofs.RoundTrips.{unrank-accepted, rank-unrank, unrank-rank}
 
 -- the enum of an accepted answer
-pub serial-case : (x : Ranked) (s : ℕ) → 0 < s → answerOf x ≡ record { number = 0; detail = 0; serial = s } → x ≡ Serial s
+pub serial-case : (x : Ranking) (s : ℕ) → 0 < s → answerOf x ≡ record { number = 0; detail = 0; serial = s } → x ≡ Serial s
 serial-case (Serial n) s some e = ap (λ (a : Answer). Serial (a .serial)) e
 serial-case (Refused n d) s some e = let z = ap (λ (a : Answer). a .serial) e in absurd (omega arith)
 
 module _ (ms : List ℕ) (r : ℕ) where
   -- serial to mix and back: `unrank` accepts s and leaves g, then `rank` is called on g and answers x
-  pub unrank-then-rank : (s : ℕ) (out g : List ℕ) (v : Refusal) (x : Ranked)
+  pub unrank-then-rank : (s : ℕ) (out g : List ℕ) (v : Refusal) (x : Ranking)
       → (v, g) ≡ unrankCall ms r s out → v .number ≡ 0
       → answerOf x ≡ rankAnswer ms r g
       → x ≡ Serial s

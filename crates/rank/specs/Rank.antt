@@ -6,8 +6,8 @@ use Rattle.bounds.specs.Refusal.{Check, firstRefusal, decided}
 use Rattle.bounds.specs.Edition.{editionChecks}
 use Rattle.bounds.specs.Places.{compositionChecks}
 use Rattle.bounds.specs.declared.Refusal.{Refusal}
-use Rattle.rank.specs.declared.Ranked.{Ranked}
-use Rattle.rank.specs.declared.Ranked.the-variants.{Serial, Refused}
+use Rattle.rank.specs.declared.Ranking.{Ranking}
+use Rattle.rank.specs.declared.Ranking.the-variants.{Serial, Refused}
 
 -- the places 'edition' and 'mix given'
 abbrev pub rankChecks : List ℕ → ℕ → List ℕ → List Check
@@ -19,7 +19,7 @@ pub record Answer : Type 0 where
   pub detail : ℕ
   pub serial : ℕ
 
-abbrev pub answerOf : Ranked → Answer
+abbrev pub answerOf : Ranking → Answer
 answerOf (Serial s) = record { number = 0; detail = 0; serial = s }
 answerOf (Refused n d) = record { number = n; detail = d; serial = 0 }
 

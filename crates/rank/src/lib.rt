@@ -12,7 +12,7 @@ use bounds::Refusal;
 use bounds::refused;
 
 // A serial, or a refusal's number and detail.
-pub enum Ranked {
+pub enum Ranking {
     Serial(u64),
     Refused(u32, u64),
 }
@@ -26,20 +26,20 @@ pub struct Located {
 }
 
 // The serial of a composition. 7 and 8 are known before the table is filled, and given where 5 is not.
-pub fn rank(upper: &[u8], total: u32, composition: &[u8]) -> Ranked
+pub fn rank(upper: &[u8], total: u32, composition: &[u8]) -> Ranking
     ensures { λ r. ⌜ answerOf r ≡ rankAnswer (now (upper .entry)) total (now (composition .entry)) ⌝ }
 {
     let f = find::serial_of(upper, total, composition);
     if f.number == 0 {
-        return Ranked::Serial(f.serial);
+        return Ranking::Serial(f.serial);
     }
     if 6 < f.number {
         let e = count::bounds_refusal(upper, total);
         if 0 < e.number {
-            return Ranked::Refused(e.number, e.detail);
+            return Ranking::Refused(e.number, e.detail);
         }
     }
-    Ranked::Refused(f.number, f.detail)
+    Ranking::Refused(f.number, f.detail)
 }
 
 // The refusal of `unrank` for a lent part of `have` bytes, without a table.

@@ -15,8 +15,8 @@ use Rattle.bounds.specs.declared.Refusal.{Refusal}
 use Rattle.bounds.proofs.Chains.{accepts-split}
 use Rattle.rank.specs.Rank.{Answer, answerOf, rankAnswer}
 use Rattle.rank.specs.Unrank.{unrankCall}
-use Rattle.rank.specs.declared.Ranked.{Ranked}
-use Rattle.rank.specs.declared.Ranked.the-variants.{Serial}
+use Rattle.rank.specs.declared.Ranking.{Ranking}
+use Rattle.rank.specs.declared.Ranking.the-variants.{Serial}
 use Rattle.rank.proofs.RoundTrips.{rank-accepted, rank-accepts, unrank-accepted}
 use Rattle.rank.proofs.Consequences.{serial-case}
 use Rattle.step.specs.Steps.{nextSerial, stepOf, successorOf, predecessorOf}
@@ -49,7 +49,7 @@ module _ (ms : List ℕ) (r : ℕ) where
 
   -- ---- a step between two calls of `rank`: "one serial on or back"
 
-  step-serial : (back : Bool) (g : List ℕ) (s : ℕ) (x : Stepped) (y : Ranked)
+  step-serial : (back : Bool) (g : List ℕ) (s : ℕ) (x : Stepped) (y : Ranking)
       → answerOf (Serial s) ≡ rankAnswer ms r g
       → x ≡ stepOf back ms r g → x .number ≡ 0
       → answerOf y ≡ rankAnswer ms r (partsOf x)
@@ -67,14 +67,14 @@ module _ (ms : List ℕ) (r : ℕ) where
       ∙ rank-accepts ms r (compositionOf ms r to) edition (composition-is ms r to low high)
       ∙ ap (λ (n : ℕ). answerOf (Serial n)) (serial-composition ms r to low high)))
 
-  pub successor-serial : (g : List ℕ) (s : ℕ) (x : Stepped) (y : Ranked)
+  pub successor-serial : (g : List ℕ) (s : ℕ) (x : Stepped) (y : Ranking)
       → answerOf (Serial s) ≡ rankAnswer ms r g
       → x ≡ successorOf ms r g → x .number ≡ 0
       → answerOf y ≡ rankAnswer ms r (take (length ms) (x .composition))
       → y ≡ Serial (s + 1)
   successor-serial g s x y a e ok b = step-serial false g s x y a e ok b
 
-  pub predecessor-serial : (g : List ℕ) (s : ℕ) (x : Stepped) (y : Ranked)
+  pub predecessor-serial : (g : List ℕ) (s : ℕ) (x : Stepped) (y : Ranking)
       → answerOf (Serial s) ≡ rankAnswer ms r g
       → x ≡ predecessorOf ms r g → x .number ≡ 0
       → answerOf y ≡ rankAnswer ms r (take (length ms) (x .composition))

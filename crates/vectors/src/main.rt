@@ -71,8 +71,8 @@ fn rank(s: &[u8], from: usize) -> usize
         e.total,
         read::part(&composition, g.len),
     ) {
-        rank::Ranked::Serial(serial) => show::three(0, 0, serial),
-        rank::Ranked::Refused(number, detail) => show::three(number, detail, 0),
+        rank::Ranking::Serial(serial) => show::three(0, 0, serial),
+        rank::Ranking::Refused(number, detail) => show::three(number, detail, 0),
     }
     g.at
 }
