@@ -110,10 +110,19 @@ fn few_parts(upper: &[u8], total: usize, all: usize) -> usize
     few_values(upper, smaller)
 }
 
-// The first of the refusals 1 to 5 that holds, for calls that need no N.
+// The first of the refusals 1 to 5 that holds, for calls that need no N: where a bound on N that costs nothing is within the limit, nothing is
+// counted.
 pub fn bounds_refusal(upper: &[u8], total: u32) -> Refusal
     ensures { λ r. ⌜ r ≡ firstRefusal (editionChecks (now (upper .entry)) total) ⌝ }
 {
-    let n = row::counted(upper, total, false);
+    let s = bounds::shape(upper, total);
+    if 0 < s.number {
+        return refused(s.number, s.detail);
+    }
+    let few = few_parts(upper, total as usize, s.all);
+    if few == upper.len() {
+        return refused(0, 0);
+    }
+    let n = row::counted(upper, total, s.all, few, false);
     refused(n.number, n.detail)
 }

@@ -5,8 +5,8 @@ ghost use mathlib.Core.Bool.{true, false};
 ghost use Prim.Native.Nat.{ℕ, _+_, _-_, _≤_, _<_, min};
 ghost use lib.ListN.{length};
 ghost use Rattle.walsh.specs.Order.{count};
-ghost use Rattle.bounds.specs.Edition.{whole, shapeChecks, editionChecks};
-ghost use Rattle.bounds.specs.Refusal.{refused, firstRefusal};
+ghost use Rattle.bounds.specs.Edition.{whole, shapeChecks, shapedOf};
+ghost use Rattle.bounds.specs.Refusal.{firstRefusal};
 ghost use Rattle.mahonian.specs.Read.{staircaseCountOf};
 ghost use Rattle.mahonian.specs.declared.Entry.the-variants.{Count};
 ghost use Rattle.band.specs.Band.{InBand, cap, numberOf};
@@ -16,6 +16,7 @@ use band::CAP;
 use band::window::table;
 use band::window::table::Counted;
 use bounds::LIMIT;
+use bounds::Shaped;
 use mahonian::Entry;
 
 // The lowest and the highest sum of a row from which the total can still be reached.
@@ -234,48 +235,65 @@ fn count_row(upper: &[u8], total: u32, all: usize, few: usize) -> Counted
     table::within_limit(n)
 }
 
-// The constant table is asked where N is. "N of a puzzle edition of 2 to 16 sheets is read from it".
-fn looked_up(upper: &[u8], total: u32, exact: bool) -> Entry
+// "N of a puzzle edition of 2 to 16 sheets is read from" the constant table. It is not asked where N was not found in it, or need not be.
+fn looked_up(upper: &[u8], total: u32, fresh: bool) -> Entry
     ensures { λ r. ⌜ ((n : ℕ) → r ≡ Count n → staircaseCountOf (now (upper .entry)) total ≡ Count n) ⌝ }
 {
-    if exact {
+    if fresh {
         return mahonian::staircase_count(upper, total);
     }
     Entry::Outside
 }
 
-// N is not asked, and all `n` rows are known to be within the limit.
-fn is_needless(exact: bool, few: usize, n: usize) -> bool
-    ensures { λ r. ⌜ (r ≡ true → (exact ≡ false) × (few ≡ n)) ⌝ }
+// The checks 1 to 4; where `fresh` is false they are known to refuse nothing.
+fn shape_of(upper: &[u8], total: u32, all: usize, fresh: bool) -> Shaped
+    requires { ⌜ (fresh ≡ false → (firstRefusal (shapeChecks (now upper) total) .number ≡ 0) × (all ≡ whole (now upper))) ⌝ }
+    ensures { λ r. ⌜ r ≡ shapedOf (now (upper .entry)) total ⌝ }
 {
-    if exact { false } else { few == n }
+    if fresh {
+        return bounds::shape(upper, total);
+    }
+    Shaped {
+        number: 0,
+        detail: 0,
+        all,
+    }
 }
 
-// N, or the refusal; where `exact` is false, the refusal alone, and nothing is counted where a bound on N that costs nothing is within the limit.
-// Where N stands in the constant table, the checks 1 to 4 refuse nothing. (One function for both, so that the count is part of it: a slice that is
-// handed on is read from memory again.)
-pub(crate) fn counted(upper: &[u8], total: u32, exact: bool) -> Counted
-    ensures { λ r. ⌜ (exact ≡ true → r ≡ numberOf (now (upper .entry)) total)
-        × (refused (r .number) (r .detail) ≡ firstRefusal (editionChecks (now (upper .entry)) total)) ⌝ }
+// How many first rows are within the limit; where `fresh` is false, as many as are known to be.
+fn few_of(upper: &[u8], total: usize, all: usize, few: usize, fresh: bool) -> usize
+    requires { ⌜ (length (now upper) ≤ 24) × (total ≤ whole (now upper)) × (all ≡ whole (now upper))
+        × (fresh ≡ false → (k : ℕ) → k ≤ few → Within (now upper) total k) ⌝ }
+    ensures { λ r. ⌜ ((k : ℕ) → k ≤ r → Within (now (upper .entry)) total k) ⌝ }
 {
-    let e = looked_up(upper, total, exact);
+    if fresh {
+        return crate::few_parts(upper, total, all);
+    }
+    few
+}
+
+// N, or the refusal; where `fresh` is false, of a shape that is accepted, whose bounds sum to `all` and whose first `few` rows are within the limit.
+// (One function for both, so that the count is part of it: a slice that is handed on is read from memory again.)
+pub(crate) fn counted(upper: &[u8], total: u32, all: usize, few: usize, fresh: bool) -> Counted
+    requires { ⌜ (fresh ≡ false → (firstRefusal (shapeChecks (now upper) total) .number ≡ 0) × (all ≡ whole (now upper)))
+        × (fresh ≡ false → (k : ℕ) → k ≤ few → Within (now upper) total k) ⌝ }
+    ensures { λ r. ⌜ r ≡ numberOf (now (upper .entry)) total ⌝ }
+{
+    let e = looked_up(upper, total, fresh);
     if let Entry::Count(n) = e {
         return table::within_limit(n);
     }
-    let s = bounds::shape(upper, total);
+    let s = shape_of(upper, total, all, fresh);
     if 0 < s.number {
         return table::uncounted(s.number, s.detail);
     }
-    let few = crate::few_parts(upper, total as usize, s.all);
-    if is_needless(exact, few, upper.len()) {
-        return table::uncounted(0, 0);
-    }
-    count_row(upper, total, s.all, few)
+    let known = few_of(upper, total as usize, s.all, few, fresh);
+    count_row(upper, total, s.all, known)
 }
 
-// N, or the refusal.
+// N, or the refusal. Where N stands in the constant table, the checks 1 to 4 refuse nothing.
 pub fn number(upper: &[u8], total: u32) -> Counted
     ensures { λ r. ⌜ r ≡ numberOf (now (upper .entry)) total ⌝ }
 {
-    counted(upper, total, true)
+    counted(upper, total, 0, 0, true)
 }

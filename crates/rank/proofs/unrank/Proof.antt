@@ -19,7 +19,7 @@ use Rattle.rank.proofs.unrank.Statement.{statement}
 use Rattle.rank.proofs.unrank.Tie as tie
 
 returns : tie.Need-returns
-returns c = length-other _ _ _ _ (c .unrank-refusal .ensures) (c .before .if1 .taken)
+returns c = length-other _ _ _ _ (c .unrank-refusal .ensures) (λ e. omega (arith, e, c .before .if1 .taken))
 
 returns-2 : tie.Need-returns-2
 returns-2 c =
