@@ -1,7 +1,7 @@
 -- Laws of a batch: where its copies stand, and what makes the next one.
 use mathlib.Core.Path.{_≡_, refl, sym, ap, _∙_}
 use mathlib.Core.Bool.{Bool, true, false, true≢false}
-use mathlib.Core.List.{List, [], _++_, append-assoc}
+use mathlib.Core.List.{List, [], _++_}
 use Prim.Native.Nat.{ℕ, zero, suc, _+_, _-_, _*_, _/_, _%_, _≤_, _<_}
 use mathlib.Core.Logic.{_⊎_, inl, inr}
 use native.Mathlib.Nat.{not-suc-le-zero, le-of-suc-le-suc, eq-or-lt-of-le, zero-mul, mul-le-mul-right, suc-mul}
@@ -10,7 +10,7 @@ use native.Mathlib.Numerals.{add-one}
 use native.Mathlib.Omega.{arith}
 use lib.Dec.{eqb}
 use lib.ListN.{length, take, drop, length-take, length-drop, length-append}
-use lib.Seq.{take-at, drop-at, take-all, take-append-le, drop-append-le, length-take-le}
+use lib.Seq.{drop-at, take-all, take-append-add, take-append-le, drop-append-le, length-take-le}
 use borrow.Author.Tests.{eqb-true, eq-eqb, ne-eqb}
 use Rattle.walsh.specs.Order.{countOf}
 use Rattle.walsh.specs.Serial.{compositionOf}
@@ -28,14 +28,16 @@ part-within j c n l = omega (arith, mul-le-mul-right n l, suc-mul j n)
 pub part-next : (j n : ℕ) → (j + 1) * n ≡ j * n + n
 part-next j n = rw (add-one, suc-mul)
 
-pub part-length : (xs : List ℕ) (a n : ℕ) → a + n ≤ length xs → length (take (a + n - a) (drop a xs)) ≡ n
-part-length xs a n l = simp (length-take, length-drop) (omega arith)
+-- all from a on
+pub part-length : (xs : List ℕ) (a : ℕ) → length (take (length xs - a) (drop a xs)) ≡ length xs - a
+part-length xs a = simp (length-take, length-drop) (omega arith)
 
--- after ys are put in the place of n elements from a on, the elements up to them are those before and ys
-pub put-taken : (xs ys rest : List ℕ) (a n : ℕ) → a ≤ length xs → length ys ≡ n → take (a + n) (take a xs ++ (ys ++ rest)) ≡ take a xs ++ ys
-put-taken xs ys rest a n l e =
-    ap (take (a + n)) (sym (append-assoc (take a xs) ys rest))
-    ∙ take-at (take a xs ++ ys) rest (a + n) (length-append (take a xs) ys ∙ omega (arith, length-take-le a xs l))
+-- after ys are put in the place of elements from a on, the first a + n are those before a and the first n of ys
+pub put-taken : (xs ys rest : List ℕ) (a n : ℕ) → a ≤ length xs → n ≤ length ys → take (a + n) (take a xs ++ (ys ++ rest)) ≡ take a xs ++ take n ys
+put-taken xs ys rest a n l k =
+    ap (λ (m : ℕ). take (m + n) (take a xs ++ (ys ++ rest))) (sym (length-take-le a xs l))
+    ∙ take-append-add (take a xs) (ys ++ rest) n
+    ∙ ap (λ (zs : List ℕ). take a xs ++ zs) (take-append-le n ys rest k)
 
 -- `have` bytes are c parts of n
 module _ (have n c : ℕ) (some : 0 < n) where

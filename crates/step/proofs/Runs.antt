@@ -1,12 +1,13 @@
 -- A run goes on: part 1 moves, and the composition is the next.
 use mathlib.Core.Path.{_≡_, refl, sym, ap, _∙_, subst}
 use mathlib.Core.Bool.{Bool, true, false, cond, true≢false}
-use mathlib.Core.List.{List, [], _∷_}
+use mathlib.Core.List.{List, [], _∷_, _++_, append-nil}
 use Prim.Native.Nat.{ℕ, zero, suc, _+_, _-_, _≤_, _<_, min}
 use native.Mathlib.Nat.{le-refl, add-zero, mul-one}
 use native.Mathlib.Omega.{arith}
 use lib.Dec.{ltb}
-use lib.ListN.{length, getD, set, take, drop}
+use lib.ListN.{length, getD, set, take, drop, length-set, length-take}
+use lib.Seq.{take-append-le, take-take}
 use borrow.Author.Tests.{lt-ltb}
 use Rattle.walsh.specs.Sums.{sumTo}
 use Rattle.walsh.specs.Order.{Composition, isOdd, least, most, countOf}
@@ -16,6 +17,7 @@ use Rattle.walsh.proofs.Complete.{composition-low}
 use Rattle.walsh.proofs.Ends.{next-low, rest-fits}
 use Rattle.walsh.proofs.Serials.{composition-is, serial-composition, composition-serial}
 use Rattle.walsh.proofs.Successors.{successor-at, successor-none}
+use Rattle.bounds.specs.Places.{copied}
 use Rattle.step.specs.Advance.{canMove}
 use Rattle.step.specs.Run.{valuesLeft, sumOf, Running, movedOf, CanMove, shown, Asked, copiesFrom}
 use Rattle.step.specs.Batch.{copiesOf}
@@ -89,6 +91,48 @@ pub two-parts : (g : List ℕ) → 1 < length g → getD g 0 0 ∷ getD g 1 0 �
 two-parts [] h = absurd (omega arith)
 two-parts (x ∷ []) h = absurd (omega arith)
 two-parts (x ∷ y ∷ g) h = refl
+
+two-over : (x : Run) (cells rest : List ℕ) (k : ℕ) → 1 < length cells → 1 < k
+    → shown x (take k cells ++ rest) ≡ take k (shown x cells) ++ rest
+two-over x cells rest zero h l = absurd (omega arith)
+two-over x cells rest (suc zero) h l = absurd (omega arith)
+two-over x [] rest (suc (suc k)) h l = absurd (omega arith)
+two-over x (a ∷ []) rest (suc (suc k)) h l = absurd (omega arith)
+two-over x (a ∷ b ∷ cells) rest (suc (suc k)) h l = refl
+
+shown-length : (x : Run) (cells : List ℕ) → 1 < length cells → length (shown x cells) ≡ length cells
+shown-length x cells h = ap length (sym (set-two cells (x .first) (x .second) h)) ∙ simp length-set
+
+-- all but the first two copied
+pub copied-later : (cells out : List ℕ) → 1 < length cells → 1 < length out → copied (drop 2 cells) (drop 2 out) ≡ drop 2 (copied cells out)
+unfolding copied
+copied-later (a ∷ b ∷ cells) (c ∷ d ∷ out) h l =
+    let e : min (suc (suc (length cells))) (suc (suc (length out))) ≡ suc (suc (min (length cells) (length out))) = omega arith in
+    rw e
+copied-later [] out h l = absurd (omega arith)
+copied-later (a ∷ []) out h l = absurd (omega arith)
+copied-later (a ∷ b ∷ cells) [] h l = absurd (omega arith)
+copied-later (a ∷ b ∷ cells) (c ∷ []) h l = absurd (omega arith)
+
+-- the run's two parts over cells that were copied
+pub two-copied : (x : Run) (cells out : List ℕ) → 1 < length cells → 1 < length out → shown x (copied cells out) ≡ copied (shown x cells) out
+unfolding copied
+two-copied x cells out h l =
+    let k = min (length cells) (length out) in
+    two-over x cells (drop k out) k h (omega arith) ∙ rw (shown-length x cells h)
+
+-- the first n of what was copied
+pub shown-front : (x : Run) (cells out : List ℕ) (n : ℕ) → 1 < n → n ≤ length cells → n ≤ length out
+    → take n (copied (shown x cells) out) ≡ shown x (take n cells)
+unfolding copied
+shown-front x cells out n some h l =
+    let k = min (length (shown x cells)) (length out) in
+    let size = shown-length x cells (omega arith) in
+    take-append-le n (take k (shown x cells)) (drop k out) (simp length-take (omega (arith, size)))
+    ∙ take-take n k (shown x cells) (omega (arith, size))
+    ∙ sym (append-nil (take n (shown x cells)))
+    ∙ sym (two-over x cells [] n (omega arith) some)
+    ∙ ap (shown x) (append-nil (take n cells))
 
 -- part 0 takes what part 1 leaves
 step-one : (ms : List ℕ) (r a b : ℕ) (rest : List ℕ) (u : ℕ) → u ≡ nextValue (isOdd (r - sumTo (a ∷ b ∷ rest) 2)) b

@@ -3,9 +3,9 @@ ghost use mathlib.Core.Path.{_≡_};
 ghost use mathlib.Core.List.{List, _++_};
 ghost use Prim.Native.Nat.{ℕ, _+_, _*_, _≤_, _<_};
 ghost use lib.Dec.{eqb};
-ghost use lib.ListN.{length, getD};
+ghost use lib.ListN.{length, getD, drop};
 ghost use Rattle.bounds.specs.Refusal.{firstRefusal};
-ghost use Rattle.bounds.specs.Places.{lentChecks};
+ghost use Rattle.bounds.specs.Places.{lentChecks, copied};
 ghost use Rattle.bounds.specs.declared.Refusal.{Refusal};
 ghost use Rattle.step.specs.Batch.{beyond, rangeChecks, batchOf};
 ghost use Rattle.step.specs.Run.{valuesLeft, Running, CanMove, movedOf, shown, Onward, Asked, copiesFrom};
@@ -130,17 +130,31 @@ fn onward(upper: &[u8], total: usize, run: Run, parts: &mut [u8]) -> Run
     run_of(upper, total, parts)
 }
 
-// Writes the composition of a run, whose other parts are those of `parts`.
-fn put(run: Run, parts: &[u8], out: &mut [u8])
-    requires { ⌜ (1 < length (now parts)) × (length (now out) ≡ length (now parts)) ⌝ }
-    ensures { λ _. ⌜ now (out .exit) ≡ shown run (now (parts .entry)) ⌝ }
+// Copies 24 cells over the beginning of `out`, or as many as it has room for, but for the first two. All 24 at once are two moves in compiled code;
+// the other copy starts elsewhere so that the compiler does not make one copy of both, whose length would be no constant.
+fn lay(cells: &[u8], out: &mut [u8])
+    requires { ⌜ (length (now cells) ≡ 24) × (1 < length (now out)) ⌝ }
+    ensures { λ _. ⌜ drop 2 (now (out .exit)) ≡ drop 2 (copied (now (cells .entry)) (now (out .entry))) ⌝ }
 {
-    copy(parts, out);
+    if 24 <= out.len() {
+        copy(cells, &mut out[..24]);
+        return;
+    }
+    copy(&cells[2..], &mut out[2..]);
+}
+
+// Writes the composition of a run, whose other parts are those of `cells`, over the beginning of `out`, and all other cells behind it that have room.
+fn put(run: Run, cells: &[u8], out: &mut [u8])
+    requires { ⌜ (length (now cells) ≡ 24) × (1 < length (now out)) ⌝ }
+    ensures { λ _. ⌜ now (out .exit) ≡ copied (shown run (now (cells .entry))) (now (out .entry)) ⌝ }
+{
+    lay(cells, out);
     out[0] = run.first;
     out[1] = run.second;
 }
 
-// Writes `copies` compositions from `first` on, each into a part of `out` of its own.
+// Writes `copies` compositions from `first` on, each into the part of `out` that starts where the one before it ends. What a copy leaves behind its
+// own n bytes is overwritten by the next one, and the last one has room for n bytes alone.
 fn write_runs(upper: &[u8], total: usize, first: [u8; 24], copies: u64, out: &mut [u8])
     requires { ⌜ (1 < length (now upper)) × Asked (now upper) total first copies (length (now out)) ⌝ }
     ensures { λ _. ⌜ now (out .exit) ≡ copiesFrom (now (upper .entry)) total first copies ⌝ }
@@ -151,8 +165,7 @@ fn write_runs(upper: &[u8], total: usize, first: [u8; 24], copies: u64, out: &mu
     let mut at = 0;
     let mut j: u64 = 0;
     while j < copies {
-        let end = at + n;
-        put(run, &parts[..n], &mut out[at..end]);
+        put(run, &parts, &mut out[at..]);
         run = onward(upper, total, run, &mut parts[..n]);
         at += n;
         j += 1;

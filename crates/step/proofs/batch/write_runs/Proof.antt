@@ -12,7 +12,7 @@ use Rattle.walsh.specs.Serial.{serialOf, compositionOf}
 use Rattle.walsh.proofs.Serials.{composition-serial, serial-pos}
 use Rattle.step.specs.Batch.{copiesOf}
 use Rattle.step.specs.Run.{Running, shown}
-use Rattle.step.proofs.Runs.{two-parts}
+use Rattle.step.proofs.Runs.{two-parts, shown-front}
 use Rattle.step.proofs.Copies.{part-within, part-next, part-length, put-taken, copies-none, copies-next}
 use Rattle.step.proofs.batch.write_runs.Statement.{statement}
 use Rattle.step.proofs.batch.write_runs.Tie as tie
@@ -84,20 +84,24 @@ loop-again c =
     let n = length ms in
     let s = from ms (a .total) (a .first) in
     let ys : List ℕ = put .last .1 .1 .0 in
+    let rest : List ℕ = take (length (l .out) - l .at) (drop (l .at) (l .out)) in
+    let kept : length ys ≡ length rest = put .kept .1 .1 .0 in
+    let left = part-length (l .out) (l .at) in
+    let few = start .pre .1 .few in
+    let front = shown-front (l .run) (l .parts) rest n (start .pre .0) (omega arith) (omega (arith, within-at inside, left)) in
     let h : List ℕ = on .last .1 .1 .1 .0 in
     let size : length h ≡ n = on .kept .1 .1 .1 .0 ∙ front-at inside in
     let here = l .inv .6 (inside .loop-test .taken) in
     let next = copies-next ms (a .total) s (l .j) in
     let done = l .inv .4 in
-    let written = put .ensures in
+    let written = ap (take n) (put .ensures) in
     let low = serial-pos ms (a .total) _ (start .pre .1 .valid) in
     let then : s + l .j + 1 ≡ s + (l .j + 1) = omega arith in (
       omega arith,
-      same-len-mid (l .at) (l .at + n - l .at) (l .out) ys (put .kept .1 .1 .0) ∙ l .inv .1,
+      same-len-mid (l .at) (length (l .out) - l .at) (l .out) ys kept ∙ l .inv .1,
       simp (length-append, length-drop) (omega (arith, size, start .pre .1 .few)),
       omega (arith, part-next (l .j) n),
-      put-taken (l .out) ys _ (l .at) n (omega (arith, within-at inside)) (put .kept .1 .1 .0 ∙ part-length (l .out) (l .at) n (within-at inside))
-          ∙ cc,
+      put-taken (l .out) ys _ (l .at) n (omega (arith, within-at inside)) (omega (arith, within-at inside, kept, left)) ∙ cc,
       on .ensures .running,
       λ more. rw (take-at h (drop n (l .parts)) n size)
           (on .ensures .next (s + l .j) (omega (arith, low)) (omega (arith, start .pre .1 .within)) here)
@@ -125,16 +129,15 @@ write-runs-spec =
     (λ c. sym (first-at (c .before .before .before)))
     (λ c κs. let s = c .before .before .before in (s .pre .0, omega (arith, first-at s, s .pre .0)))
     loop-holds
-    (λ c. omega (arith, within-at c))
-    (λ c. omega (arith, c .before .before .before .before .before .before .pre .1 .few))
-    (λ c. sym (front-at (c .before)))
     (λ c. search needs)
+    (λ c. omega (arith, within-at (c .before)))
+    (λ c. omega (arith, within-at (c .before)))
     (λ c. search needs)
-    (λ c. within-at (c .before))
     (λ c κs.
     let inside = c .before .before in
+    let l = inside .before .loop in
     let start = inside .before .before .before .before .before .before in
-    (omega (arith, front-at inside, start .pre .0), part-length _ _ _ (within-at inside) ∙ sym (front-at inside)))
+    (l .inv .2, omega (arith, part-length (l .out) (l .at), within-at inside, start .pre .0)))
     (λ c. omega (arith, c .before .before .before .before .before .before .before .before .before .before .before .pre .1 .few))
     (λ c. sym (front-at (c .before .before .before .before .before .before)))
     onward-requires
