@@ -27,13 +27,6 @@ pub struct Bounds {
     pub total: u32,
 }
 
-// A number of 32 bits as one of 64.
-pub fn wide(x: u32) -> u64
-    ensures { λ r. ⌜ r ≡ x ⌝ }
-{
-    x as u64
-}
-
 pub fn refused(number: u32, detail: u64) -> Refusal
     ensures { λ r. ⌜ r ≡ refused number detail ⌝ }
 {

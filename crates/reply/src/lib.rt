@@ -50,6 +50,13 @@ pub fn peek(ledger: Ledger, orders: &[u32]) -> Answer
     accepted(ledger)
 }
 
+// An entry's 32 bits as a detail's 64.
+fn wide(x: u32) -> u64
+    ensures { λ r. ⌜ r ≡ x ⌝ }
+{
+    x as u64
+}
+
 // The checks of a serial, 6, 18 and 19, which are those of a void.
 fn place(ledger: Ledger, orders: &[u32], count: u64, serial: u64) -> Answer
     requires { ⌜ (consistent ledger (now orders) ≡ true) × (count ≡ length (compositionsOf (ledger .bounds))) ⌝ }
@@ -64,7 +71,7 @@ fn place(ledger: Ledger, orders: &[u32], count: u64, serial: u64) -> Answer
     let entries = ledger.entries;
     if serial <= entries {
         let at = (serial - 1) as usize;
-        return refused(18, bounds::wide(orders[at]));
+        return refused(18, wide(orders[at]));
     }
     if entries + 1 < serial {
         return refused(19, entries + 1);
