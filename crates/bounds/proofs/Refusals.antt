@@ -76,11 +76,6 @@ refusal-lacks k (c ∷ cs) z n =
     (λ t. rw t (eqb-false (c .number) k (not-true _ (both-left (not (eqb (c .number) k)) (lacks k cs) n))))
     (λ t. rw t (refusal-lacks k cs z (both-right (not (eqb (c .number) k)) (lacks k cs) n)))
 
--- a check whose number is not given does not hold
-pub not-here : (c : Check) (cs : List Check) → firstRefusal (c ∷ cs) .number ≢ c .number → c .holds ≡ false
-unfolding firstRefusal
-not-here c cs h = on-test (c .holds) (λ t. absurd (h (rw t))) (λ t. t)
-
 -- ---- answers that are decided by a refusal: a, or b, which has its number and its detail
 
 module _ {A : Type 0} (v : Refusal) (a b : A) where
