@@ -8,8 +8,9 @@ ghost use Rattle.bounds.specs.Refusal.{firstRefusal};
 ghost use Rattle.bounds.specs.Places.{lentChecks, copied};
 ghost use Rattle.bounds.specs.declared.Refusal.{Refusal};
 ghost use Rattle.step.specs.Batch.{beyond, rangeChecks, batchOf};
-ghost use Rattle.step.specs.Run.{valuesLeft, Running, CanMove, movedOf, shown, Onward, Asked, copiesFrom};
-use crate::turn;
+ghost use Rattle.step.specs.Run.{valuesLeft, Running, BehindRun, CanMove, movedOf, shown, Onward, Asked, copiesFrom};
+use crate::PivotSums;
+use crate::turn_from;
 use bounds::Refusal;
 use bounds::copy;
 use bounds::refused;
@@ -115,7 +116,20 @@ fn moved(run: Run) -> Run
     }
 }
 
-// Goes on to the next composition: by the run where it can move, or else by a step of the parts, with which a new run begins.
+// Part 2, from which on a part can move when the run has ended.
+fn behind(upper: &[u8], run: Run) -> PivotSums
+    requires { ⌜ 1 < length (now upper) ⌝ }
+    ensures { λ r. ⌜ BehindRun (now (upper .entry)) run r ⌝ }
+{
+    PivotSums {
+        at: 2,
+        left: wide(upper[0]) + wide(upper[1]),
+        sum: wide(run.first) + wide(run.second),
+        right: 0,
+    }
+}
+
+// Goes on to the next composition: by the run where it can move, or else by a step of the parts from part 2 on, with which a new run begins.
 fn onward(upper: &[u8], total: usize, run: Run, parts: &mut [u8]) -> Run
     requires { ⌜ (1 < length (now upper)) × (length (now upper) ≤ 24) × (total ≤ 255) × (length (now parts) ≡ length (now upper))
         × Running (now upper) total run ⌝ }
@@ -126,7 +140,7 @@ fn onward(upper: &[u8], total: usize, run: Run, parts: &mut [u8]) -> Run
     }
     parts[0] = run.first;
     parts[1] = run.second;
-    turn(upper, total, parts);
+    turn_from(upper, total, behind(upper, run), parts);
     run_of(upper, total, parts)
 }
 
