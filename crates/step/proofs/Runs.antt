@@ -7,7 +7,7 @@ use native.Mathlib.Nat.{le-refl, add-zero, mul-one}
 use native.Mathlib.Omega.{arith}
 use lib.Dec.{ltb}
 use lib.ListN.{length, getD, set, take, drop, length-set, length-take}
-use lib.Seq.{take-append-le, take-take}
+use lib.Seq.{take-append-le, take-nil, take-take}
 use borrow.Author.Tests.{lt-ltb, le-ltb}
 use Rattle.walsh.specs.Sums.{sumTo}
 use Rattle.walsh.specs.Order.{Composition, isOdd, least, most, countOf}
@@ -110,16 +110,16 @@ two-over x (a ∷ b ∷ cells) rest (suc (suc k)) h l = refl
 shown-length : (x : Run) (cells : List ℕ) → 1 < length cells → length (shown x cells) ≡ length cells
 shown-length x cells h = ap length (sym (set-two cells (x .first) (x .second) h)) ∙ simp length-set
 
--- all but the first two copied
-pub copied-later : (cells out : List ℕ) → 1 < length cells → 1 < length out → copied (drop 2 cells) (drop 2 out) ≡ drop 2 (copied cells out)
-unfolding copied
-copied-later (a ∷ b ∷ cells) (c ∷ d ∷ out) h l =
-    let e : min (suc (suc (length cells))) (suc (suc (length out))) ≡ suc (suc (min (length cells) (length out))) = omega arith in
-    rw e
-copied-later [] out h l = absurd (omega arith)
-copied-later (a ∷ []) out h l = absurd (omega arith)
-copied-later (a ∷ b ∷ cells) [] h l = absurd (omega arith)
-copied-later (a ∷ b ∷ cells) (c ∷ []) h l = absurd (omega arith)
+-- all but the first two of the first n
+pub later-taken : (l : List ℕ) (n : ℕ) → 1 < n → take (n - 2) (drop 2 l) ≡ drop 2 (take n l)
+later-taken l zero h = absurd (omega arith)
+later-taken l (suc zero) h = absurd (omega arith)
+later-taken l (suc (suc n)) h = let e : suc (suc n) - 2 ≡ n = omega arith in rw e (go l)
+  where
+    go : (l : List ℕ) → take n (drop 2 l) ≡ drop 2 (take (suc (suc n)) l)
+    go [] = take-nil n
+    go (x ∷ []) = take-nil n
+    go (x ∷ y ∷ l) = refl
 
 -- the run's two parts over cells that were copied
 pub two-copied : (x : Run) (cells out : List ℕ) → 1 < length cells → 1 < length out → shown x (copied cells out) ≡ copied (shown x cells) out

@@ -150,11 +150,12 @@ fn lay(cells: &[u8], out: &mut [u8])
     requires { ⌜ (length (now cells) ≡ 24) × (1 < length (now out)) ⌝ }
     ensures { λ _. ⌜ drop 2 (now (out .exit)) ≡ drop 2 (copied (now (cells .entry)) (now (out .entry))) ⌝ }
 {
-    if 24 <= out.len() {
+    let room = out.len();
+    if 24 <= room {
         copy(cells, &mut out[..24]);
         return;
     }
-    copy(&cells[2..], &mut out[2..]);
+    copy(&cells[2..room], &mut out[2..]);
 }
 
 // Writes the composition of a run, whose other parts are those of `cells`, over the beginning of `out`, and all other cells behind it that have room.
