@@ -116,7 +116,7 @@ fn moved(run: Run) -> Run
     }
 }
 
-// Part 2, from which on a part can move when the run has ended.
+// Where the search for the part that moves begins when the run has ended: at part 2, since part 1 cannot move.
 fn behind(upper: &[u8], run: Run) -> PivotSums
     requires { ⌜ 1 < length (now upper) ⌝ }
     ensures { λ r. ⌜ BehindRun (now (upper .entry)) run r ⌝ }
@@ -144,8 +144,8 @@ fn onward(upper: &[u8], total: usize, run: Run, parts: &mut [u8]) -> Run
     run_of(upper, total, parts)
 }
 
-// Copies 24 cells over the beginning of `out`, or as many as it has room for, but for the first two. All 24 at once are two moves in compiled code;
-// the other copy starts elsewhere so that the compiler does not make one copy of both, whose length would be no constant.
+// Copies 24 cells over the beginning of `out`, or as many as it has room for, but perhaps the first two. All 24 at once are two moves in compiled
+// code; the other copy leaves these two out so that the compiler does not make one copy of both, whose length would be no constant.
 fn lay(cells: &[u8], out: &mut [u8])
     requires { ⌜ (length (now cells) ≡ 24) × (1 < length (now out)) ⌝ }
     ensures { λ _. ⌜ drop 2 (now (out .exit)) ≡ drop 2 (copied (now (cells .entry)) (now (out .entry))) ⌝ }
@@ -158,7 +158,7 @@ fn lay(cells: &[u8], out: &mut [u8])
     copy(&cells[2..room], &mut out[2..]);
 }
 
-// Writes the composition of a run, whose other parts are those of `cells`, over the beginning of `out`, and all other cells behind it that have room.
+// Writes the composition of a run, whose other parts are those of `cells`, over the beginning of `out`: all 24 cells, or as many as have room.
 fn put(run: Run, cells: &[u8], out: &mut [u8])
     requires { ⌜ (length (now cells) ≡ 24) × (1 < length (now out)) ⌝ }
     ensures { λ _. ⌜ now (out .exit) ≡ copied (shown run (now (cells .entry))) (now (out .entry)) ⌝ }

@@ -103,7 +103,7 @@ fn refill(upper: &[u8], k: usize, left: usize, rest: usize, right: usize, parts:
 }
 
 // Makes the step in place and answers true, or answers false and changes nothing where no part can move. It goes forward where `total` is the
-// total, backward where it is one more. Where the parts are no composition, the rest may not fit: then false too.
+// total, backward where it is one more. Where the parts are no composition, the rest may not fit: then false too. No part before `start` can move.
 fn turn_from(upper: &[u8], total: usize, start: PivotSums, parts: &mut [u8]) -> bool
     requires { ⌜ (length (now upper) ≤ 24) × (length (now parts) ≡ length (now upper)) × (total ≤ 4294967296)
         × Begins (now upper) total (now parts) start ⌝ }
@@ -124,7 +124,7 @@ fn turn_from(upper: &[u8], total: usize, start: PivotSums, parts: &mut [u8]) -> 
     true
 }
 
-// The same, where nothing is known of the parts.
+// The same, where of no part it is known that it cannot move.
 fn turn(upper: &[u8], total: usize, parts: &mut [u8]) -> bool
     requires { ⌜ (0 < length (now upper)) × (length (now upper) ≤ 24) × (length (now parts) ≡ length (now upper)) × (total ≤ 4294967296) ⌝ }
     ensures { λ r. ⌜ _≡_ {A = Bool × List ℕ} (r, now (parts .exit)) (turnOf (now (upper .entry)) total (now (parts .entry))) ⌝ }
