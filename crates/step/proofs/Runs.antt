@@ -7,8 +7,8 @@ use native.Mathlib.Nat.{le-refl, add-zero, mul-one}
 use native.Mathlib.Omega.{arith}
 use lib.Dec.{ltb}
 use lib.ListN.{length, getD, set, take, drop, length-set, length-take}
-use lib.Seq.{take-append-le, take-take}
-use borrow.Author.Tests.{lt-ltb}
+use lib.Seq.{take-append-le, take-nil, take-take}
+use borrow.Author.Tests.{lt-ltb, le-ltb}
 use Rattle.walsh.specs.Sums.{sumTo}
 use Rattle.walsh.specs.Order.{Composition, isOdd, least, most, countOf}
 use Rattle.walsh.specs.Serial.{serialOf, compositionOf}
@@ -19,20 +19,27 @@ use Rattle.walsh.proofs.Serials.{composition-is, serial-composition, compositio
 use Rattle.walsh.proofs.Successors.{successor-at, successor-none}
 use Rattle.bounds.specs.Places.{copied}
 use Rattle.step.specs.Advance.{canMove}
-use Rattle.step.specs.Run.{valuesLeft, sumOf, Running, movedOf, CanMove, shown, Asked, copiesFrom}
+use Rattle.step.specs.Run.{valuesLeft, sumOf, Running, BehindRun, movedOf, CanMove, shown, Asked, copiesFrom}
 use Rattle.step.specs.Batch.{copiesOf}
+use Rattle.step.specs.Turn.{Begins}
+use Rattle.step.specs.declared.PivotSums.{PivotSums}
 use Rattle.step.specs.declared.batch.Run.{Run}
 use Rattle.step.proofs.Refills.{sum-one, refill-end}
-use Rattle.step.proofs.Pivots.{can-here}
+use Rattle.step.proofs.Pivots.{can-here, moving-on}
 use Rattle.step.proofs.Turns.{first-stays, part-moves, upTo}
 use Rattle.step.proofs.Ways.{moving}
 
 -- ---- numbers
 
 -- a value with others after it can move
-left-moves : (lo hi v more : ℕ) (falling : Bool) → 0 < more → more ≤ valuesLeft lo hi falling v → cond falling (ltb lo v) (ltb v hi) ≡ true
+left-moves : (lo hi v more : ℕ) (falling : Bool) → 0 < more → more ≡ valuesLeft lo hi falling v → cond falling (ltb lo v) (ltb v hi) ≡ true
 left-moves lo hi v more true some l = lt-ltb lo v (omega arith)
 left-moves lo hi v more false some l = lt-ltb v hi (omega arith)
+
+-- and one with none after it cannot
+left-stays : (lo hi v more : ℕ) (falling : Bool) → more ≡ 0 → more ≡ valuesLeft lo hi falling v → cond falling (ltb lo v) (ltb v hi) ≡ false
+left-stays lo hi v more true none l = le-ltb lo v (omega arith)
+left-stays lo hi v more false none l = le-ltb v hi (omega arith)
 
 -- what `run_of` computes
 pub run-begins : (ms : List ℕ) (r a b wa wb right lo hi m0 m1 v more : ℕ) (falling : Bool) → wa ≡ a → wb ≡ b → right ≡ r - (wa + wb)
@@ -43,7 +50,7 @@ run-begins ms r a b wa wb right lo hi m0 m1 v more falling ea eb er ef (e0, b0) 
     record {
       way = ef ∙ rw (er, ea, eb);
       bytes = (omega arith, omega arith);
-      left = rw (em, elo, ehi, e0, e1, ev, ea, eb) (le-refl (valuesLeft (a + b - getD ms 0 0) (min (getD ms 1 0) (a + b)) falling b));
+      left = rw (em, elo, ehi, e0, e1, ev, ea, eb);
     }
 
 -- a move of part 1: the same sum, and its next value
@@ -58,7 +65,7 @@ moves-to ms r x run more = go (x .falling) refl
   where
     go : (b : Bool) → x .falling ≡ b → Moves-to ms r x (movedOf x)
     go true e =
-        let l : x .more ≤ x .second - (sumOf x - getD ms 0 0) = rw e at (run .left) in
+        let l : x .more ≡ x .second - (sumOf x - getD ms 0 0) = rw e at (run .left) in
         let same : x .first + 1 + (x .second - 1) ≡ sumOf x = omega arith in
         let way : true ≡ isOdd (r - sumOf x) = sym e ∙ run .way in
         let bytes = run .bytes in
@@ -69,7 +76,7 @@ moves-to ms r x run more = go (x .falling) refl
           second = rw e;
         }
     go false e =
-        let l : x .more ≤ min (getD ms 1 0) (sumOf x) - x .second = rw e at (run .left) in
+        let l : x .more ≡ min (getD ms 1 0) (sumOf x) - x .second = rw e at (run .left) in
         let same : x .first - 1 + (x .second + 1) ≡ sumOf x = omega arith in
         let way : false ≡ isOdd (r - sumOf x) = sym e ∙ run .way in
         let bytes = run .bytes in
@@ -103,16 +110,16 @@ two-over x (a ∷ b ∷ cells) rest (suc (suc k)) h l = refl
 shown-length : (x : Run) (cells : List ℕ) → 1 < length cells → length (shown x cells) ≡ length cells
 shown-length x cells h = ap length (sym (set-two cells (x .first) (x .second) h)) ∙ simp length-set
 
--- all but the first two copied
-pub copied-later : (cells out : List ℕ) → 1 < length cells → 1 < length out → copied (drop 2 cells) (drop 2 out) ≡ drop 2 (copied cells out)
-unfolding copied
-copied-later (a ∷ b ∷ cells) (c ∷ d ∷ out) h l =
-    let e : min (suc (suc (length cells))) (suc (suc (length out))) ≡ suc (suc (min (length cells) (length out))) = omega arith in
-    rw e
-copied-later [] out h l = absurd (omega arith)
-copied-later (a ∷ []) out h l = absurd (omega arith)
-copied-later (a ∷ b ∷ cells) [] h l = absurd (omega arith)
-copied-later (a ∷ b ∷ cells) (c ∷ []) h l = absurd (omega arith)
+-- all but the first two of the first n
+pub later-taken : (l : List ℕ) (n : ℕ) → 1 < n → take (n - 2) (drop 2 l) ≡ drop 2 (take n l)
+later-taken l zero h = absurd (omega arith)
+later-taken l (suc zero) h = absurd (omega arith)
+later-taken l (suc (suc n)) h = let e : suc (suc n) - 2 ≡ n = omega arith in rw e (go l)
+  where
+    go : (l : List ℕ) → take n (drop 2 l) ≡ drop 2 (take (suc (suc n)) l)
+    go [] = take-nil n
+    go (x ∷ []) = take-nil n
+    go (x ∷ y ∷ l) = refl
 
 -- the run's two parts over cells that were copied
 pub two-copied : (x : Run) (cells out : List ℕ) → 1 < length cells → 1 < length out → shown x (copied cells out) ≡ copied (shown x cells) out
@@ -144,6 +151,41 @@ step-one ms r a b rest u eu fits =
     let sum : rem - u ≡ a + b - u = omega arith in
     rw (← eu) (sym (refill-end ms (0 ∷ u ∷ rest) 1 (rem - u) (r - rem + u) refl (omega arith) fits) ∙ ap (λ (v : ℕ). v ∷ u ∷ rest) sum)
 
+-- part 1 of the composition of a run can move, or cannot
+module _ (ms : List ℕ) (r : ℕ) (x : Run) (parts : List ℕ) (run : Running ms r x) where
+  abbrev shows : List ℕ
+  shows = shown x parts
+
+  abbrev lowest : ℕ
+  lowest = sumOf x - getD ms 0 0
+
+  abbrev highest : ℕ
+  highest = min (getD ms 1 0) (sumOf x)
+
+  can-one : cond (x .falling) (ltb lowest (x .second)) (ltb (x .second) highest) ≡ canMove ms r shows 1
+  can-one =
+      can-here ms r shows 1 (getD ms 0 0) (x .first) (getD ms 1 0) (x .second) (r - sumOf x) lowest highest (x .falling) _
+      (sym (sum-one ms 1 refl)) (sym (sum-one shows 1 refl)) refl refl refl refl refl (run .way) refl
+
+  run-on : 0 < x .more → canMove ms r shows 1 ≡ true
+  run-on more = sym can-one ∙ left-moves lowest highest (x .second) (x .more) (x .falling) more (run .left)
+
+  run-over : x .more ≡ 0 → canMove ms r shows 1 ≡ false
+  run-over none = sym can-one ∙ left-stays lowest highest (x .second) (x .more) (x .falling) none (run .left)
+
+  -- then the search for the part that moves begins at part 2
+  pub run-behind : 1 < length ms → x .more ≡ 0 → (f : PivotSums) → BehindRun ms x f → Begins ms r shows f
+  run-behind wide none f b =
+      rw (b .at)
+      (record {
+        some = omega arith;
+        within = omega arith;
+        left = omega (arith, b .left);
+        sum = omega (arith, b .sum);
+        small = (omega (arith, b .small), omega (arith, b .small));
+        passed = moving-on ms r shows 1 wide (run-over none);
+      })
+
 module _ (ms : List ℕ) (r k : ℕ) (x : Run) (parts : List ℕ) (wide : 1 < length ms) (some : 0 < k) (l : k < countOf ms r)
     (is : shown x parts ≡ compositionOf ms r k) (run : Running ms r x) (more : 0 < x .more) where
   abbrev y : Run
@@ -162,12 +204,7 @@ module _ (ms : List ℕ) (r k : ℕ) (x : Run) (parts : List ℕ) (wide : 1 < le
   sum = omega arith
 
   can : canMove ms r g 1 ≡ true
-  can =
-      let m0 : ℕ = getD ms 0 0 in
-      let hi : ℕ = min (getD ms 1 0) (sumOf x) in
-      sym (can-here ms r g 1 m0 (x .first) (getD ms 1 0) (x .second) (r - sumOf x) (sumOf x - m0) hi (x .falling) _
-      (sym (sum-one ms 1 refl)) (sym (sum-one g 1 refl)) refl refl refl refl refl (run .way) refl)
-      ∙ left-moves (sumOf x - m0) hi (x .second) (x .more) (x .falling) more (run .left)
+  can = run-on ms r x parts run more
 
   pivot : Pivot ms r g 1
   pivot = record { done = first-stays ms r g (omega arith) (moving ms r g valid r (le-refl r)); moves = part-moves ms r g 1 can }

@@ -7,6 +7,7 @@ use lib.ListN.{length, getD, take, drop}
 use Rattle.walsh.specs.Order.{Composition, isOdd, countOf}
 use Rattle.walsh.specs.Serial.{serialOf, compositionOf}
 use Rattle.step.specs.Batch.{copiesOf}
+use Rattle.step.specs.declared.PivotSums.{PivotSums}
 use Rattle.step.specs.declared.batch.Run.{Run}
 
 -- how many of the values lo..hi come after v
@@ -16,11 +17,11 @@ valuesLeft lo hi falling v = cond falling (v - lo) (hi - v)
 abbrev pub sumOf : Run → ℕ
 sumOf x = x .first + x .second
 
--- the way is that of part 1, and it can move at least `more` times
+-- the way is that of part 1, and it can move `more` times
 pub record Running (ms : List ℕ) (r : ℕ) (x : Run) : Type 0 where
   pub way : x .falling ≡ isOdd (r - sumOf x)
   pub bytes : (getD ms 0 0 ≤ 255) × (getD ms 1 0 ≤ 255)
-  pub left : x .more ≤ valuesLeft (sumOf x - getD ms 0 0) (min (getD ms 1 0) (sumOf x)) (x .falling) (x .second)
+  pub left : x .more ≡ valuesLeft (sumOf x - getD ms 0 0) (min (getD ms 1 0) (sumOf x)) (x .falling) (x .second)
 
 -- the composition of a run, over the other parts
 abbrev pub shown : Run → List ℕ → List ℕ
@@ -38,6 +39,13 @@ pub record CanMove (x : Run) : Type 0 where
   pub more : 0 < x .more
   pub down : x .falling ≡ true → (x .first < 255) × (0 < x .second)
   pub up : x .falling ≡ false → (0 < x .first) × (x .second < 255)
+
+-- where the search for the part that moves begins when part 1 cannot: at part 2, with the sums before it
+pub record BehindRun (ms : List ℕ) (x : Run) (f : PivotSums) : Type 0 where
+  pub at : f .at ≡ 2
+  pub left : f .left ≡ getD ms 0 0 + getD ms 1 0
+  pub sum : f .sum ≡ sumOf x
+  pub small : (f .left ≤ 510) × (f .sum ≤ 510)
 
 -- y and the parts show the composition after g
 pub record Onward (ms : List ℕ) (r : ℕ) (g : List ℕ) (y : Run) (parts : List ℕ) : Type 0 where

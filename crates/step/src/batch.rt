@@ -8,8 +8,9 @@ ghost use Rattle.bounds.specs.Refusal.{firstRefusal};
 ghost use Rattle.bounds.specs.Places.{lentChecks, copied};
 ghost use Rattle.bounds.specs.declared.Refusal.{Refusal};
 ghost use Rattle.step.specs.Batch.{beyond, rangeChecks, batchOf};
-ghost use Rattle.step.specs.Run.{valuesLeft, Running, CanMove, movedOf, shown, Onward, Asked, copiesFrom};
-use crate::turn;
+ghost use Rattle.step.specs.Run.{valuesLeft, Running, BehindRun, CanMove, movedOf, shown, Onward, Asked, copiesFrom};
+use crate::PivotSums;
+use crate::turn_from;
 use bounds::Refusal;
 use bounds::copy;
 use bounds::refused;
@@ -115,7 +116,20 @@ fn moved(run: Run) -> Run
     }
 }
 
-// Goes on to the next composition: by the run where it can move, or else by a step of the parts, with which a new run begins.
+// Where the search for the part that moves begins when the run has ended: at part 2, since part 1 cannot move.
+fn behind(upper: &[u8], run: Run) -> PivotSums
+    requires { ⌜ 1 < length (now upper) ⌝ }
+    ensures { λ r. ⌜ BehindRun (now (upper .entry)) run r ⌝ }
+{
+    PivotSums {
+        at: 2,
+        left: wide(upper[0]) + wide(upper[1]),
+        sum: wide(run.first) + wide(run.second),
+        right: 0,
+    }
+}
+
+// Goes on to the next composition: by the run where it can move, or else by a step of the parts from part 2 on, with which a new run begins.
 fn onward(upper: &[u8], total: usize, run: Run, parts: &mut [u8]) -> Run
     requires { ⌜ (1 < length (now upper)) × (length (now upper) ≤ 24) × (total ≤ 255) × (length (now parts) ≡ length (now upper))
         × Running (now upper) total run ⌝ }
@@ -126,24 +140,25 @@ fn onward(upper: &[u8], total: usize, run: Run, parts: &mut [u8]) -> Run
     }
     parts[0] = run.first;
     parts[1] = run.second;
-    turn(upper, total, parts);
+    turn_from(upper, total, behind(upper, run), parts);
     run_of(upper, total, parts)
 }
 
-// Copies 24 cells over the beginning of `out`, or as many as it has room for, but for the first two. All 24 at once are two moves in compiled code;
-// the other copy starts elsewhere so that the compiler does not make one copy of both, whose length would be no constant.
+// Copies 24 cells over the beginning of `out`, or as many as it has room for, but perhaps the first two. All 24 at once are two moves in compiled
+// code; the other copy leaves these two out so that the compiler does not make one copy of both, whose length would be no constant.
 fn lay(cells: &[u8], out: &mut [u8])
     requires { ⌜ (length (now cells) ≡ 24) × (1 < length (now out)) ⌝ }
     ensures { λ _. ⌜ drop 2 (now (out .exit)) ≡ drop 2 (copied (now (cells .entry)) (now (out .entry))) ⌝ }
 {
-    if 24 <= out.len() {
+    let room = out.len();
+    if 24 <= room {
         copy(cells, &mut out[..24]);
         return;
     }
-    copy(&cells[2..], &mut out[2..]);
+    copy(&cells[2..room], &mut out[2..]);
 }
 
-// Writes the composition of a run, whose other parts are those of `cells`, over the beginning of `out`, and all other cells behind it that have room.
+// Writes the composition of a run, whose other parts are those of `cells`, over the beginning of `out`: all 24 cells, or as many as have room.
 fn put(run: Run, cells: &[u8], out: &mut [u8])
     requires { ⌜ (length (now cells) ≡ 24) × (1 < length (now out)) ⌝ }
     ensures { λ _. ⌜ now (out .exit) ≡ copied (shown run (now (cells .entry))) (now (out .entry)) ⌝ }

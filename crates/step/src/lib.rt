@@ -22,7 +22,7 @@ ghost use Rattle.walsh.specs.Step.{firstOf};
 ghost use Rattle.bounds.specs.Edition.{blank};
 ghost use Rattle.step.specs.Steps.{stepOf, successorOf, predecessorOf};
 ghost use Rattle.step.specs.Advance.{turnOf, Advances};
-ghost use Rattle.step.specs.Turn.{PivotAt, shiftedBy};
+ghost use Rattle.step.specs.Turn.{Begins, PivotAt, shiftedBy};
 
 // A composition in 24 cells, or a refusal's number and detail with all else 0.
 #[repr(C)]
@@ -47,14 +47,15 @@ fn moves(v: usize, lo: usize, hi: usize, falling: bool) -> bool
     if falling { lo < v } else { v < hi }
 }
 
-// The first part that can move, or their number. Part 0 has one value only, what the others leave.
-fn pivot(upper: &[u8], total: usize, parts: &[u8]) -> PivotSums
-    requires { ⌜ (0 < length (now upper)) × (length (now upper) ≤ 24) × (length (now parts) ≡ length (now upper)) ⌝ }
+// The first part that can move, or their number. Part 0 has one value only, what the others leave. The search begins at part `start.at`, with the
+// sums of the bounds and of the parts before it.
+fn pivot(upper: &[u8], total: usize, start: PivotSums, parts: &[u8]) -> PivotSums
+    requires { ⌜ (length (now upper) ≤ 24) × (length (now parts) ≡ length (now upper)) × Begins (now upper) total (now parts) start ⌝ }
     ensures { λ r. ⌜ PivotAt (now (upper .entry)) total (now (parts .entry)) r ⌝ }
 {
-    let mut left = wide(upper[0]);
-    let mut sum = wide(parts[0]);
-    let mut i = 1;
+    let mut left = start.left;
+    let mut sum = start.sum;
+    let mut i = start.at;
     while i < parts.len() {
         let m = wide(upper[i]);
         let v = wide(parts[i]);
@@ -102,12 +103,13 @@ fn refill(upper: &[u8], k: usize, left: usize, rest: usize, right: usize, parts:
 }
 
 // Makes the step in place and answers true, or answers false and changes nothing where no part can move. It goes forward where `total` is the
-// total, backward where it is one more. Where the parts are no composition, the rest may not fit: then false too.
-fn turn(upper: &[u8], total: usize, parts: &mut [u8]) -> bool
-    requires { ⌜ (0 < length (now upper)) × (length (now upper) ≤ 24) × (length (now parts) ≡ length (now upper)) × (total ≤ 4294967296) ⌝ }
+// total, backward where it is one more. Where the parts are no composition, the rest may not fit: then false too. No part before `start` can move.
+fn turn_from(upper: &[u8], total: usize, start: PivotSums, parts: &mut [u8]) -> bool
+    requires { ⌜ (length (now upper) ≤ 24) × (length (now parts) ≡ length (now upper)) × (total ≤ 4294967296)
+        × Begins (now upper) total (now parts) start ⌝ }
     ensures { λ r. ⌜ _≡_ {A = Bool × List ℕ} (r, now (parts .exit)) (turnOf (now (upper .entry)) total (now (parts .entry))) ⌝ }
 {
-    let found = pivot(upper, total, parts);
+    let found = pivot(upper, total, start, parts);
     let i = found.at;
     if i == parts.len() {
         return false;
@@ -120,6 +122,20 @@ fn turn(upper: &[u8], total: usize, parts: &mut [u8]) -> bool
     parts[i] = u as u8;
     refill(upper, i, found.left, rest, found.right + u, parts);
     true
+}
+
+// The same, where of no part it is known that it cannot move.
+fn turn(upper: &[u8], total: usize, parts: &mut [u8]) -> bool
+    requires { ⌜ (0 < length (now upper)) × (length (now upper) ≤ 24) × (length (now parts) ≡ length (now upper)) × (total ≤ 4294967296) ⌝ }
+    ensures { λ r. ⌜ _≡_ {A = Bool × List ℕ} (r, now (parts .exit)) (turnOf (now (upper .entry)) total (now (parts .entry))) ⌝ }
+{
+    let start = PivotSums {
+        at: 1,
+        left: wide(upper[0]),
+        sum: wide(parts[0]),
+        right: 0,
+    };
+    turn_from(upper, total, start, parts)
 }
 
 // The forward step in place, for callers that hold a composition and need not have it checked: true and the next composition, or false and

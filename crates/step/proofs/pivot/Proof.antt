@@ -1,6 +1,6 @@
 -- `step::pivot` meets its contract. The search from part i on finds what the whole search finds.
 use Prim.Native.Nat.{_-_, _*_, _≤_, _<_}
-use mathlib.Core.Path.{_≡_, refl, sym, _∙_}
+use mathlib.Core.Path.{_≡_, sym, _∙_}
 use native.Mathlib.Omega.{arith}
 use lib.ListN.{length}
 use borrow.Author.Needs.{needs}
@@ -20,18 +20,20 @@ abbrev μ-loop : tie.MeasureT-loop
 μ-loop upper total parts left₀ sum₀ i₀ left sum i = length upper - i
 
 loop-holds : tie.Need-loop-holds Inv-loop μ-loop
-loop-holds c = (omega arith, omega arith, omega arith, omega arith, omega arith, omega arith, refl)
+loop-holds c =
+    let b = c .before .before .pre .2 in
+    (b .some, b .within, b .left, b .sum, b .small .0, b .small .1, b .passed)
 
 -- what the calls of a turn answer is whether the part can move
 here : (c : tie.After-moves Inv-loop μ-loop) →
     let turn = c .before .before .before .before .before .before .before .before .before .before in
-    let start = turn .before .before .before .before .before .before .before in
+    let start = turn .before .before .before in
     c .moves .result ≡ canMove (start .args .upper .now) (start .args .total) (start .args .parts .now) (turn .loop .i)
 here c =
     let part = c .before .before .before .before .before in
     let bound = part .before .before in
     let turn = bound .before .before .before in
-    let start = turn .before .before .before .before .before .before .before in
+    let start = turn .before .before .before in
     can-here
     (start .args .upper .now)
     (start .args .total)
@@ -39,8 +41,8 @@ here c =
     (turn .loop .i)
     (turn .loop .left)
     (turn .loop .sum)
-    (bound .wide3 .result)
-    (part .wide4 .result)
+    (bound .wide .result)
+    (part .wide2 .result)
     (c .before .before .before .before .over .result)
     (c .before .before .before .over2 .result)
     (c .before .before .lesser .result)
@@ -48,8 +50,8 @@ here c =
     (c .moves .result)
     (turn .loop .inv .2)
     (turn .loop .inv .3)
-    (bound .wide3 .ensures .0)
-    (part .wide4 .ensures .0)
+    (bound .wide .ensures .0)
+    (part .wide2 .ensures .0)
     (c .before .before .before .before .over .ensures)
     (c .before .before .before .over2 .ensures)
     (c .before .before .lesser .ensures)
@@ -60,14 +62,14 @@ returns : tie.Need-returns Inv-loop μ-loop
 returns c =
     let part = c .before .before .before .before .before .before in
     let turn = part .before .before .before .before .before in
-    let start = turn .before .before .before .before .before .before .before in
+    let start = turn .before .before .before in
     let inside : turn .loop .i < length (start .args .upper .now) = omega (arith, part .before .before .before .before .loop-test .taken) in
     record {
       first = moving-stop _ _ _ (turn .loop .i) inside (sym (here (c .before)) ∙ c .if1 .taken) ∙ turn .loop .inv .6;
       left = turn .loop .inv .2;
       small = turn .loop .inv .4;
-      sum = λ l. omega (arith, part .wide4 .ensures);
-      right = λ l. c .before .before .before .before .before .over .ensures ∙ (omega (arith, part .wide4 .ensures));
+      sum = λ l. omega (arith, part .wide2 .ensures);
+      right = λ l. c .before .before .before .before .before .over .ensures ∙ (omega (arith, part .wide2 .ensures));
     }
 
 loop-again : tie.Need-loop-again Inv-loop μ-loop
@@ -75,7 +77,7 @@ loop-again c =
     let part = c .before .before .before .before .before .before in
     let bound = part .before .before in
     let turn = bound .before .before .before in
-    let start = turn .before .before .before .before .before .before .before in
+    let start = turn .before .before .before in
     let ms = start .args .upper .now in
     let g = start .args .parts .now in
     let i = turn .loop .i in
@@ -106,10 +108,6 @@ pivot-spec =
     (tie.spec
     Inv-loop
     μ-loop
-    (λ c. search needs)
-    (λ c κs. search needs)
-    (λ c. search needs)
-    (λ c κs. search needs)
     loop-holds
     (λ c. search needs)
     (λ c κs. search needs)

@@ -1,4 +1,4 @@
--- `step::turn` meets its contract: the laws of proofs/Turns at each return.
+-- `step::turn_from` meets its contract: the laws of proofs/Turns at each return.
 use Prim.Native.Nat.{_≤_, _<_}
 use mathlib.Core.Path.{_≡_, _∙_}
 use native.Mathlib.Omega.{arith}
@@ -7,12 +7,15 @@ use borrow.Author.Needs.{needs}
 use Rattle.walsh.specs.Order.{isOdd}
 use Rattle.walsh.specs.Step.{nextValue}
 use Rattle.step.proofs.Turns.{found-some, found-within, found-small, turn-last, turn-over, turn-on}
-use Rattle.step.proofs.turn.Statement.{statement}
-use Rattle.step.proofs.turn.Tie as tie
+use Rattle.step.proofs.turn_from.Statement.{statement}
+use Rattle.step.proofs.turn_from.Tie as tie
 
 -- no part can move
 returns : tie.Need-returns
 returns c = turn-last _ _ _ _ (c .before .pivot .ensures) (omega (arith, c .if1 .taken))
+
+some-at : (c : tie.Start) → 0 < length (c .args .upper .now)
+some-at c = omega (arith, c .pre .3 .some, c .pre .3 .within)
 
 -- the part that was found is one of the parts
 inside : (c : tie.After-next-value) →
@@ -20,7 +23,7 @@ inside : (c : tie.After-next-value) →
     at .pivot .result .at < length (at .before .before .before .before .args .upper .now)
 inside c =
     let at = c .before .before .before .before in
-    omega (arith, found-within _ _ _ _ (at .pivot .ensures) (at .before .before .before .before .pre .0), c .before .before .before .if1 .left)
+    omega (arith, found-within _ _ _ _ (at .pivot .ensures) (some-at (at .before .before .before .before)), c .before .before .before .if1 .left)
 
 -- its next value
 value : (c : tie.After-next-value) →
@@ -57,10 +60,10 @@ refill-requires c κs =
     let bytes = small next in (
       found-some _ _ _ _ found,
       omega (arith, inside next),
-      omega (arith, inside next, same, start .pre .2),
+      omega (arith, inside next, same, start .pre .1),
       found .left,
       omega arith,
-      omega (arith, inside next, found .small, start .pre .1),
+      omega (arith, inside next, found .small, start .pre .0),
       omega arith,
     )
 
@@ -76,11 +79,11 @@ returns-3 c =
     let next = c .before .before .before .before .before .before .before .before in
     let at = next .before .before .before .before in
     let w = c .before .before .refill in
-    turn-on _ _ _ _ (at .pivot .ensures) (inside next) _ (value next) (at .before .before .before .before .pre .2) (omega arith)
+    turn-on _ _ _ _ (at .pivot .ensures) (inside next) _ (value next) (at .before .before .before .before .pre .1) (omega arith)
     (w .last .1 .1 .1 .1 .1 .0) (w .ensures)
 
-pub turn-spec : {M : Type 1} → statement M
-turn-spec =
+pub turn-from-spec : {M : Type 1} → statement M
+turn-from-spec =
     tie.close
     (tie.spec
     (λ c κs. search needs)
@@ -89,7 +92,7 @@ turn-spec =
     (λ c.
     let at = c .before .before in
     let start = at .before .before .before .before in
-    omega (arith, found-within _ _ _ _ (at .pivot .ensures) (start .pre .0), c .before .if1 .left, start .pre .2))
+    omega (arith, found-within _ _ _ _ (at .pivot .ensures) (some-at start), c .before .if1 .left, start .pre .1))
     (λ c κs. search needs)
     (λ c κs. search needs)
     (λ c. small (c .before) .1)
@@ -98,7 +101,7 @@ turn-spec =
     (λ c. omega (arith, small (c .before .before .before)))
     (λ c.
     let next = c .before .before .before in
-    omega (arith, inside next, next .before .before .before .before .before .before .before .before .pre .2))
+    omega (arith, inside next, next .before .before .before .before .before .before .before .before .pre .1))
     (λ c. omega (arith, small (c .before .before .before .before)))
     refill-requires
     same-length-3
