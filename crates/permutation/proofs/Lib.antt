@@ -3,6 +3,7 @@ pub mod Sets
 pub mod Smaller
 pub mod Inverse
 pub mod Vectors
+pub mod Entries
 pub mod Exchanges
 pub mod Raised
 pub mod Serials

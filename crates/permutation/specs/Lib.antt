@@ -1,5 +1,6 @@
 pub mod Permutation
 pub mod Values
+pub mod Entries
 pub mod Exchange
 pub mod Reading
 pub mod Numbered

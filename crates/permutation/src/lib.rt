@@ -6,9 +6,9 @@ use places::composition_refusal;
 use places::lent_refusal;
 use walsh::wide;
 ghost use mathlib.Core.Path.{_≡_};
-ghost use mathlib.Core.List.{List, map, _++_};
+ghost use mathlib.Core.List.{List, _++_};
 ghost use Prim.Native.Nat.{ℕ, _+_, _-_, _^_, _≤_, _<_};
-ghost use lib.ListN.{length, getD, take, drop};
+ghost use lib.ListN.{length, getD, take};
 ghost use Rattle.bounds.specs.Refusal.{firstRefusal};
 ghost use Rattle.bounds.specs.Edition.{editionChecks};
 ghost use Rattle.bounds.specs.declared.Refusal.{Refusal};
@@ -17,6 +17,7 @@ ghost use Rattle.permutation.specs.Conversions.{staircaseChecks, permuta
 ghost use Rattle.permutation.specs.Conversions.{toPermutation, toComposition};
 ghost use Rattle.permutation.specs.Permutation.{IsPermutation, isPermutation, inversions, inversionVector, lift, permutationOf};
 ghost use Rattle.permutation.specs.Values.{aloneOf, HasValues};
+ghost use Rattle.permutation.specs.Entries.{lifts};
 
 // The inversion vector of a permutation of at most 25 entries, followed by zeros, and its sum. (A copy of 32 bytes is faster than one of 25.)
 struct SummedVector {
@@ -28,6 +29,12 @@ struct SummedVector {
 struct Converted {
     refusal: Refusal,
     vector: [u8; 32],
+}
+
+// Two entries of a permutation.
+struct Pair {
+    first: u8,
+    second: u8,
 }
 
 // The bit of the value v in a set.
@@ -96,32 +103,46 @@ fn lifted(c: u8, x: u8) -> u8
     if c < x { x + 1 } else { x }
 }
 
-// Makes room for the value c + 1 among the entries from place `from` on.
-fn make_room(out: &mut [u8], from: usize, c: u8)
-    requires { ⌜ (from ≤ length (now out)) × ((j : ℕ) → from ≤ j → getD (now out) j 0 < 255) ⌝ }
-    ensures { λ _. ⌜ now (out .exit) ≡ take from (now (out .entry)) ++ map (lift c) (drop from (now (out .entry))) ⌝ }
+// Both values with the room that the first i parts of g ask for, the last of them first. (Two at once: neither waits for the other.)
+fn lift_both(g: &[u8], i: usize, x: u8, y: u8) -> Pair
+    requires { ⌜ (i ≤ length (now g)) × (x + i ≤ 255) × (y + i ≤ 255) ⌝ }
+    ensures { λ r. ⌜ (r .first ≡ lifts (now (g .entry)) i x) × (r .second ≡ lifts (now (g .entry)) i y) ⌝ }
 {
-    let mut j = from;
-    while j < out.len() {
-        out[j] = lifted(c, out[j]);
-        j += 1;
+    let mut first = x;
+    let mut second = y;
+    let mut j = i;
+    while 0 < j {
+        j -= 1;
+        let c = g[j];
+        first = lifted(c, first);
+        second = lifted(c, second);
     }
+    Pair { first, second }
 }
 
-// Fills out with the permutation whose inversion vector is g, from the last place to the first.
+// The value at place i before the parts in front of it ask for room; behind the last part it is 1.
+fn own(g: &[u8], i: usize) -> u8
+    requires { ⌜ getD (now g) i 0 < 255 ⌝ }
+    ensures { λ r. ⌜ r ≡ getD (now (g .entry)) i 0 + 1 ⌝ }
+{
+    if i < g.len() { g[i] + 1 } else { 1 }
+}
+
+// Fills out with the permutation whose inversion vector is g, two places at a time from the last to the first; place 0 may be left over.
 fn fill_permutation(g: &[u8], out: &mut [u8])
     requires { ⌜ (length (now g) ≤ 24) × (length (now out) ≡ length (now g) + 1)
         × ((i : ℕ) → i < length (now g) → getD (now g) i 0 ≤ length (now g) - i) ⌝ }
     ensures { λ _. ⌜ now (out .exit) ≡ permutationOf (now (g .entry)) ⌝ }
 {
-    let mut i = g.len();
-    out[i] = 1;
-    while 0 < i {
-        let after = i;
-        i -= 1;
+    out[0] = own(g, 0);
+    let mut i = out.len();
+    while 1 < i {
+        i -= 2;
         let c = g[i];
-        make_room(out, after, c);
-        out[i] = c + 1;
+        let next = lifted(c, own(g, i + 1));
+        let pair = lift_both(g, i, c + 1, next);
+        out[i] = pair.first;
+        out[i + 1] = pair.second;
     }
 }
 
