@@ -5,7 +5,7 @@ use Prim.Native.Nat.{ℕ, zero, suc, _+_, _-_, _*_, _%_, _^_, _≤_, _<_}
 use native.Mathlib.Nat.{le-refl}
 use native.Mathlib.Omega.{arith}
 use native.Mathlib.Decide.{ℕ-discrete}
-use lib.ListN.{length, getD, take, drop, set, replicate, length-drop, length-set}
+use lib.ListN.{length, getD, take, drop, set, length-drop, length-set}
 use lib.Seq.{drop-cons, drop-length}
 use lib.Seq.{getD-set-same, getD-set-other}
 use lib.Bits.{bitOr}
@@ -43,12 +43,12 @@ pub record FoundFrom (p : List ℕ) (i : ℕ) (vector : List ℕ) (sum behind : 
   pub parts : (j : ℕ) → i ≤ j → j < length p → getD vector j 0 ≡ smallerAfter p j
 
 module _ (p : List ℕ) (short : length p ≤ 25) where
-  pub found-start : FoundFrom p (length p) (replicate 32 0) 0 0
-  found-start =
+  pub found-start : (vector : List ℕ) → length vector ≡ 32 → FoundFrom p (length p) vector 0 0
+  found-start vector size =
       let none : drop (length p) p ≡ [] = drop-length p in
       record {
         place = le-refl (length p);
-        cells = refl;
+        cells = size;
         values = rw none values-none;
         total = rw none (unfold inversions in refl);
         few = omega arith;

@@ -19,18 +19,6 @@ ghost use Rattle.permutation.specs.Permutation.{IsPermutation, isPermuta
 ghost use Rattle.permutation.specs.Values.{aloneOf, HasValues};
 ghost use Rattle.permutation.specs.Entries.{lifts};
 
-// The inversion vector of a permutation of at most 25 entries, followed by zeros, and its sum. (A copy of 32 bytes is faster than one of 25.)
-struct SummedVector {
-    vector: [u8; 32],
-    sum: u32,
-}
-
-// The refusal of a permutation; where it is none, the inversion vector.
-struct Converted {
-    refusal: Refusal,
-    vector: [u8; 32],
-}
-
 // Two entries of a permutation.
 struct Pair {
     first: u8,
@@ -76,12 +64,13 @@ fn is_permutation(p: &[u8], k: usize) -> bool
     u32::count_ones(value_set(p) / 2 % power(k)) as usize == k
 }
 
-// The inversion vector, from the last place to the first: the values below the entry are counted in the set of those behind it.
-fn find_inversions(p: &[u8]) -> SummedVector
-    requires { ⌜ (length (now p) ≤ 25) × IsPermutation (length (now p)) (now p) ⌝ }
-    ensures { λ r. ⌜ (take (length (now (p .entry)) - 1) (r .vector) ≡ inversionVector (now (p .entry))) × (r .sum ≡ inversions (now (p .entry))) ⌝ }
+// Writes the inversion vector to the beginning of 32 cells, from the last place to the first, and gives its sum: the values below the entry are
+// counted in the set of those behind it.
+fn find_inversions(p: &[u8], vector: &mut [u8]) -> u32
+    requires { ⌜ (length (now p) ≤ 25) × IsPermutation (length (now p)) (now p) × (length (now vector) ≡ 32) ⌝ }
+    ensures { λ r. ⌜ (take (length (now (p .entry)) - 1) (now (vector .exit)) ≡ inversionVector (now (p .entry)))
+        × (r ≡ inversions (now (p .entry))) ⌝ }
 {
-    let mut vector = [0u8; 32];
     let mut sum = 0u32;
     let mut behind = 0u32;
     let mut i = p.len();
@@ -93,7 +82,7 @@ fn find_inversions(p: &[u8]) -> SummedVector
         sum += smaller;
         behind = behind | here;
     }
-    SummedVector { vector, sum }
+    sum
 }
 
 fn lifted(c: u8, x: u8) -> u8
@@ -160,34 +149,19 @@ fn staircase_refusal(upper: &[u8], total: u32) -> Refusal
     refused(10, 0)
 }
 
-// A refusal, and no vector.
-fn without_vector(refusal: Refusal) -> Converted
-    ensures { λ r. ⌜ r .refusal ≡ refusal ⌝ }
-{
-    Converted {
-        refusal,
-        vector: [0u8; 32],
-    }
-}
-
-// The place 'sheet orders' from 11 on, with the vector that it needs.
-fn read_permutation(upper: &[u8], total: u32, p: &[u8]) -> Converted
-    requires { ⌜ length (now upper) ≤ 24 ⌝ }
-    ensures { λ r. ⌜ (r .refusal ≡ firstRefusal (permutationChecks byInversions (now (upper .entry)) total (now (p .entry))))
-        × (r .refusal .number ≡ 0 → take (length (now (upper .entry))) (r .vector) ≡ inversionVector (now (p .entry))) ⌝ }
+// The place 'sheet orders' from 11 on; where nothing is refused, the inversion vector stands at the beginning of 32 cells.
+fn read_permutation(upper: &[u8], total: u32, p: &[u8], vector: &mut [u8]) -> Refusal
+    requires { ⌜ (length (now upper) ≤ 24) × (length (now vector) ≡ 32) ⌝ }
+    ensures { λ r. ⌜ (r ≡ firstRefusal (permutationChecks byInversions (now (upper .entry)) total (now (p .entry))))
+        × (r .number ≡ 0 → take (length (now (upper .entry))) (now (vector .exit)) ≡ inversionVector (now (p .entry))) ⌝ }
 {
     if !is_permutation(p, upper.len() + 1) {
-        return without_vector(refused(11, 0));
+        return refused(11, 0);
     }
-    let found = find_inversions(p);
-    if found.sum != total {
-        return without_vector(refused(12, 0));
+    if find_inversions(p, vector) != total {
+        return refused(12, 0);
     }
-    let vector = found.vector;
-    Converted {
-        refusal: refused(0, 0),
-        vector,
-    }
+    refused(0, 0)
 }
 
 // All that can refuse a composition and a lent part of `room` bytes.
@@ -205,24 +179,27 @@ fn to_permutation_refusal(upper: &[u8], total: u32, g: &[u8], room: usize) -> Re
     lent_refusal(upper.len() + 1, room)
 }
 
-// All that can refuse a permutation and a lent part of `room` bytes; where nothing does, the inversion vector.
-fn to_composition(upper: &[u8], total: u32, p: &[u8], room: usize) -> Converted
-    ensures { λ r. ⌜ (r .refusal ≡ firstRefusal (toCompositionChecks byInversions (now (upper .entry)) total (now (p .entry)) room))
-        × (r .refusal .number ≡ 0 → take room (r .vector) ≡ inversionVector (now (p .entry))) ⌝ }
+// All that can refuse a permutation and a lent part of `room` bytes; where nothing does, the inversion vector stands at the beginning of 32 cells.
+fn to_composition_refusal(
+    upper: &[u8],
+    total: u32,
+    p: &[u8],
+    room: usize,
+    vector: &mut [u8],
+) -> Refusal
+    requires { ⌜ length (now vector) ≡ 32 ⌝ }
+    ensures { λ r. ⌜ (r ≡ firstRefusal (toCompositionChecks byInversions (now (upper .entry)) total (now (p .entry)) room))
+        × (r .number ≡ 0 → take room (now (vector .exit)) ≡ inversionVector (now (p .entry))) ⌝ }
 {
     let stairs = staircase_refusal(upper, total);
     if stairs.number != 0 {
-        return without_vector(stairs);
+        return stairs;
     }
-    let given = read_permutation(upper, total, p);
-    if given.refusal.number != 0 {
+    let given = read_permutation(upper, total, p, vector);
+    if given.number != 0 {
         return given;
     }
-    let vector = given.vector;
-    Converted {
-        refusal: lent_refusal(upper.len(), room),
-        vector,
-    }
+    lent_refusal(upper.len(), room)
 }
 
 // document 01: mix to order. Fills the lent part with the permutation whose inversion vector is the composition.
@@ -245,11 +222,11 @@ pub fn inversions(upper: &[u8], total: u32, permutation: &[u8], out: &mut [u8]) 
         ⌜ _≡_ {A = Refusal × List ℕ} (r, now (out .exit))
         (toComposition byInversions (now (upper .entry)) total (now (permutation .entry)) (now (out .entry))) ⌝ }
 {
-    let converted = to_composition(upper, total, permutation, out.len());
-    if converted.refusal.number != 0 {
-        return converted.refusal;
+    let mut vector = [0u8; 32];
+    let answer = to_composition_refusal(upper, total, permutation, out.len(), &mut vector);
+    if answer.number != 0 {
+        return answer;
     }
-    let vector = converted.vector;
     bounds::copy(&vector, out);
-    converted.refusal
+    answer
 }

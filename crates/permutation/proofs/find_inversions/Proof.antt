@@ -1,5 +1,5 @@
 -- `permutation::find_inversions` meets its contract. From place i on the vector and the inversions are found.
-use mathlib.Core.Path.{refl}
+use mathlib.Core.Path.{refl, sym, _∙_}
 use Prim.Native.Nat.{_%_, _≤_}
 use native.Mathlib.Omega.{arith}
 use borrow.Author.Needs.{needs}
@@ -16,11 +16,12 @@ abbrev μ-loop : tie.MeasureT-loop
 μ-loop p vector₀ sum₀ behind₀ i₀ vector sum behind i = i
 
 loop-holds : tie.Need-loop-holds Inv-loop μ-loop
-loop-holds c = found-start (c .before .args .p .now) (c .before .pre .0)
+loop-holds c = let start = c .before .before in
+    found-start (start .args .p .now) (start .pre .0) (start .args .vector .now) (start .pre .2)
 
 power-requires : tie.Need-power-requires Inv-loop μ-loop
 power-requires c κs = let test = c .before .before in
-    let start = test .before .before .before in
+    let start = test .before .before .before .before in
     entry-small (start .args .p .now) (start .pre .0) (start .pre .1) (test .before .loop .inv) (test .loop-test .taken) _ (c .wide .ensures .0)
 
 rem-smaller : tie.Need-rem-smaller Inv-loop μ-loop
@@ -29,24 +30,27 @@ rem-smaller c = omega (arith, c .power .ensures, pow-pos (c .before .wide .resul
 -- how many are smaller
 few : (c : tie.After-power Inv-loop μ-loop) → ones (c .before .before .before .before .loop .behind % c .power .result) ≤ 25
 few c = let test = c .before .before .before in
-    let start = test .before .before .before in
+    let start = test .before .before .before .before in
     let p = start .args .p .now in
     rw (c .power .ensures)
     (behind-few p (start .pre .0) (start .pre .1) (test .before .loop .inv) (test .loop-test .taken) _ (c .before .wide .ensures .0))
 
-array-write-vector : tie.Need-array-write-vector Inv-loop μ-loop
-array-write-vector c = let turn = c .before .before .before .before in
-    omega (arith, turn .before .before .pre .0, turn .loop .inv .place)
+slice-write-vector : tie.Need-slice-write-vector Inv-loop μ-loop
+slice-write-vector c = let turn = c .before .before .before .before in
+    omega (arith, turn .before .before .before .pre .0, turn .loop .inv .place, turn .loop .inv .cells)
 
 loop-again : tie.Need-loop-again Inv-loop μ-loop
 loop-again c = let test = c .before .before .before in
-    let start = test .before .before .before in
+    let start = test .before .before .before .before in
     let p = start .args .p .now in
     rw (c .power .ensures)
     (found-turn p (start .pre .0) (start .pre .1) (test .before .loop .inv) (test .loop-test .taken) _ (c .before .wide .ensures .0) _ refl)
 
+same-length : tie.Need-same-length Inv-loop μ-loop
+same-length c = c .before .loop .inv .cells ∙ sym (c .before .before .before .before .pre .2)
+
 returns : tie.Need-returns Inv-loop μ-loop
-returns c = let start = c .before .before .before in
+returns c = let start = c .before .before .before .before in
     let p = start .args .p .now in
     let found = c .before .loop .inv in
     (found-vector p (start .pre .0) found (c .loop-test .left), found-sum p (start .pre .0) found (c .loop-test .left))
@@ -64,8 +68,9 @@ find-inversions-spec =
     power-requires
     rem-smaller
     (λ c. omega (arith, few c))
-    array-write-vector
+    slice-write-vector
     (λ c. omega (arith, few c, c .before .before .before .before .loop .inv .few))
     (λ c. search needs)
     loop-again
+    same-length
     returns)

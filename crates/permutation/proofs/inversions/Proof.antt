@@ -1,5 +1,5 @@
 -- `permutation::inversions` meets its contract.
-use mathlib.Core.Path.{_∙_}
+use mathlib.Core.Path.{refl, _∙_}
 use native.Mathlib.Omega.{arith}
 use borrow.Author.Needs.{needs}
 use Rattle.bounds.proofs.Cells.{copied-over}
@@ -12,17 +12,16 @@ use Rattle.permutation.proofs.inversions.Tie as tie
 
 returns : tie.Need-returns
 unfolding toComposition
-returns c = let test = c .before in
-    filling-refused _ _ _ (test .before .before .to-composition .ensures .0) (test .if1 .taken)
+returns c = filling-refused _ _ _ (c .before .before .before .to-composition-refusal .ensures .0) (c .if1 .taken)
 
 returns-2 : tie.Need-returns-2
 unfolding toComposition
 returns-2 c =
-    let copied = c .before .before .before in
-    let test = copied .before .before .before .before in
-    let checked = test .before .before in
-    let args = checked .before .before .before .before .args in
-    let is = checked .to-composition .ensures in
+    let copied = c .before .before in
+    let test = copied .before .before .before in
+    let checked = test .before .before .before in
+    let args = checked .before .before .before .before .before .args in
+    let is = checked .to-composition-refusal .ensures in
     let none = test .if1 .left in
     let room =
     to-composition-ready byInversions (omega arith) (args .upper .now) (args .total) (args .permutation .now) _ _ (is .0) none (is .1 none) in
@@ -31,4 +30,11 @@ returns-2 c =
 pub inversions-spec : {M : Type 1} → statement M
 inversions-spec =
     tie.close
-    (tie.spec (λ c κs. search needs) returns (λ c. search needs) (λ c κs. search needs) (λ c. search needs) returns-2)
+    (tie.spec
+    (λ c. search needs)
+    (λ c κs. search needs)
+    returns
+    (λ c. search needs)
+    (λ c κs. search needs)
+    (λ c. search needs)
+    returns-2)

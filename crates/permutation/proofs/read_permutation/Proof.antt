@@ -14,25 +14,28 @@ use Rattle.permutation.proofs.read_permutation.Tie as tie
 
 returns : tie.Need-returns
 unfolding firstRefusal
-returns c = let test = c .before .before in
-    let is = c .without-vector .ensures ∙ c .before .refused .ensures in
+returns c = let test = c .before in
+    let is = c .refused .ensures in
     (simp (sym (test .before .is-permutation .ensures) ∙ not-true _ (test .if1 .taken)) is, λ none. absurd (refused-not is (omega arith) none))
 
 -- p is a permutation, and has an entry more than there are bounds
-passed : (c : tie.Else1)
-    → IsPermutation (length (c .before .before .before .before .args .upper .now) + 1) (c .before .before .before .before .args .p .now)
+passed : (c : tie.Else1) → let args = c .before .before .before .before .before .args in
+    IsPermutation (length (args .upper .now) + 1) (args .p .now)
 passed c = is-permutation _ _ .0 (sym (c .before .is-permutation .ensures) ∙ not-false _ (c .if1 .left))
 
 find-inversions-requires : tie.Need-find-inversions-requires
-find-inversions-requires c κs = (omega (arith, passed c .size), rw (passed c .size) (passed c))
+find-inversions-requires c κs = let is = passed (c .before) in
+    let pre = c .before .before .before .before .before .before .pre in
+    (omega (arith, is .size, pre .0), rw (is .size) is, pre .1)
 
 returns-2 : tie.Need-returns-2
 unfolding firstRefusal
-returns-2 c = let test = c .before .before in
-    let found = test .before .before in
-    let is = c .without-vector2 .ensures ∙ c .before .refused2 .ensures in (
+returns-2 c = let test = c .before in
+    let found = test .before .before .before in
+    let first = found .before .before in
+    let is = c .refused2 .ensures in (
       simp (
-        sym (found .before .before .is-permutation .ensures) ∙ not-false _ (found .before .if1 .left),
+        sym (first .before .is-permutation .ensures) ∙ not-false _ (first .if1 .left),
         ne-eqb _ _ (λ e. test .if2 .taken (found .find-inversions .ensures .1 ∙ e)),
       )
           is,
@@ -41,12 +44,13 @@ returns-2 c = let test = c .before .before in
 
 returns-3 : tie.Need-returns-3
 unfolding firstRefusal
-returns-3 c = let test = c .before .before in
-    let found = test .before .before in
-    let args = found .before .before .before .before .before .args in
-    let one-less : length (args .p .now) - 1 ≡ length (args .upper .now) = omega (arith, passed (found .before) .size) in (
+returns-3 c = let test = c .before in
+    let found = test .before .before .before in
+    let first = found .before .before in
+    let args = first .before .before .before .before .before .args in
+    let one-less : length (args .p .now) - 1 ≡ length (args .upper .now) = omega (arith, passed first .size) in (
       simp (
-        sym (found .before .before .is-permutation .ensures) ∙ not-false _ (found .before .if1 .left),
+        sym (first .before .is-permutation .ensures) ∙ not-false _ (first .if1 .left),
         eq-eqb _ _ (sym (found .find-inversions .ensures .1) ∙ test .if2 .left),
       )
           (c .refused3 .ensures),
@@ -60,11 +64,11 @@ read-permutation-spec =
     (λ c. search needs)
     (λ c κs. search needs)
     (λ c κs. search needs)
-    (λ c κs. search needs)
     returns
     find-inversions-requires
     (λ c κs. search needs)
-    (λ c κs. search needs)
+    (λ c. search needs)
     returns-2
     (λ c κs. search needs)
+    (λ c. search needs)
     returns-3)
