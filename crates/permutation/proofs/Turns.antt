@@ -1,4 +1,4 @@
--- What one turn of each loop of the code does.
+-- What one turn of each loop over a permutation does.
 use mathlib.Core.Path.{_≡_, refl, sym, _∙_}
 use mathlib.Core.List.{List, [], _∷_}
 use Prim.Native.Nat.{ℕ, zero, suc, _+_, _-_, _*_, _%_, _^_, _≤_, _<_}
@@ -6,8 +6,7 @@ use native.Mathlib.Nat.{le-refl}
 use native.Mathlib.Omega.{arith}
 use native.Mathlib.Decide.{ℕ-discrete}
 use lib.ListN.{length, getD, take, drop, set, length-drop, length-set}
-use lib.Seq.{drop-cons, drop-length}
-use lib.Seq.{getD-set-same, getD-set-other}
+use lib.Seq.{drop-cons, drop-length, getD-set-same, getD-set-other}
 use lib.Bits.{bitOr}
 use lib.Count.{ones}
 use lib.Dec.{eqb, ltb}
