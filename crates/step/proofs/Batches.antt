@@ -1,21 +1,36 @@
 -- The answers of a batch, from those of the places that are checked.
 use mathlib.Core.Path.{_≡_, refl, sym, ap, _∙_}
-use mathlib.Core.List.{List, _++_}
+use mathlib.Core.Bool.{true, false}
+use mathlib.Core.List.{List, [], _∷_, _++_}
 use Prim.Native.Nat.{ℕ, _+_, _-_, _*_, _≤_, _<_}
 use native.Mathlib.Omega.{arith}
 use lib.Dec.{eqb, ltb}
 use lib.ListN.{length}
 use borrow.Author.Tests.{eqb-true, eqb-false, ltb-false, not-false}
 use Rattle.walsh.specs.Order.{countOf}
+use Rattle.walsh.proofs.Cases.{on-test}
 use Rattle.bounds.specs.Refusal.{Check, firstRefusal}
 use Rattle.bounds.specs.Edition.{editionChecks}
-use Rattle.bounds.specs.Places.{isNoSerial, lentChecks}
+use Rattle.bounds.specs.Places.{isNoSerial, noSerial, lentChecks}
 use Rattle.bounds.specs.declared.Refusal.{Refusal}
-use Rattle.bounds.proofs.Refusals.{passed}
+use Rattle.bounds.proofs.Refusals.{same-number, refusal-next, passed}
 use Rattle.bounds.proofs.Editions.{neither}
 use Rattle.bounds.proofs.Chains.{answer-first, answer-later}
 use Rattle.bounds.proofs.Filling.{filling-refused, filling-done}
 use Rattle.step.specs.Batch.{rangeChecks, batchChecks, copiesOf, batchOf}
+
+-- a serial that is refused is none of 1..all, and one that is not is one of them
+module _ (all s : ℕ) {v : Refusal} (e : v ≡ firstRefusal (noSerial all s ∷ [])) where
+  pub serial-none : (v .number ≡ 0 → ⊥) → isNoSerial all s ≡ true
+  unfolding firstRefusal
+  serial-none h = on-test (isNoSerial all s) (λ t. t) (λ t. absurd (h (same-number (e ∙ refusal-next (noSerial all s) [] t))))
+
+  pub serial-some : v .number ≡ 0 → (isNoSerial all s ≡ false) × (0 < s) × (s ≤ all)
+  serial-some z =
+      let none = passed (noSerial all s) [] refl (same-number (sym e) ∙ z) .0 in
+      let inside = neither (eqb s 0) (ltb all s) none in
+      let least = eqb-false s 0 (inside .0) in
+      (none, omega arith, ltb-false all s (inside .1))
 
 -- what an accepted range of serials, and an accepted lent part of `have` bytes, are
 pub record Ranged (all n s c have : ℕ) : Type 0 where

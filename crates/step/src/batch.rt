@@ -24,10 +24,8 @@ use walsh::wide;
 fn is_beyond(count: u64, serial: u64, copies: u64) -> bool
     ensures { λ r. ⌜ r ≡ beyond count serial copies ⌝ }
 {
-    if serial == 0 {
-        return true;
-    }
-    if count < serial {
+    let given = places::serial_refusal(count, serial);
+    if given.number != 0 {
         return true;
     }
     count - serial + 1 < copies
