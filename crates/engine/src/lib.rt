@@ -133,7 +133,7 @@ pub extern "C" fn huz_inversions(
 
 #[no_mangle]
 pub extern "C" fn huz_open(upper: &[u8], total: u32, orders: &[u32]) -> Opened
-    ensures { λ r. ⌜ r ≡ opening (now (upper .entry)) total (now (orders .entry)) ⌝ }
+    ensures { λ r. ⌜ r ≡ opening (record { bounds = now (upper .entry); total = total }) (now (orders .entry)) ⌝ }
 {
     ledger::open(upper, total, orders)
 }

@@ -1,7 +1,7 @@
 -- Laws for the loops over the entries and over the cells.
-use mathlib.Core.Path.{_≡_, refl, sym}
+use mathlib.Core.Path.{_≡_, refl, sym, _∙_}
 use mathlib.Core.Logic.{_≢_}
-use mathlib.Core.Bool.{false, cond}
+use mathlib.Core.Bool.{Bool, false, cond}
 use mathlib.Core.List.{List, [], _∷_, _++_}
 use Prim.Native.Nat.{ℕ, _+_, _≤_, _<_, suc-le-suc}
 use native.Mathlib.Numerals.{add-one}
@@ -12,31 +12,35 @@ use lib.Seq.{take-suc, drop-cons}
 use borrow.Author.Tests.{eq-eqb, ne-eqb}
 use Rattle.walsh.specs.Serial.{same}
 use Rattle.walsh.proofs.Cases.{on-test}
-use Rattle.model.specs.Basics.{indexOf}
-use Rattle.model.proofs.Lists.{howMany-snoc, zeros-or-not}
-use Rattle.walsh.specs.Tests.{times}
+use Rattle.model.specs.Basics.{howMany, firstPlace}
+use Rattle.model.specs.Entry.{isVoided, sameOrder}
+use Rattle.model.proofs.Lists.{many-append}
+use Rattle.model.proofs.Entries.{sold-or-voided}
 use Rattle.integrity.specs.Examine.{Scanned}
 
 -- ---- how often a number stands in a list
 
-pub often-none : (x : ℕ) (l : List ℕ) → times x l ≡ 0 → length l ≤ indexOf x l
+pub often-none : (x : ℕ) (l : List ℕ) → howMany (sameOrder x) l ≡ 0 → length l ≤ firstPlace (sameOrder x) l
 often-none x [] e = omega arith
 often-none x (y ∷ l) e =
     on-test (eqb y x)
-    (λ t. let one : 1 + times x l ≡ 0 = rw t at e in absurd (omega arith))
-    (λ t. let rest : 0 + times x l ≡ 0 = rw t at e in rw t (suc-le-suc (often-none x l (omega arith))))
+    (λ t. let one : 1 + howMany (sameOrder x) l ≡ 0 = rw t at e in absurd (omega arith))
+    (λ t. let rest : 0 + howMany (sameOrder x) l ≡ 0 = rw t at e in rw t (suc-le-suc (often-none x l (omega arith))))
 
-pub often-some : (x : ℕ) (l : List ℕ) → 0 < times x l → indexOf x l < length l
+pub often-some : (x : ℕ) (l : List ℕ) → 0 < howMany (sameOrder x) l → firstPlace (sameOrder x) l < length l
 often-some x [] h = absurd (omega arith)
 often-some x (y ∷ l) h =
     on-test (eqb y x)
     (λ t. rw t (omega arith))
-    (λ t. let rest : 0 < 0 + times x l = rw t at h in rw t (suc-le-suc (often-some x l (omega arith))))
+    (λ t. let rest : 0 < 0 + howMany (sameOrder x) l = rw t at h in rw t (suc-le-suc (often-some x l (omega arith))))
 
 -- ---- one entry more
 
 pub scanned-none : (x : ℕ) → Scanned [] x 0 0
 scanned-none x = record { zeros-are = refl; hits-are = refl }
+
+snoc : (test : ℕ → Bool) (l : List ℕ) (y : ℕ) → howMany test (l ++ (y ∷ [])) ≡ howMany test l + cond (test y) 1 0
+snoc test l y = many-append test l (y ∷ []) ∙ omega arith
 
 more : (l : List ℕ) (x y z h a b : ℕ) → Scanned l x z h
     → a ≡ cond (eqb y 0) 1 0
@@ -44,8 +48,8 @@ more : (l : List ℕ) (x y z h a b : ℕ) → Scanned l x z h
     → Scanned (l ++ (y ∷ [])) x (z + a) (h + b)
 more l x y z h a b s ea eb =
     record {
-      zeros-are = rw (ea, s .zeros-are) (sym (howMany-snoc (λ v. eqb v 0) l y));
-      hits-are = rw (eb, s .hits-are) (sym (howMany-snoc (λ v. eqb v x) l y));
+      zeros-are = rw (ea, s .zeros-are) (sym (snoc isVoided l y));
+      hits-are = rw (eb, s .hits-are) (sym (snoc (sameOrder x) l y));
     }
 
 pub scanned-more : (col : List ℕ) (i x z h a b : ℕ) → i < length col → Scanned (take i col) x z h
@@ -55,7 +59,7 @@ pub scanned-more : (col : List ℕ) (i x z h a b : ℕ) → i < length col → S
 scanned-more col i x z h a b l s ea eb = rw (add-one i, take-suc col i 0 l) (more (take i col) x (getD col i 0) z h a b s ea eb)
 
 pub scanned-few : (col : List ℕ) (n x z h : ℕ) → Scanned (take n col) x z h → z ≤ n
-scanned-few col n x z h s = omega (arith, s .zeros-are, zeros-or-not (take n col), length-take n col)
+scanned-few col n x z h s = omega (arith, s .zeros-are, sold-or-voided (take n col), length-take n col)
 
 -- ---- two lists of cells
 

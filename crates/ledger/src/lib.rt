@@ -7,9 +7,9 @@ use model::Opened;
 ghost use mathlib.Core.Path.{_≡_};
 ghost use mathlib.Core.Bool.{true};
 ghost use Prim.Native.Nat.{_+_, _≤_, _<_};
-ghost use lib.ListN.{length};
+ghost use Rattle.model.specs.Printing.{size, nextComposition};
 ghost use Rattle.model.specs.Model.{Call};
-ghost use Rattle.model.specs.Record.{compositionsOf, nextComposition, blankLedger, opening, consistent, answered, calling, entriesOf};
+ghost use Rattle.model.specs.Record.{printingOf, blankLedger, opening, consistent, answered, calling, entriesOf};
 ghost use Rattle.ledger.specs.Entering.{entering};
 
 // ---- opening
@@ -34,7 +34,7 @@ pub fn unopened(number: u32, detail: u64) -> Opened
 
 // A ledger without entries. No entry of the column is written.
 pub fn open(upper: &[u8], total: u32, orders: &[u32]) -> Opened
-    ensures { λ r. ⌜ r ≡ opening (now (upper .entry)) total (now (orders .entry)) ⌝ }
+    ensures { λ r. ⌜ r ≡ opening (record { bounds = now (upper .entry); total = total }) (now (orders .entry)) ⌝ }
 {
     let first = rank::locate(upper, total, 1);
     if 0 < first.number {
@@ -66,9 +66,9 @@ pub fn open(upper: &[u8], total: u32, orders: &[u32]) -> Opened
 // The composition after the record's, by one step; the last stays.
 fn following(ledger: Ledger) -> [u8; 24]
     requires { ⌜ (ledger .bounds .parts ≤ 24)
-        × (ledger .next ≡ nextComposition (compositionsOf (ledger .bounds)) (ledger .entries))
-        × (ledger .entries < length (compositionsOf (ledger .bounds))) ⌝ }
-    ensures { λ r. ⌜ r ≡ nextComposition (compositionsOf (ledger .bounds)) (ledger .entries + 1) ⌝ }
+        × (ledger .next ≡ nextComposition (printingOf ledger) (ledger .entries))
+        × (ledger .entries < size (printingOf ledger)) ⌝ }
+    ensures { λ r. ⌜ r ≡ nextComposition (printingOf ledger) (ledger .entries + 1) ⌝ }
 {
     let bounds = ledger.bounds;
     let n = bounds.parts;
@@ -87,7 +87,7 @@ fn enter(
     sold: u64,
     voided: u64,
 ) -> Claimed
-    requires { ⌜ (consistent ledger (now orders) ≡ true) × (ledger .entries < length (compositionsOf (ledger .bounds))) ⌝ }
+    requires { ⌜ (consistent ledger (now orders) ≡ true) × (ledger .entries < size (printingOf ledger)) ⌝ }
     ensures { λ r. ⌜ (r, now (orders .exit)) ≡ entering ledger (now (orders .entry)) answer order sold voided ⌝ }
 {
     let at = ledger.entries as usize;

@@ -6,8 +6,9 @@ use native.Mathlib.Numerals.{add-one}
 use native.Mathlib.Omega.{arith}
 use lib.ListN.{length, getD, take, set, length-set}
 use lib.Seq.{take-suc, length-take-le, length-paste}
-use Rattle.model.specs.Basics.{over}
-use Rattle.model.specs.Model.{Call, peek, Event}
+use Rattle.model.specs.Basics.{replaced}
+use Rattle.model.specs.Entry.{Lent}
+use Rattle.model.specs.Model.{Call, peek, Event, event}
 use Rattle.model.specs.Record.{answered, recordAfter, columnAfter, calling, run}
 use Rattle.model.specs.declared.Answer.{Answer}
 use Rattle.model.specs.declared.Claimed.{Claimed}
@@ -18,20 +19,20 @@ use Rattle.replay.proofs.Scripts.{Fit}
 use Rattle.replay.proofs.Traces.{snoc, numbers-snoc, cells-more, full-snoc}
 
 -- what a call leaves, part by part
-pub record Did (r : Ledger) (col : List ℕ) (c : Call) (t : Claimed) (col′ : List ℕ) : Type 0 where
+pub record Did (r : Ledger) (col : Lent) (c : Call) (t : Claimed) (col′ : Lent) : Type 0 where
   pub answer : t .answer ≡ answered r col c
   pub ledger : t .ledger ≡ recordAfter r col c
   pub column : col′ ≡ columnAfter r col c
 
-pub did : (r : Ledger) (col : List ℕ) (c : Call) (t : Claimed) (col′ : List ℕ)
-    → _≡_ {A = Claimed × List ℕ} (t, col′) (calling r col c)
+pub did : (r : Ledger) (col : Lent) (c : Call) (t : Claimed) (col′ : Lent)
+    → _≡_ {A = Claimed × Lent} (t, col′) (calling r col c)
     → Did r col c t col′
 unfolding calling
 did r col c t col′ e =
     record {
-      answer = ap (λ (p : Claimed × List ℕ). p .0 .answer) e;
-      ledger = ap (λ (p : Claimed × List ℕ). p .0 .ledger) e;
-      column = ap (λ (p : Claimed × List ℕ). p .1) e;
+      answer = ap (λ (p : Claimed × Lent). p .0 .answer) e;
+      ledger = ap (λ (p : Claimed × Lent). p .0 .ledger) e;
+      column = ap (λ (p : Claimed × Lent). p .1) e;
     }
 
 -- an answer at place i of the buffers b, which then are b′
@@ -45,7 +46,7 @@ module _ (r : Ledger) (cs : List Call) (c : Call) (b b′ b″ : Buffers) (l : L
   before = run r (b .column) cs .trace
 
   abbrev last : Event
-  last = record { call = c; reply = t .answer }
+  last = event c (t .answer)
 
   module _ (w : Ran r cs b b′ l) (g : Did l (b′ .column) c t (b″ .column)) where
     trace-grown : run r (b .column) (cs ++ (c ∷ [])) .trace ≡ before ++ (last ∷ [])
@@ -53,14 +54,14 @@ module _ (r : Ledger) (cs : List Call) (c : Call) (b b′ b″ : Buffers) (l : L
 
     grown : (f : Answer → ℕ) (d d′ d″ : List ℕ)
         → length cs < length d
-        → d′ ≡ over d (map (λ x. f (x .reply)) before)
+        → d′ ≡ replaced d (map (λ x. f (x .reply)) before)
         → d″ ≡ set d′ (length cs) (f (t .answer))
-        → d″ ≡ over d (map (λ x. f (x .reply)) (run r (b .column) (cs ++ (c ∷ [])) .trace))
+        → d″ ≡ replaced d (map (λ x. f (x .reply)) (run r (b .column) (cs ++ (c ∷ [])) .trace))
     grown f d d′ d″ h is p =
         let k = snoc r (b .column) cs c .size in
         p
         ∙ rw (is, ← k) (numbers-snoc d (λ x. f (x .reply)) before last (omega arith))
-        ∙ ap (λ (y : List Event). over d (map (λ x. f (x .reply)) y)) (sym trace-grown)
+        ∙ ap (λ (y : List Event). replaced d (map (λ x. f (x .reply)) y)) (sym trace-grown)
 
     pub one-more :
         PutIn (t .answer) (length cs) b′ b″

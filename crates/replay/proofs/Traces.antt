@@ -7,29 +7,30 @@ use lib.ListN.{length, take, drop, set, length-append, length-drop, length-map}
 use lib.Seq.{paste, take-append-seam, drop-append-add, drop-drop, take-all, take-length, length-take-le, take-at, drop-at}
 use Rattle.bounds.specs.Places.{copied}
 use Rattle.bounds.proofs.Cells.{copied-same}
-use Rattle.model.specs.Basics.{over}
-use Rattle.model.specs.Model.{Call, Event}
+use Rattle.model.specs.Basics.{replaced}
+use Rattle.model.specs.Entry.{Lent}
+use Rattle.model.specs.Model.{Call, Event, event}
 use Rattle.model.specs.Record.{answered, recordAfter, columnAfter, run}
 use Rattle.model.specs.declared.Ledger.{Ledger}
-use Rattle.model.proofs.Lists.{set-over}
+use Rattle.model.proofs.Lists.{sets-replaced}
 use Rattle.replay.specs.Replay.{shown}
 use Rattle.replay.specs.Progress.{joined, Full}
 
 -- one call more
-pub record Snoc (r : Ledger) (col : List ℕ) (cs : List Call) (c : Call) : Type 0 where
+pub record Snoc (r : Ledger) (col : Lent) (cs : List Call) (c : Call) : Type 0 where
   pub trace : run r col (cs ++ (c ∷ [])) .trace
-      ≡ run r col cs .trace ++ (record { call = c; reply = answered (run r col cs .ledger) (run r col cs .column) c } ∷ [])
+      ≡ run r col cs .trace ++ (event c (answered (run r col cs .ledger) (run r col cs .column) c) ∷ [])
   pub ledger : run r col (cs ++ (c ∷ [])) .ledger ≡ recordAfter (run r col cs .ledger) (run r col cs .column) c
   pub column : run r col (cs ++ (c ∷ [])) .column ≡ columnAfter (run r col cs .ledger) (run r col cs .column) c
   pub size : length (run r col cs .trace) ≡ length cs
 
-pub snoc : (r : Ledger) (col : List ℕ) (cs : List Call) (c : Call) → Snoc r col cs c
+pub snoc : (r : Ledger) (col : Lent) (cs : List Call) (c : Call) → Snoc r col cs c
 unfolding run
 snoc r col [] c = record { trace = refl; ledger = refl; column = refl; size = refl }
 snoc r col (x ∷ cs) c =
     let i = snoc (recordAfter r col x) (columnAfter r col x) cs c in
     record {
-      trace = ap {B = List Event} (λ t. record { call = x; reply = answered r col x } ∷ t) (i .trace);
+      trace = ap {B = List Event} (λ t. event x (answered r col x) ∷ t) (i .trace);
       ledger = i .ledger;
       column = i .column;
       size = ap suc (i .size);
@@ -39,11 +40,12 @@ snoc r col (x ∷ cs) c =
 
 -- one number for each call
 pub numbers-snoc : (d : List ℕ) (f : Event → ℕ) (t : List Event) (x : Event) → length t < length d
-    → set (over d (map f t)) (length t) (f x) ≡ over d (map f (t ++ (x ∷ [])))
+    → set (replaced d (map f t)) (length t) (f x) ≡ replaced d (map f (t ++ (x ∷ [])))
 numbers-snoc d f t x h =
     let e = length-map t f in
-    let p : set (over d (map f t)) (length (map f t)) (f x) ≡ over d (map f t ++ (f x ∷ [])) = set-over d (map f t) (f x) (omega arith) in
-    ap (λ (k : ℕ). set (over d (map f t)) k (f x)) (sym e) ∙ p ∙ ap (over d) (sym (map-append f t (x ∷ [])))
+    let p : set (replaced d (map f t)) (length (map f t)) (f x) ≡ replaced d (map f t ++ (f x ∷ [])) =
+    sets-replaced (f x ∷ []) d (map f t) (omega arith) in
+    ap (λ (k : ℕ). set (replaced d (map f t)) k (f x)) (sym e) ∙ p ∙ ap (replaced d) (sym (map-append f t (x ∷ [])))
 
 -- the cells of the compositions so far
 abbrev pub cellsIn : List Event → List ℕ
@@ -57,8 +59,8 @@ cells-snoc : (t : List Event) (x : Event) → cellsIn (t ++ (x ∷ [])) ≡ cell
 cells-snoc t x =
     ap joined (map-append (λ y. y .reply .composition) t (x ∷ [])) ∙ joined-snoc (map (λ y. y .reply .composition) t) (x .reply .composition)
 
-paste-over : (d l m : List ℕ) → paste (over d l) (length l) m (length m) ≡ over d (l ++ m)
-paste-over d l m =
+paste-replaced : (d l m : List ℕ) → paste (replaced d l) (length l) m (length m) ≡ replaced d (l ++ m)
+paste-replaced d l m =
     rw (
       take-append-seam l (drop (length l) d),
       take-length m,
@@ -83,12 +85,12 @@ full-length [] f = refl
 full-length (x ∷ t) f = length-append (x .reply .composition) (cellsIn t) ∙ omega (arith, f .0, full-length t (f .1))
 
 pub cells-more : (m : List ℕ) (t : List Event) (x : Event) → Full t → length (x .reply .composition) ≡ 24
-    → paste (over m (cellsIn t)) (length t * 24) (x .reply .composition) 24 ≡ over m (cellsIn (t ++ (x ∷ [])))
+    → paste (replaced m (cellsIn t)) (length t * 24) (x .reply .composition) 24 ≡ replaced m (cellsIn (t ++ (x ∷ [])))
 cells-more m t x f h =
-    ap (λ (i : ℕ). paste (over m (cellsIn t)) i (x .reply .composition) 24) (sym (full-length t f))
-    ∙ ap (paste (over m (cellsIn t)) (length (cellsIn t)) (x .reply .composition)) (sym h)
-    ∙ paste-over m (cellsIn t) (x .reply .composition)
-    ∙ ap (over m) (sym (cells-snoc t x))
+    ap (λ (i : ℕ). paste (replaced m (cellsIn t)) i (x .reply .composition) 24) (sym (full-length t f))
+    ∙ ap (paste (replaced m (cellsIn t)) (length (cellsIn t)) (x .reply .composition)) (sym h)
+    ∙ paste-replaced m (cellsIn t) (x .reply .composition)
+    ∙ ap (replaced m) (sym (cells-snoc t x))
 
 pub full-snoc : (t : List Event) (x : Event) → Full t → length (x .reply .composition) ≡ 24 → Full (t ++ (x ∷ []))
 full-snoc [] x f h = (h, tt)
@@ -108,7 +110,7 @@ read-back (x ∷ t) n d s m f =
       read-back t n d s m (f .1),
     )
 
-pub run-calls : (r : Ledger) (col : List ℕ) (cs : List Call) → map (λ x. x .call) (run r col cs .trace) ≡ cs
+pub run-calls : (r : Ledger) (col : Lent) (cs : List Call) → map (λ x. x .call) (run r col cs .trace) ≡ cs
 unfolding run
 run-calls r col [] = refl
 run-calls r col (c ∷ cs) = ap {B = List Call} (λ l. c ∷ l) (run-calls (recordAfter r col c) (columnAfter r col c) cs)

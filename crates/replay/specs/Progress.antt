@@ -4,7 +4,7 @@ use mathlib.Core.List.{List, [], _∷_, _++_, map}
 use Prim.Native.Nat.{ℕ, _*_}
 use lib.ListN.{length, set}
 use lib.Seq.{paste}
-use Rattle.model.specs.Basics.{over}
+use Rattle.model.specs.Basics.{replaced}
 use Rattle.model.specs.Model.{Call, Event}
 use Rattle.model.specs.Record.{run}
 use Rattle.model.specs.declared.Answer.{Answer}
@@ -33,8 +33,8 @@ Full (x ∷ t) = (length (x .reply .composition) ≡ 24) × Full t
 pub record Ran (r : Ledger) (cs : List Call) (b b′ : Buffers) (l : Ledger) : Type 0 where
   pub ledger : l ≡ run r (b .column) cs .ledger
   pub column : b′ .column ≡ run r (b .column) cs .column
-  pub numbers : b′ .numbers ≡ over (b .numbers) (map (λ x. x .reply .number) (run r (b .column) cs .trace))
-  pub details : b′ .details ≡ over (b .details) (map (λ x. x .reply .detail) (run r (b .column) cs .trace))
-  pub granted : b′ .granted ≡ over (b .granted) (map (λ x. x .reply .serial) (run r (b .column) cs .trace))
-  pub compositions : b′ .compositions ≡ over (b .compositions) (joined (map (λ x. x .reply .composition) (run r (b .column) cs .trace)))
+  pub numbers : b′ .numbers ≡ replaced (b .numbers) (map (λ x. x .reply .number) (run r (b .column) cs .trace))
+  pub details : b′ .details ≡ replaced (b .details) (map (λ x. x .reply .detail) (run r (b .column) cs .trace))
+  pub granted : b′ .granted ≡ replaced (b .granted) (map (λ x. x .reply .serial) (run r (b .column) cs .trace))
+  pub compositions : b′ .compositions ≡ replaced (b .compositions) (joined (map (λ x. x .reply .composition) (run r (b .column) cs .trace)))
   pub full : Full (run r (b .column) cs .trace)

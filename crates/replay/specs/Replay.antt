@@ -9,7 +9,9 @@ use lib.Dec.{eqb}
 use lib.ListN.{length, getD, take, drop}
 use Rattle.bounds.specs.Refusal.{Check, check, firstRefusal}
 use Rattle.model.specs.Basics.{all}
-use Rattle.model.specs.Model.{Call, peek, claim, void, Event}
+use Rattle.model.specs.Entry.{Lent, room}
+use Rattle.model.specs.Printing.{Printing}
+use Rattle.model.specs.Model.{Call, peek, claim, void, Event, event}
 use Rattle.model.specs.Record.{blankLedger, openingChecks, Run}
 use Rattle.model.specs.Whole.{ran, secondList, Whole}
 use Rattle.model.specs.declared.Ledger.{Ledger}
@@ -28,13 +30,13 @@ script calls serials orders = record { calls = calls; serials = serials; orders 
 
 -- the column, and the buffers for the answers: numbers, details, the serials granted, and compositions, 24 cells each
 pub record Buffers : Type 0 where
-  pub column : List ℕ
+  pub column : Lent
   pub numbers : List ℕ
   pub details : List ℕ
   pub granted : List ℕ
   pub compositions : List ℕ
 
-abbrev pub buffers : (column numbers details granted compositions : List ℕ) → Buffers
+abbrev pub buffers : (column : Lent) (numbers details granted compositions : List ℕ) → Buffers
 buffers column numbers details granted compositions =
     record { column = column; numbers = numbers; details = details; granted = granted; compositions = compositions }
 
@@ -56,7 +58,7 @@ abbrev pub shown : List Call → (n d s m : List ℕ) → List Event
 shown [] n d s m = []
 shown (c ∷ cs) n d s m =
     let t = shown cs (drop 1 n) (drop 1 d) (drop 1 s) (drop 24 m) in
-    record { call = c; reply = record { number = getD n 0 0; detail = getD d 0 0; serial = getD s 0 0; composition = take 24 m } } ∷ t
+    event c (record { number = getD n 0 0; detail = getD d 0 0; serial = getD s 0 0; composition = take 24 m }) ∷ t
 
 -- a run as the record, the column and the buffers show it
 abbrev pub seen : List Call → Ledger → Buffers → Run
@@ -83,21 +85,21 @@ sizes x b =
 abbrev pub sizeChecks : Script → Buffers → List Check
 sizeChecks x b = check 13 (not (all (sizes x b))) 0 ∷ []
 
-abbrev pub replayChecks : List ℕ → ℕ → Script → Buffers → List Check
-replayChecks ms r x b = openingChecks ms r (length (b .column)) ++ sizeChecks x b
+abbrev pub replayChecks : Printing → Script → Buffers → List Check
+replayChecks p x b = openingChecks p (room (b .column)) ++ sizeChecks x b
 
 -- ---- the promise: with b lent, o is answered and b′ left
 
 -- What is seen is the run of the list, with all that is said of the list as a whole. The buffers have exactly the entries of the answers, so the run
 -- says all that stands in them; what the column holds besides the entries is in `Whole .column`.
-pub record Replayed (ms : List ℕ) (r : ℕ) (cs : List Call) (b b′ : Buffers) (l : Ledger) : Type 0 where
-  pub run : seen cs l b′ ≡ ran ms r (b .column) cs
-  pub whole : Whole ms r (b .column) cs (seen cs l b′) (ran ms r (b .column) (secondList (seen cs l b′)))
+pub record Replayed (p : Printing) (cs : List Call) (b b′ : Buffers) (l : Ledger) : Type 0 where
+  pub run : seen cs l b′ ≡ ran p (b .column) cs
+  pub whole : Whole p (b .column) cs (seen cs l b′) (ran p (b .column) (secondList (seen cs l b′)))
 
 -- "A refusal answers its number and a detail [..] and changes no lent byte"; "a refused opening, a record all zeros", also where the lengths do
 -- not fit
-pub record Replays (ms : List ℕ) (r : ℕ) (x : Script) (b b′ : Buffers) (o : Opened) : Type 0 where
-  pub number : o .number ≡ firstRefusal (replayChecks ms r x b) .number
-  pub detail : o .detail ≡ firstRefusal (replayChecks ms r x b) .detail
+pub record Replays (p : Printing) (x : Script) (b b′ : Buffers) (o : Opened) : Type 0 where
+  pub number : o .number ≡ firstRefusal (replayChecks p x b) .number
+  pub detail : o .detail ≡ firstRefusal (replayChecks p x b) .detail
   pub refused : o .number ≢ 0 → (o .ledger ≡ blankLedger) × (b′ ≡ b)
-  pub accepted : o .number ≡ 0 → Replayed ms r (callsOf x) b b′ (o .ledger)
+  pub accepted : o .number ≡ 0 → Replayed p (callsOf x) b b′ (o .ledger)

@@ -131,7 +131,7 @@ pub fn replay(
     compositions: &mut [u8],
 ) -> Opened
     ensures { λ r.
-        ⌜ Replays (now (upper .entry)) total
+        ⌜ Replays (record { bounds = now (upper .entry); total = total })
         (script (now (calls .entry)) (now (serials .entry)) (now (orders .entry)))
         (buffers (now (column .entry)) (now (numbers .entry)) (now (details .entry)) (now (granted .entry)) (now (compositions .entry)))
         (buffers (now (column .exit)) (now (numbers .exit)) (now (details .exit)) (now (granted .exit)) (now (compositions .exit)))

@@ -11,16 +11,20 @@ use lib.Dec.{eqb}
 use lib.ListN.{length, getD, take}
 use borrow.Author.Tests.{eq-eqb, ne-eqb}
 use Rattle.walsh.proofs.Cases.{on-test, on-less}
-use Rattle.model.specs.Basics.{indexOf}
+use Rattle.model.specs.Basics.{firstPlace}
+use Rattle.model.specs.Entry.{sameOrder}
 
-passes : (x y i : ℕ) (l : List ℕ) → indexOf x (y ∷ l) ≡ suc i → (eqb y x ≡ false) × (indexOf x l ≡ i)
+passes : (x y i : ℕ) (l : List ℕ) → firstPlace (sameOrder x) (y ∷ l) ≡ suc i → (eqb y x ≡ false) × (firstPlace (sameOrder x) l ≡ i)
 passes x y i l p =
     on-test (eqb y x)
     (λ t. let z : 0 ≡ suc i = rw t at p in absurd (omega arith))
-    (λ t. let q : suc (indexOf x l) ≡ suc i = rw t at p in (t, omega arith))
+    (λ t. let q : suc (firstPlace (sameOrder x) l) ≡ suc i = rw t at p in (t, omega arith))
 
 -- x does not stand among the first i: its place there is i itself
-pub index-found : (l : List ℕ) (n i x : ℕ) → i < n → n ≤ length l → indexOf x (take i l) ≡ i → getD l i 0 ≡ x → indexOf x (take n l) ≡ i
+pub index-found : (l : List ℕ) (n i x : ℕ) → i < n → n ≤ length l
+    → firstPlace (sameOrder x) (take i l) ≡ i
+    → getD l i 0 ≡ x
+    → firstPlace (sameOrder x) (take n l) ≡ i
 index-found [] n i x h k p e = absurd (omega arith)
 index-found (y ∷ l) zero i x h k p e = absurd (omega arith)
 index-found (y ∷ l) (suc n) zero x h k p e = rw (eq-eqb y x e)
@@ -28,10 +32,12 @@ index-found (y ∷ l) (suc n) (suc i) x h k p e =
     let q = passes x y i (take i l) p in
     rw (q .0) (ap suc (index-found l n i x (le-of-suc-le-suc h) (le-of-suc-le-suc k) (q .1) e))
 
-pub index-more : (l : List ℕ) (i x : ℕ) → i < length l → indexOf x (take i l) ≡ i → getD l i 0 ≢ x → indexOf x (take (i + 1) l) ≡ i + 1
+pub index-more : (l : List ℕ) (i x : ℕ) → i < length l → firstPlace (sameOrder x) (take i l) ≡ i → getD l i 0 ≢ x
+    → firstPlace (sameOrder x) (take (i + 1) l) ≡ i + 1
 index-more l i x h p n = rw (add-one i) (go l i h p n)
   where
-    go : (l : List ℕ) (i : ℕ) → i < length l → indexOf x (take i l) ≡ i → getD l i 0 ≢ x → indexOf x (take (suc i) l) ≡ suc i
+    go : (l : List ℕ) (i : ℕ) → i < length l → firstPlace (sameOrder x) (take i l) ≡ i → getD l i 0 ≢ x
+        → firstPlace (sameOrder x) (take (suc i) l) ≡ suc i
     go [] i h p n = absurd (omega arith)
     go (y ∷ l) zero h p n = rw (ne-eqb y x n)
     go (y ∷ l) (suc i) h p n =
@@ -41,8 +47,8 @@ index-more l i x h p n = rw (add-one i) (go l i h p n)
 -- the search among the first n has passed i of them: x stands at place `at`, or at none of those passed
 pub record Seeking (l : List ℕ) (n x at i : ℕ) : Type 0 where
   pub within : at ≤ n
-  pub none : i ≤ at → (at ≡ n) × (indexOf x (take i l) ≡ i)
-  pub found : at < i → at ≡ indexOf x (take n l)
+  pub none : i ≤ at → (at ≡ n) × (firstPlace (sameOrder x) (take i l) ≡ i)
+  pub found : at < i → at ≡ firstPlace (sameOrder x) (take n l)
 
 module _ {l : List ℕ} {n x at i : ℕ} (k : n ≤ length l) (s : Seeking l n x at i) where
   pub seeking-hit : {at′ : ℕ} → i < at → getD l i 0 ≡ x → at′ ≡ i → Seeking l n x at′ (i + 1)
@@ -57,8 +63,8 @@ module _ {l : List ℕ} {n x at i : ℕ} (k : n ≤ length l) (s : Seeking l n x
       let p = s .none (omega arith) in
       record { within = omega arith; none = λ z. (q ∙ p .0, index-more l i x (omega arith) (p .1) e); found = λ z. absurd (omega arith) }
 
-  pub seeking-done : at ≤ i → at ≡ indexOf x (take n l)
+  pub seeking-done : at ≤ i → at ≡ firstPlace (sameOrder x) (take n l)
   seeking-done h =
       on-less at i
       (λ z t. s .found z)
-      (λ z t. let p = s .none z in let q : i ≡ n = omega arith in p .0 ∙ sym (ap (λ (j : ℕ). indexOf x (take j l)) (sym q) ∙ p .1 ∙ q))
+      (λ z t. let p = s .none z in let q : i ≡ n = omega arith in p .0 ∙ sym (ap (λ (j : ℕ). firstPlace (sameOrder x) (take j l)) (sym q) ∙ p .1 ∙ q))

@@ -7,9 +7,11 @@ ghost use mathlib.Core.Bool.{true};
 ghost use Prim.Native.Nat.{_+_, _≤_, _<_};
 ghost use lib.ListN.{length, take};
 ghost use Rattle.bounds.specs.Places.{mostEntries};
-ghost use Rattle.model.specs.Basics.{indexOf};
-ghost use Rattle.model.specs.Model.{Call, blank, answer};
-ghost use Rattle.model.specs.Record.{compositionsOf, written, consistent, answered};
+ghost use Rattle.model.specs.Basics.{firstPlace};
+ghost use Rattle.model.specs.Entry.{sameOrder};
+ghost use Rattle.model.specs.Printing.{blank, size};
+ghost use Rattle.model.specs.Model.{Call, answer};
+ghost use Rattle.model.specs.Record.{printingOf, written, consistent, answered};
 
 fn refused(number: u32, detail: u64) -> Answer
     ensures { λ r. ⌜ r ≡ record { number = number; detail = detail; serial = 0; composition = blank } ⌝ }
@@ -59,8 +61,8 @@ fn wide(x: u32) -> u64
 
 // The checks of a serial, 6, 18 and 19, which are those of a void.
 fn place(ledger: Ledger, orders: &[u32], count: u64, serial: u64) -> Answer
-    requires { ⌜ (consistent ledger (now orders) ≡ true) × (count ≡ length (compositionsOf (ledger .bounds))) ⌝ }
-    ensures { λ r. ⌜ r ≡ answer (compositionsOf (ledger .bounds)) (written ledger (now (orders .entry))) (Call.void serial) ⌝ }
+    requires { ⌜ (consistent ledger (now orders) ≡ true) × (count ≡ size (printingOf ledger)) ⌝ }
+    ensures { λ r. ⌜ r ≡ answer (printingOf ledger) (written ledger (now (orders .entry))) (Call.void serial) ⌝ }
 {
     if serial == 0 {
         return refused(6, 0);
@@ -82,7 +84,7 @@ fn place(ledger: Ledger, orders: &[u32], count: u64, serial: u64) -> Answer
 // The lowest place among the first n entries at which the order stands; n where it does not.
 fn find(orders: &[u32], n: usize, order: u32) -> usize
     requires { ⌜ n ≤ length (now orders) ⌝ }
-    ensures { λ r. ⌜ r ≡ indexOf order (take n (now (orders .entry))) ⌝ }
+    ensures { λ r. ⌜ r ≡ firstPlace (sameOrder order) (take n (now (orders .entry))) ⌝ }
 {
     let mut at = n;
     let mut i: usize = 0;

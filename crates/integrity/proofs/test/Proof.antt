@@ -14,8 +14,8 @@ use Rattle.integrity.proofs.test.Statement.{statement}
 use Rattle.integrity.proofs.test.Tie as tie
 
 -- the edition is accepted
-known : (c : tie.Else1) → let s = c .before .before .before in Asked (s .args .ledger .bounds) (s .args .ledger .entries) (s .args .at)
-known c = asked _ _ _ (c .before .before .before .pre .1) (le-zero (c .if1 .left))
+known : (c : tie.Else1) → let s = c .before .before .before in Asked (s .args .ledger) (s .args .at)
+known c = asked _ _ (c .before .before .before .pre .1) (le-zero (c .if1 .left))
 
 returns : tie.Need-returns
 returns c = no-edition _ _ _ (c .unseen .ensures) (c .before .before .before .before .pre .1) (c .before .if1 .taken)

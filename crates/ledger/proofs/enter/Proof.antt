@@ -19,8 +19,8 @@ pub enter-spec : {M : Type 1} → statement M
 enter-spec =
     tie.close
     (tie.spec
-    (λ c. omega (arith, full (c .before) .room, c .before .pre .1, c .before .good .1 .0 .1))
-    (λ c. omega (arith, full (c .before) .room, c .before .pre .1))
+    (λ c. omega (arith, full (c .before) .fits, c .before .pre .1, c .before .good .1 .0 .1))
+    (λ c. omega (arith, full (c .before) .fits, c .before .pre .1))
     following-requires
     (λ c. let s = c .before .before .before .before in omega (arith, full s .small, s .pre .1))
     (λ c. search needs)

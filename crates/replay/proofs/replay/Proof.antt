@@ -26,14 +26,14 @@ returns : tie.Need-returns
 returns c =
     let s = c .before .before .before .before .before .before .before .before .before .before .before .before .before in
     let opened = c .before .before .«open» in
-    replay-unopened _ _ (scripted s) (lent s) (opened .result) (opened .ensures) (c .if1 .taken)
+    replay-unopened _ (scripted s) (lent s) (opened .result) (opened .ensures) (c .if1 .taken)
 
 returns-2 : tie.Need-returns-2
 returns-2 c =
     let e = c .before .before .before in
     let s = e .before .before .before .before .before .before .before .before .before .before .before .before .before in
     let opened = e .before .before .«open» in
-    replay-unfit _ _ (scripted s) (lent s) (opened .result) (opened .ensures) (e .if1 .left)
+    replay-unfit _ (scripted s) (lent s) (opened .result) (opened .ensures) (e .if1 .left)
     (sym (c .before .before .fits2 .ensures) ∙ not-true _ (c .before .if2 .taken)) _ (c .unopened .ensures)
 
 returns-3 : tie.Need-returns-3
@@ -43,7 +43,7 @@ returns-3 c =
     let e = e2 .before .before in
     let s = e .before .before .before .before .before .before .before .before .before .before .before .before .before in
     let opened = e .before .before .«open» in
-    replay-done _ _ (scripted s) (lent s) (opened .result) (opened .ensures) (e .if1 .left) _ _ (fits e2) (after .run .ensures)
+    replay-done _ (scripted s) (lent s) (opened .result) (opened .ensures) (e .if1 .left) _ _ (fits e2) (after .run .ensures)
 
 pub replay-spec : {M : Type 1} → statement M
 replay-spec =

@@ -1,22 +1,34 @@
 -- `reply::claim` meets its contract.
 use mathlib.Core.Path.{_≡_, sym, ap, _∙_}
 use mathlib.Core.Bool.{true}
+use mathlib.Core.List.{[]}
 use Prim.Native.Nat.{ℕ, _+_, _<_}
 use native.Mathlib.Omega.{arith}
 use lib.Arith.{le-zero}
 use lib.ListN.{length}
 use denote.Ref.{now}
 use borrow.Author.Needs.{needs}
-use borrow.Author.Tests.{not-true, not-false}
+use borrow.Author.Tests.{not-true, not-false, eq-eqb, ne-eqb}
 use Rattle.model.specs.declared.Answer.{Answer}
-use Rattle.model.specs.Basics.{indexOf}
+use Rattle.model.specs.Basics.{firstPlace}
+use Rattle.model.specs.Entry.{sameOrder}
+use Rattle.model.specs.Model.{noOrder, orderChecks, refusedWith}
+use Rattle.bounds.specs.Refusal.{refused, firstRefusal}
+use Rattle.bounds.proofs.Refusals.{refusal-here}
+use Rattle.bounds.proofs.Chains.{Accepts}
 use Rattle.model.specs.Record.{consistent, written}
-use Rattle.model.specs.Model.{refusedWith}
 use Rattle.model.proofs.Records.{parts, answered-16, answered-by}
 use Rattle.model.proofs.Answers.{claim-none, claim-refused, claim-again, claim-good}
 use Rattle.integrity.proofs.Scans.{often-none, often-some}
 use Rattle.reply.proofs.claim.Statement.{statement}
 use Rattle.reply.proofs.claim.Tie as tie
+
+unordered : (o : ℕ) → o ≡ 0 → firstRefusal (orderChecks o) ≡ refused 17 0
+unordered o e = refusal-here (noOrder o) [] (eq-eqb o 0 e)
+
+ordered : (o : ℕ) → (o ≡ 0 → ⊥) → Accepts (orderChecks o)
+unfolding firstRefusal
+ordered o n = rw (ne-eqb o 0 n)
 
 fits : (c : tie.Else1) → let s = c .before .before .before .before in consistent (s .args .ledger) (now (s .args .orders)) ≡ true
 fits c = sym (c .before .before .examine .ensures .fits) ∙ not-false _ (c .if1 .left)
@@ -27,7 +39,10 @@ returns c =
     c .refused .ensures ∙ sym (answered-16 _ _ _ apart)
 
 returns-2 : tie.Need-returns-2
-returns-2 c = c .refused2 .ensures ∙ sym (answered-by _ _ _ (fits (c .before .before)) ∙ claim-none _ _ _ _ (c .before .if2 .taken))
+returns-2 c =
+    c .refused2 .ensures
+    ∙ sym (answered-by _ _ _ (fits (c .before .before))
+    ∙ claim-none _ _ _ _ 17 0 (λ z. omega (arith, z)) (unordered _ (c .before .if2 .taken)))
 
 place-requires : tie.Need-place-requires
 place-requires c κs = let e = c .before in (fits e, e .before .before .examine .ensures .count (not-false _ (e .if1 .left)))
@@ -37,12 +52,13 @@ returns-3 c =
     let e = c .before .before .before in
     let p = c .before .before .place .ensures in
     p
-    ∙ sym (answered-by _ _ _ (fits (e .before)) ∙ claim-refused _ _ _ _ (e .if2 .left) (λ z. c .if3 .taken (ap (λ (x : Answer). x .number) p ∙ z)))
+    ∙ sym (answered-by _ _ _ (fits (e .before))
+    ∙ claim-refused _ _ _ _ (ordered _ (e .if2 .left)) (λ z. c .if3 .taken (ap (λ (x : Answer). x .number) p ∙ z)))
 
 -- the order stands among the entries
 stands : (c : tie.Then4)
     → let a = c .before .before .before .before .before .before .before .before .before .before .args in
-    indexOf (a .order) (written (a .ledger) (now (a .orders))) < length (written (a .ledger) (now (a .orders)))
+    firstPlace (sameOrder (a .order)) (written (a .ledger) (now (a .orders))) < length (written (a .ledger) (now (a .orders)))
 stands c =
     let e = c .before .before .before .before .before .before in
     let a = e .before .before .before .before .args in
@@ -52,7 +68,7 @@ stands c =
 find-requires : tie.Need-find-requires
 find-requires c κs =
     let p = parts _ _ (fits (c .before .before .before .before .before .before)) in
-    omega (arith, p .entries, p .room)
+    omega (arith, p .entries, p .fits)
 
 add-refused : tie.Need-add-refused
 add-refused c =
@@ -67,7 +83,7 @@ returns-4 c =
     c .refused3 .ensures
     ∙ ap (λ (n : ℕ). refusedWith 20 (n + 1)) (c .before .find .ensures)
     ∙ sym (answered-by _ _ _ (fits (e .before))
-    ∙ claim-again _ _ _ _ (e .if2 .left) (ap (λ (x : Answer). x .number) (sym p) ∙ t .before .before .if3 .left) (stands t))
+    ∙ claim-again _ _ _ _ (ordered _ (e .if2 .left)) (ap (λ (x : Answer). x .number) (sym p) ∙ t .before .before .if3 .left) (stands t))
 
 returns-5 : tie.Need-returns-5
 returns-5 c =
@@ -77,7 +93,7 @@ returns-5 c =
     let p = c .before .before .before .before .place .ensures in
     p
     ∙ sym (answered-by _ _ _ (fits (e .before))
-    ∙ claim-good _ _ _ _ (e .if2 .left) (ap (λ (x : Answer). x .number) (sym p) ∙ c .before .before .if3 .left)
+    ∙ claim-good _ _ _ _ (ordered _ (e .if2 .left)) (ap (λ (x : Answer). x .number) (sym p) ∙ c .before .before .if3 .left)
     (often-none (a .order) (written (a .ledger) (now (a .orders))) (sym (x .hits (not-false _ (e .before .if1 .left))) ∙ le-zero (c .if4 .left))))
 
 pub claim-spec : {M : Type 1} → statement M

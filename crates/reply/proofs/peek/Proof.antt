@@ -3,11 +3,11 @@ use mathlib.Core.Path.{_≡_, sym, _∙_}
 use mathlib.Core.Bool.{true}
 use Prim.Native.Nat.{_<_}
 use native.Mathlib.Omega.{arith}
-use lib.ListN.{length}
 use denote.Ref.{now}
 use borrow.Author.Needs.{needs}
 use borrow.Author.Tests.{not-true, not-false}
-use Rattle.model.specs.Record.{compositionsOf, consistent}
+use Rattle.model.specs.Printing.{size}
+use Rattle.model.specs.Record.{printingOf, consistent}
 use Rattle.model.proofs.Records.{parts, answered-16}
 use Rattle.model.proofs.Replies.{peek-full, peek-next}
 use Rattle.reply.proofs.peek.Statement.{statement}
@@ -17,7 +17,7 @@ fits : (c : tie.Else1) → let s = c .before .before .before .before in consiste
 fits c = sym (c .before .before .examine .ensures .fits) ∙ not-false _ (c .if1 .left)
 
 left : (c : tie.Else2) → let s = c .before .before .before .before .before .before .before in
-    s .args .ledger .entries < length (compositionsOf (s .args .ledger .bounds))
+    s .args .ledger .entries < size (printingOf (s .args .ledger))
 left c =
     let e = c .before .before .before in
     omega (arith, c .if2 .left, e .before .before .examine .ensures .count (not-false _ (e .if1 .left)))
@@ -37,7 +37,7 @@ accepted-requires : tie.Need-accepted-requires
 accepted-requires c κs = omega (arith, left c, parts _ _ (fits (c .before .before .before)) .small)
 
 returns-3 : tie.Need-returns-3
-returns-3 c = c .accepted .ensures ∙ sym (peek-next _ _ (fits (c .before .before .before .before)) (left (c .before)))
+returns-3 c = c .accepted .ensures ∙ sym (peek-next _ _ (fits (c .before .before .before .before)) (omega (arith, left (c .before))))
 
 pub peek-spec : {M : Type 1} → statement M
 peek-spec =
