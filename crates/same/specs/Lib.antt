@@ -1,0 +1,3 @@
+pub mod Basics
+pub mod Model
+pub mod Record
