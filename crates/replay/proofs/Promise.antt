@@ -1,36 +1,24 @@
 -- What the code left behind is the run of the list, and the statement about the whole list holds of it.
-use mathlib.Core.Path.{_≡_, refl, sym, ap, _∙_, subst⁻¹}
+use mathlib.Core.Path.{_≡_, refl, sym, ap, _∙_, subst, subst⁻¹}
 use mathlib.Core.Logic.{_≢_}
 use mathlib.Core.Bool.{true, false, not}
-use mathlib.Core.List.{List, [], map}
+use mathlib.Core.List.{List, []}
 use native.Mathlib.Omega.{arith}
 use Rattle.bounds.specs.Refusal.{Check, refused, firstRefusal}
 use Rattle.bounds.specs.declared.Refusal.{Refusal}
 use Rattle.bounds.proofs.Refusals.{refusal-here, refusal-first, refusal-later}
 use Rattle.bounds.proofs.Chains.{Accepts}
-use Rattle.model.specs.Basics.{replaced, all}
+use Rattle.model.specs.Basics.{all}
 use Rattle.model.specs.Entry.{Lent, room}
 use Rattle.model.specs.Printing.{Printing}
 use Rattle.model.specs.Model.{Call}
-use Rattle.model.specs.Record.{openingChecks, opening, opened, blankLedger, Run, run}
+use Rattle.model.specs.Record.{openingChecks, opening, opened, blankLedger, Run}
 use Rattle.model.specs.Whole.{ran, secondList, Whole}
 use Rattle.model.specs.declared.Ledger.{Ledger}
 use Rattle.model.specs.declared.Opened.{Opened}
 use Rattle.model.proofs.Opening.{opens, opening-refused, opening-accepted}
 use Rattle.model.proofs.Whole.{whole}
-use Rattle.replay.specs.Replay.{Script, Buffers, callsOf, shown, seen, sizes, sizeChecks, replayChecks, Replayed, Replays}
-use Rattle.replay.specs.Progress.{Ran}
-use Rattle.replay.proofs.Traces.{cellsIn, read-back, run-calls}
-
-observed : (r : Ledger) (cs : List Call) (b b′ : Buffers) (l : Ledger) → Ran r cs b b′ l → seen cs l b′ ≡ run r (b .column) cs
-observed r cs b b′ l w =
-    let t = run r (b .column) cs .trace in
-    let p : shown cs (b′ .numbers) (b′ .details) (b′ .granted) (b′ .compositions) ≡ t =
-    rw (w .numbers, w .details, w .granted, w .compositions)
-    (ap (λ (c : List Call). shown c (replaced (b .numbers) (map (λ x. x .reply .number) t)) (replaced (b .details) (map (λ x. x .reply .detail) t))
-    (replaced (b .granted) (map (λ x. x .reply .serial) t)) (replaced (b .compositions) (cellsIn t))) (sym (run-calls r (b .column) cs))
-    ∙ read-back t _ _ _ _ (w .full)) in
-    λ i. record { trace = p i; ledger = w .ledger i; column = w .column i }
+use Rattle.replay.specs.Replay.{Script, Buffers, callsOf, seen, sizes, sizeChecks, replayChecks, Ran, Replayed, Replays}
 
 module _ (p : Printing) (x : Script) (b : Buffers) (o : Opened) (e : o ≡ opening p (b .column)) where
   abbrev table : List Check
@@ -55,7 +43,7 @@ module _ (p : Printing) (x : Script) (b : Buffers) (o : Opened) (e : o ≡ openi
     fitting : firstRefusal (replayChecks p x b) ≡ firstRefusal (sizeChecks x b)
     fitting = refusal-later table (sizeChecks x b) refl (accepted-opening .0)
 
-    -- slices that do not fit together
+    -- lengths that do not fit together
     pub replay-unfit : all (sizes x b) ≡ false → (o′ : Opened) → o′ ≡ record { number = 13; detail = 0; ledger = blankLedger } → Replays p x b b o′
     replay-unfit f o′ is =
         let first = fitting ∙ refusal-here _ [] (ap not f) in
@@ -72,17 +60,16 @@ module _ (p : Printing) (x : Script) (b : Buffers) (o : Opened) (e : o ≡ openi
     unfolding firstRefusal
     replay-done b′ l t w =
         let first : firstRefusal (replayChecks p x b) ≡ refused 0 0 = fitting ∙ rw t in
-        let q : seen (callsOf x) l b′ ≡ ran p (b .column) (callsOf x) =
-        observed (o .ledger) (callsOf x) b b′ l w ∙ ap (λ (y : Ledger). run y (b .column) (callsOf x)) (accepted-opening .1) in
+        let done = subst (λ (y : Ledger). Ran y (callsOf x) b b′ l) (accepted-opening .1) w in
         record {
           number = ap (λ (y : Refusal). y .number) (sym first);
           detail = ap (λ (y : Refusal). y .detail) (sym first);
           refused = λ n. absurd (n refl);
           accepted = λ _.
               record {
-                run = q;
+                done = done;
                 whole =
-                    subst⁻¹ (λ (y : Run). Whole p (b .column) (callsOf x) y (ran p (b .column) (secondList y))) q
+                    subst⁻¹ (λ (y : Run). Whole p (b .column) (callsOf x) y (ran p (b .column) (secondList y))) (done .same-run)
                     (whole p (b .column) (opens p (b .column) (accepted-opening .0)) (callsOf x));
               };
         }
@@ -95,4 +82,4 @@ pub two-runs : (p : Printing) (cs : List Call) (b b₁ b₂ b₃ : Buffers) (l�
     → Whole p (b .column) cs (seen cs l₁ b₁) (seen (secondList (seen cs l₁ b₁)) l₂ b₃)
 two-runs p cs b b₁ b₂ b₃ l₁ l₂ e x y =
     subst⁻¹ (λ (v : Run). Whole p (b .column) cs (seen cs l₁ b₁) v)
-    (y .run ∙ ap (λ (col : Lent). ran p col (secondList (seen cs l₁ b₁))) e) (x .whole)
+    (y .done .same-run ∙ ap (λ (col : Lent). ran p col (secondList (seen cs l₁ b₁))) e) (x .whole)
