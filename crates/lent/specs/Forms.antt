@@ -11,7 +11,7 @@ use Rattle.model.specs.declared.Answer.{Answer}
 use Rattle.model.specs.declared.Claimed.{Claimed}
 use Rattle.model.specs.declared.Ledger.{Ledger}
 
--- the functions that can be called: `ledger::peek`, `ledger::claim`, `ledger::void`, and `lent::claim_in`, `lent::void_in`
+-- the functions that can be called: `ledger::peek`, `ledger::claim`, `ledger::void`, and `engine::huz_claim_in`, `huz_void_in`
 pub data Invocation : Type 0 where
   peek : Invocation
   claim : ℕ → Entry → Invocation
