@@ -78,22 +78,24 @@ fn following(ledger: Ledger) -> [u8; 24]
     cells
 }
 
-// The order in the next entry, and the record that counts it.
+// The order in the next entry, and the record that counts it, with the composition after it. It calls nothing, so that the record is built where
+// the caller hands it back, and not copied.
 fn enter(
     ledger: Ledger,
     orders: &mut [u32],
     answer: Answer,
+    next: [u8; 24],
     order: u32,
     sold: u64,
     voided: u64,
 ) -> Claimed
-    requires { ⌜ (consistent ledger (now orders) ≡ true) × (ledger .entries < size (printingOf ledger)) ⌝ }
+    requires { ⌜ (consistent ledger (now orders) ≡ true) × (ledger .entries < size (printingOf ledger))
+        × (next ≡ nextComposition (printingOf ledger) (ledger .entries + 1)) ⌝ }
     ensures { λ r. ⌜ (r, now (orders .exit)) ≡ entering ledger (now (orders .entry)) answer order sold voided ⌝ }
 {
     let at = ledger.entries as usize;
     orders[at] = order;
     let bounds = ledger.bounds;
-    let next = following(ledger);
     let after = Ledger {
         bounds,
         entries: ledger.entries + 1,
@@ -127,10 +129,12 @@ pub fn claim(ledger: Ledger, orders: &mut [u32], serial: u64, order: u32) -> Cla
             ledger,
         };
     }
+    let next = following(ledger);
     enter(
         ledger,
         orders,
         claimed,
+        next,
         order,
         ledger.sold + 1,
         ledger.voided,
@@ -148,14 +152,23 @@ pub fn void(ledger: Ledger, orders: &mut [u32], serial: u64) -> Claimed
             ledger,
         };
     }
-    enter(ledger, orders, voided, 0, ledger.sold, ledger.voided + 1)
+    let after = following(ledger);
+    enter(
+        ledger,
+        orders,
+        voided,
+        after,
+        0,
+        ledger.sold,
+        ledger.voided + 1,
+    )
 }
 
 // The entries so far, as the beginning of the lent column itself; none where number 16 holds.
 pub fn entries(ledger: Ledger, orders: &[u32]) -> &[u32]
     ensures { λ r. ⌜ (now r ≡ entriesOf ledger (now (orders .entry))) × (r .ptr ≡ orders .entry .ptr) ⌝ }
 {
-    let seen = integrity::examine(ledger, orders, 0);
+    let seen = integrity::examine(ledger, orders);
     if !seen.fits {
         return &orders[..0];
     }

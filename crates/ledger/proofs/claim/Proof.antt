@@ -18,9 +18,12 @@ wrote : (c : tie.Else1)
     Writing (a .ledger) (now (a .orders)) (Call.claim (a .serial) (a .order))
 wrote c = writing _ _ _ _ (c .before .before .claim .ensures) (c .if1 .left)
 
+following-requires : tie.Need-following-requires
+following-requires c κs = let w = wrote c in let p = parts _ _ (w .belongs) in (p .few, p .next, omega (arith, w .inside))
+
 returns-2 : tie.Need-returns-2
 returns-2 c =
-    let e = c .before .before .before .before .before in
+    let e = c .before .before .before .before .before .before in
     c .before .before .enter .ensures
     ∙ calling-accepted _ _ _ _ (e .before .before .claim .ensures) _ _ (e .if1 .left)
     (counts-claim _ _ _ _ _ (e .before .before .claim .ensures) (e .if1 .left) (wrote e)) (sym (entered-next _ _ _ (wrote e)))
@@ -32,7 +35,8 @@ claim-spec =
     (λ c κs. search needs)
     (λ c. search needs)
     returns
-    (λ c. omega (arith, parts _ _ (wrote (c .before .before) .belongs) .few-sold))
-    (λ c κs. let w = wrote (c .before .before) in (w .belongs, omega (arith, w .inside)))
+    following-requires
+    (λ c. omega (arith, parts _ _ (wrote (c .before .before .before) .belongs) .few-sold))
+    (λ c κs. let w = wrote (c .before .before .before) in (w .belongs, omega (arith, w .inside), c .before .before .following .ensures))
     (λ c. search needs)
     returns-2)

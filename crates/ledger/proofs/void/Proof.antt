@@ -18,9 +18,12 @@ wrote : (c : tie.Else1)
     Writing (a .ledger) (now (a .orders)) (Call.void (a .serial))
 wrote c = writing _ _ _ _ (c .before .before .void .ensures) (c .if1 .left)
 
+following-requires : tie.Need-following-requires
+following-requires c κs = let w = wrote c in let p = parts _ _ (w .belongs) in (p .few, p .next, omega (arith, w .inside))
+
 returns-2 : tie.Need-returns-2
 returns-2 c =
-    let e = c .before .before .before .before .before in
+    let e = c .before .before .before .before .before .before in
     let a = e .before .before .before .before .before .args in
     c .before .before .enter .ensures
     ∙ calling-accepted _ _ _ _ (e .before .before .void .ensures) _ _ (e .if1 .left)
@@ -33,7 +36,8 @@ void-spec =
     (λ c κs. search needs)
     (λ c. search needs)
     returns
-    (λ c. omega (arith, parts _ _ (wrote (c .before .before) .belongs) .few-voided))
-    (λ c κs. let w = wrote (c .before .before) in (w .belongs, omega (arith, w .inside)))
+    following-requires
+    (λ c. omega (arith, parts _ _ (wrote (c .before .before .before) .belongs) .few-voided))
+    (λ c κs. let w = wrote (c .before .before .before) in (w .belongs, omega (arith, w .inside), c .before .before .following .ensures))
     (λ c. search needs)
     returns-2)

@@ -1,8 +1,8 @@
--- `integrity::one` meets its contract.
+-- `integrity::pass::one` meets its contract.
 use native.Mathlib.Omega.{arith}
 use borrow.Author.Tests.{eq-eqb, ne-eqb}
-use Rattle.integrity.proofs.one.Statement.{statement}
-use Rattle.integrity.proofs.one.Tie as tie
+use Rattle.integrity.proofs.pass.one.Statement.{statement}
+use Rattle.integrity.proofs.pass.one.Tie as tie
 
 returns : tie.Need-returns
 returns c = (rw (eq-eqb _ _ (c .if1 .taken)), omega arith)
