@@ -120,7 +120,8 @@ advanced r es =
       next = nextComposition (printingOf r) (r .entries + length es);
     }
 
--- what an accepted call makes of the record, and of the column: its lines stand from the entry of the serial that it answers on
+-- what an accepted call makes of the record, and of the column: its lines stand from the entry of the serial that it answers on. A peek appends
+-- none, and leaves both as they were (proofs/Records `calling-peek`).
 abbrev pub counted : Ledger → Call → Ledger
 counted r c = advanced r (appended c)
 
