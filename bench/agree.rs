@@ -75,23 +75,54 @@ fn case(random: &mut Random) {
     let (mut a, mut b) = (vec![9; n], vec![9; n]);
     assert_eq!((engine::inversions(&u, r, &p, &mut a), &a), (peer::inversions(&u, r, &p, &mut b), &b), "inversions {u:?} {r} {p:?}");
     if 0 < count && count < 5000 {
-        claims(random, &u, r, count);
+        calls(random, &u, r, count);
     }
 }
 
-fn claims(random: &mut Random, u: &[u8], r: u32, count: u64) {
-    let mut orders: Vec<u32> = (0..count).map(|_| random.below(50) as u32).collect();
-    let mut copy = orders.clone();
+/// A ledger of so many lines, some spoilt, over orders that now repeat and now do not.
+fn lines(random: &mut Random, u: &[u8], r: u32, count: u64) -> (peer::Ledger, Vec<u32>) {
+    let most = [50, 5_000, u32::MAX as u64][random.below(3) as usize];
+    let orders: Vec<u32> = (0..count).map(|_| if random.below(9) == 0 { 0 } else { random.below(most) as u32 }).collect();
     let mut ledger = engine::open(u, r, &orders).ledger;
+    ledger.entries = [0, random.below(count + 1), count - 1 - random.below(count.min(13))][random.below(3) as usize];
+    ledger.voided = orders[..ledger.entries as usize].iter().filter(|&&o| o == 0).count() as u64;
+    ledger.sold = ledger.entries - ledger.voided;
+    let next = (ledger.entries + 1).min(count);
+    assert_eq!(peer::unrank::<false>(u, r, next, &mut ledger.next[..u.len()]).number, 0);
+    (ledger, orders)
+}
+
+/// A record as it was, or with a count or a cell changed.
+fn spoilt(random: &mut Random, mut ledger: peer::Ledger) -> peer::Ledger {
+    let i = random.below(24) as usize;
+    match random.below(100) {
+        0 => ledger.entries ^= 1,
+        1 => ledger.sold ^= 1,
+        2 => ledger.voided ^= 1,
+        3 => ledger.next[i] ^= 1,
+        4 => ledger.bounds.upper[i] ^= 1,
+        5 => ledger.bounds.parts += 1,
+        _ => {}
+    }
+    ledger
+}
+
+fn calls(random: &mut Random, u: &[u8], r: u32, count: u64) {
+    let (mut ledger, mut orders) = lines(random, u, r, count);
+    let mut copy = orders.clone();
     for _ in 0..12 {
-        let serial = [ledger.entries + 1, ledger.entries + 1, ledger.entries, random.below(count + 2)][random.below(4) as usize];
-        let order = random.below(60) as u32;
-        let (a, b) = (engine::claim(ledger, &mut orders, serial, order), peer::claim(ledger, &mut copy, serial, order));
-        assert_eq!((a, &orders), (b, &copy), "claim {u:?} {r} {ledger:?} {serial} {order}");
+        ledger = spoilt(random, ledger);
+        assert_eq!(engine::peek(ledger, &orders), peer::peek(ledger, &copy), "peek {u:?} {r} {ledger:?}");
+        let next = ledger.entries.wrapping_add(1);
+        let serial = [next, next, next, ledger.entries, random.below(count + 2)][random.below(5) as usize];
+        // one of the column's, or any
+        let order = [orders[random.below(count) as usize], random.below(60) as u32, random.next() as u32][random.below(3) as usize];
+        let (a, b) = match random.below(4) {
+            0 => (engine::void(ledger, &mut orders, serial), peer::void(ledger, &mut copy, serial)),
+            _ => (engine::claim(ledger, &mut orders, serial, order), peer::claim(ledger, &mut copy, serial, order)),
+        };
+        assert_eq!((a, &orders), (b, &copy), "claim or void {u:?} {r} {ledger:?} {serial} {order}");
         ledger = a.ledger;
-        if random.below(20) == 0 {
-            ledger.sold ^= 1;
-        }
     }
 }
 

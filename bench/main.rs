@@ -5,6 +5,7 @@ mod clock;
 mod engine;
 mod measure;
 mod peer;
+mod register;
 mod sqlite;
 
 use std::fs::File;
@@ -155,44 +156,6 @@ fn permutations(table: &mut Table, e: &Edition) {
     table.row(&format!("inversions: {}", e.name), beside(ours, theirs));
 }
 
-fn claim_with(entries: u64) -> String {
-    format!("claim with {entries} {} written", if entries == 1 { "entry" } else { "entries" })
-}
-
-/// A ledger with so many entries and its column. An accepted claim does not change it: each starts from the same record and writes the same entry.
-struct Opened {
-    ledger: peer::Ledger,
-    orders: Vec<u32>,
-}
-
-impl Opened {
-    fn with(e: &Edition, entries: u64) -> Opened {
-        let orders: Vec<u32> = (0..e.count as u32).map(|i| i * 3 + 7).collect();
-        let mut ledger = engine::open(&e.upper, e.total, &orders).ledger;
-        ledger.entries = entries;
-        ledger.sold = entries;
-        assert_eq!(peer::unrank::<false>(&e.upper, e.total, entries + 1, &mut ledger.next[..e.upper.len()]).number, 0);
-        Opened { ledger, orders }
-    }
-
-    fn claim(&mut self) -> peer::Claimed {
-        engine::claim(black_box(self.ledger), &mut self.orders, self.ledger.entries + 1, u32::MAX)
-    }
-
-    fn claim_of_peer(&mut self) -> peer::Claimed {
-        peer::claim(black_box(self.ledger), &mut self.orders, self.ledger.entries + 1, u32::MAX)
-    }
-}
-
-fn claims(table: &mut Table, e: &Edition, entries: u64) {
-    let (mut a, mut b) = (Opened::with(e, entries), Opened::with(e, entries));
-    let (x, y) = (a.claim(), b.claim_of_peer());
-    assert_eq!((x, x.number), (y, 0));
-    assert!(a.orders == b.orders);
-    let times = beside(|_| _ = black_box(a.claim()), |_| _ = black_box(b.claim_of_peer()));
-    table.row(&format!("{}: {}", claim_with(entries), e.name), times);
-}
-
 fn listing(table: &mut Table, ours: &str, theirs: &str, folder: &str, e: &Edition) {
     let words: Vec<String> = e.upper.iter().map(|m| m.to_string()).collect();
     let slip = format!("{folder}/slip.txt");
@@ -245,10 +208,8 @@ fn main() {
     let mut upper = vec![1; 12];
     upper.extend([2, 3, 3, 3, 3, 5, 60, 60, 60, 60, 60, 60]);
     let long = edition("24 kinds, N = 999476", upper, 7);
-    for entries in [1, 1_000, 999_999] {
-        claims(&mut table, &million, entries);
-    }
-    claims(&mut table, &long, 1);
+    register::rows(&mut table, &million, &[1, 1_000, 999_999]);
+    register::claims(&mut table, &long, 1);
     listing(&mut table, ours, theirs, folder, &long);
     sqlite::compare(&million, &[1, 1_000, 999_999], folder);
     println!("\n## Over 1.05\n");

@@ -5,7 +5,8 @@ use std::hint::black_box;
 use std::time::{Duration, Instant};
 
 use crate::measure::{RUNS, Spread, Table, run, shown, turns};
-use crate::{Edition, Opened, claim_with, clock};
+use crate::register::{NEW, Opened, with};
+use crate::{Edition, clock};
 
 unsafe extern "C" {
     fn dlopen(name: *const c_char, flags: c_int) -> *mut c_void;
@@ -119,7 +120,7 @@ fn on_disk(sqlite: &Sqlite, entries: &[u64], folder: &str) {
         _ = std::fs::remove_file(&path);
         let table = Claims::with(sqlite, &path, entries);
         let times = Spread::of((0..RUNS).map(|_| table.run(|| start.elapsed(), 5)).collect());
-        println!("| {} | {} | {} to {} |", claim_with(entries), shown(times.median), shown(times.low), shown(times.high));
+        println!("| {} | {} | {} to {} |", with("claim", entries), shown(times.median), shown(times.low), shown(times.high));
         drop(table);
         std::fs::remove_file(&path).unwrap();
     }
@@ -134,8 +135,8 @@ pub fn compare(e: &Edition, entries: &[u64], folder: &str) {
     let mut table = Table::new("SQLite in memory");
     for &entries in entries {
         let (mut ours, theirs) = (Opened::with(e, entries), Claims::with(&sqlite, ":memory:", entries));
-        let ours = run(clock::own, move |_| _ = black_box(ours.claim()));
-        table.row(&claim_with(entries), turns(ours, || theirs.run(clock::own, 50)));
+        let ours = run(clock::own, move |_| _ = black_box(ours.claim(NEW)));
+        table.row(&with("claim", entries), turns(ours, || theirs.run(clock::own, 50)));
     }
     on_disk(&sqlite, entries, folder);
 }

@@ -1,8 +1,9 @@
 """Lists of ledger calls for crates/vectors, as several workers make them in turn.
 
-The lists are document 01's copies I and J, openings that are refused, buffers that do not fit, orders that stand in the column past the lines, the
-Saturday of copy 212, and a long interleaving of five workers, each of whom peeks and then claims or voids what it saw, at times too late, with an
-order that stands already, with no order, or with a serial out of nowhere. A list is (ceilings, total, column before, calls, lengths of the buffers).
+The lists are document 01's copies I and J, pools that are used up early or have orders left over, openings that are refused, scripts and buffers that
+do not fit, orders that stand in the column past the lines, the Saturday of copy 212, and interleavings of several workers, each of whom peeks and then
+claims or voids what it saw, at times too late, with an order that stands already, with no order, or with a serial out of nowhere. A list is (ceilings,
+total, column before, script, pool of orders, length of the buffer for the answers).
 """
 import random
 
@@ -10,6 +11,7 @@ import reference as ref
 
 PEEK, CLAIM, VOID = 0, 1, 2
 WORDS = "look", "take", "spoil"
+ROW = 27  # numbers of an answer: number, detail, serial, and 24 cells
 
 
 def answer(paper, call):
@@ -44,9 +46,15 @@ def interleaving(ms, r, rng, workers=5):
         yield call
 
 
-def buffers(calls):
-    """lengths of the buffers for so many answers"""
-    return calls, calls, calls, 24 * calls
+def written(calls):
+    """the script and the pool of such calls"""
+    return [n for which, serial, _ in calls for n in (which, serial)], [order for which, _, order in calls if which == CLAIM]
+
+
+def calls_of(script, pool):
+    """the calls of a script, two numbers each; a claim uses up an order of the pool, and is for order 0 where none is left"""
+    left = iter(pool)
+    return [(min(which, VOID), serial, next(left, 0) if which == CLAIM else 0) for which, serial in zip(script[::2], script[1::2])]
 
 
 def lists(seed=212):
@@ -55,10 +63,10 @@ def lists(seed=212):
     large = (4, 4, 3, 3, 3), 8
     n = ref.number(*large)
     after = [7, 7, 7]
-    first = [peek, (CLAIM, 1, 1007), (CLAIM, 1, 1014)]
 
-    def fitting(edition, column, calls):
-        return *edition, column, calls, buffers(len(calls))
+    def fitting(edition, column, calls, pool=None):
+        script, orders = written(calls)
+        return *edition, column, script, orders if pool is None else pool, ROW * len(calls)
 
     yield fitting(small, after, [peek, peek, (CLAIM, 1, 1007), (CLAIM, 1, 1014), (CLAIM, 2, 1014), peek])
     yield fitting(small, after, [(VOID, 1, 0), (CLAIM, 1, 1007)])
@@ -67,17 +75,32 @@ def lists(seed=212):
     yield fitting(small, [5, 1007, 1007], [(CLAIM, 1, 1007), (CLAIM, 2, 1007), peek, (CLAIM, 2, 5), peek])
     yield fitting(small, [1014, 1014], [(CLAIM, 1, 1014), (VOID, 2, 0), (CLAIM, 2, 1014)])
     yield fitting(small, [0, 0, 0], [(VOID, 1, 0), (CLAIM, 2, 9)])
+    # pools: peeks and voids use up nothing, a refused claim its order; one that is used up early, also before the first claim; orders left over
+    yield fitting(small, after, [peek, (VOID, 1, 0), (CLAIM, 2, 1007), peek], [1007])
+    yield fitting(small, after, [(CLAIM, 9, 1007), (CLAIM, 1, 1014), (CLAIM, 2, 0), (CLAIM, 2, 1021)])
+    yield fitting(small, after, [(CLAIM, 1, 1007), (CLAIM, 2, 0), (CLAIM, 3, 0), (VOID, 2, 0)], [1007])
+    yield fitting(small, after, [(CLAIM, 1, 0), peek], [])
+    yield fitting(small, after, [(CLAIM, 1, 1007), peek], [1007, 1014, 1007, 0])
+    yield fitting(small, after, [peek], [1007])
+    yield fitting(small, after, [], [1007, 1014])
+    # any other number is a void
+    yield fitting(small, after, [(3, 1, 0), (2 ** 64 - 1, 2, 0), (256, 2, 0)], [1007])
     # openings that are refused
     yield fitting(small, [7], [peek])
     for edition in ((1, 1), 3), ((1, 61), 1), ((9,) * 8, 36), ((), 0), ((1, 1), 256), ((60,) * 24, 255):
         yield fitting(edition, after, [peek])
-    # buffers that do not fit, by one entry or one composition more or fewer, and by one cell
-    for at in range(4):
-        for more in (1, -1) if at < 3 else (1, -1, 24, -24):
-            yield (*small, after, first, tuple(size + more * (i == at) for i, size in enumerate(buffers(3))))
-    yield (*small, after, first, (0, 0, 0, 0))
-    yield (*small, after, [], (0, 0, 1, 0))
-    yield ((1, 1), 3, after, first, (0, 0, 0, 0))  # the opening is refused first
+    # a script with part of a row, and buffers by one number or one row longer or shorter, or empty; an opening is refused before them
+    script, orders = written([peek, (CLAIM, 1, 1007), (CLAIM, 1, 1014)])
+    for size in 3 * ROW, 2 * ROW, 4 * ROW:
+        yield *small, after, script[:-1], orders, size
+        yield *small, after, script + [0], orders, size
+    for size in 3 * ROW + 1, 3 * ROW - 1, 4 * ROW, 2 * ROW, 0, 1, 3 * 24, 2 * 3 * ROW:
+        yield *small, after, script, orders, size
+    for size in 0, 1, ROW:
+        yield *small, after, [1], orders, size
+    yield *small, after, [], orders, 1
+    yield *small, after, [], [], ROW
+    yield (1, 1), 3, after, script[:-1], orders, 0
     saturday = [(CLAIM, s, 2000 + s) for s in range(1, 212)] + [peek, peek, (CLAIM, 212, 1007), (CLAIM, 212, 1014)]
     yield fitting(large, [0] * n, saturday)
     # half of the orders that will be accepted stand in the column before, past the line that they are to get
@@ -89,3 +112,9 @@ def lists(seed=212):
         if order and rng.random() < 0.5:
             column[min(line + rng.randrange(1, 9), n + 2)] = order
     yield fitting(large, column, calls)
+    # three workers whose orders give out, or are not all used
+    middle = (3, 3, 2), 4
+    for share in 0.5, 2:
+        calls = list(interleaving(*middle, rng, workers=3))
+        pool = written(calls)[1]
+        yield fitting(middle, [rng.getrandbits(32) for _ in range(ref.number(*middle))], calls, (pool * 2)[:int(share * len(pool))])

@@ -19,9 +19,9 @@ import reference as ref
 
 CRATE = os.path.join(os.path.dirname(os.path.abspath(__file__)), "..", "crates", "vectors")
 FILL = 170  # of the lent part of an unrank, a batch, a permutation or inversions
-ROOM = 7  # of the buffers for a list of calls
+ROOM = 7  # of the buffer for the answers to a list of calls
 PIECE = 65_536  # no command may stand in two pieces of this size
-LONGEST, WIDEST, ENTRIES = 1000, 64, 2048  # of a lent part, of a list of bytes, and of a column
+LONGEST, WIDEST, ENTRIES = 1000, 64, 2048  # of a lent part, of a list of bytes, and of a column, a pool or the calls of a list
 
 # editions' records that nobody has checked: the number of parts, the first cells (the others are 0) and the total. More than 24 parts have no cells.
 RECORDS = [
@@ -143,9 +143,9 @@ def fits(fields):
 
 
 def lists():
-    for ms, r, column, calls, sizes in interleave.lists():
-        assert max(len(column), len(calls)) <= ENTRIES
-        yield command("l", ms, r, column, *([c[i] for c in calls] for i in range(3)), *sizes)
+    for ms, r, column, script, pool, size in interleave.lists():
+        assert max(len(column), len(pool), -(-size // interleave.ROW)) <= ENTRIES
+        yield command("l", ms, r, column, script, pool, size)
 
 
 # ---- answers: lines of numbers
@@ -221,18 +221,16 @@ def called(read):
 
 def replayed(read):
     (ms, r), column = read.edition(), list(read.list())
-    calls = list(zip(read.list(), read.list(), read.list()))
-    sizes = [read.number() for _ in range(4)]
+    script, pool, rows = read.list(), read.list(), [ROOM] * read.number()
+    calls = interleave.calls_of(script, pool)
     number, detail, record = ref.opening(ms, r, len(column))
-    buffers = [[ROOM] * size for size in sizes]
-    if not number and tuple(sizes) != interleave.buffers(len(calls)):
+    if not number and (len(script) % 2 or len(rows) != interleave.ROW * len(calls)):
         number, record = 13, ref.NO_RECORD
     if not number:
         paper = ref.Paper(ms, r)
-        answers = [interleave.answer(paper, call) for call in calls]
-        buffers = [[a[i] for a in answers] for i in range(3)] + [list(flat(*(a[3] for a in answers)))]
+        rows = list(flat([interleave.answer(paper, call) for call in calls]))
         record, column = ref.record_of(ms, r, paper.lines), paper.lines + column[len(paper.lines):]
-    return [(number, detail), record, *((len(part), part) for part in (column, *buffers))]
+    return [(number, detail), record, (len(column), column), (len(rows), rows)]
 
 
 ANSWERED_BY = {

@@ -9,7 +9,7 @@ mod permutation;
 mod types;
 
 pub use count::check;
-pub use ledger::claim;
+pub use ledger::{claim, peek, void};
 pub use order::{batch, predecessor, rank, successor, unrank};
 pub use permutation::{inversions, permutation};
 pub use types::*;

@@ -51,6 +51,15 @@ pub struct Stepped {
 
 #[derive(Clone, Copy, PartialEq, Eq, Debug, Default)]
 #[repr(C)]
+pub struct Answer {
+    pub number: u32,
+    pub detail: u64,
+    pub serial: u64,
+    pub composition: [u8; 24],
+}
+
+#[derive(Clone, Copy, PartialEq, Eq, Debug, Default)]
+#[repr(C)]
 pub struct Opened {
     pub number: u32,
     pub detail: u64,

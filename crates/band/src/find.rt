@@ -169,7 +169,7 @@ fn in_small(
 }
 
 // The same of any band, in larger arrays. It surveys anew, which costs little beside such a band and makes it a call of its own, so that the others
-// have small frames.
+// have small frames. It is handed slices of their own (`&upper[..]`): the caller's then stay in registers.
 fn in_large(upper: &[u8], total: u32, asked: Conversion, given: &[u8]) -> Converted
     requires { ⌜ Given asked (now upper) total (now given) ⌝ }
     ensures { λ r. ⌜ r ≡ convertedOf asked (now (upper .entry)) total (now (given .entry)) ⌝ }
@@ -211,7 +211,7 @@ pub fn serial_of(upper: &[u8], total: u32, composition: &[u8]) -> Converted
     if s.size <= 1024 {
         return in_small(upper, total, s.all, s.size, Conversion::Rank, composition);
     }
-    in_large(upper, total, Conversion::Rank, composition)
+    in_large(&upper[..], total, Conversion::Rank, &composition[..])
 }
 
 // N and the composition of the serial nearest to `serial`, or the refusal. (No composition is given, so the bounds are lent for it.)
@@ -232,5 +232,5 @@ pub fn composition_of(upper: &[u8], total: u32, serial: u64) -> Converted
             upper,
         );
     }
-    in_large(upper, total, Conversion::Unrank(serial), upper)
+    in_large(&upper[..], total, Conversion::Unrank(serial), &upper[..])
 }

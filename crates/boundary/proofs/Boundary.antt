@@ -13,8 +13,9 @@ use Rattle.rank.specs.Rank.{rankAnswer}
 use Rattle.step.specs.Steps.{stepOf}
 use Rattle.permutation.specs.Permutation.{isPermutation, inversions, permutationOf, lift, inversionVector}
 use Rattle.permutation.specs.Conversions.{toPermutation, toComposition}
+use Rattle.model.specs.Printing.{compositions}
 use Rattle.model.specs.Model.{answer, after, bookFrom}
-use Rattle.model.specs.Record.{compositions, opened, opening, consistent, answered, recordAfter, columnAfter, run}
+use Rattle.model.specs.Record.{opened, opening, consistent, answered, recordAfter, columnAfter, run}
 use Rattle.boundary.specs.Row.{Row, given, claimed, Holds}
 use Rattle.boundary.specs.Rows.{rows}
 

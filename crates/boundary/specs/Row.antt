@@ -15,6 +15,7 @@ use Rattle.step.specs.declared.Stepped.{Stepped}
 use Rattle.permutation.specs.Reading.{byInversions}
 use Rattle.permutation.specs.Conversions.{toPermutation, toComposition}
 use Rattle.model.specs.declared.Opened.{Opened}
+use Rattle.model.specs.Printing.{Printing}
 use Rattle.model.specs.Model.{Call, Event}
 use Rattle.model.specs.Record.{opening, run}
 use Rattle.model.specs.Whole.{book}
@@ -83,8 +84,11 @@ module _ (ms : List ℕ) (r : ℕ) where
   abbrev column : List ℕ
   column = replicate (countOf ms r) 0
 
+  abbrev printing : Printing
+  printing = record { bounds = ms; total = r }
+
   abbrev start : Opened
-  start = opening ms r column
+  start = opening printing column
 
   abbrev pub sides : Claim → List (List ℕ) × List (List ℕ)
   sides (lists gs) = (edition ∷ order ms r, accepted [] ∷ gs)
@@ -99,7 +103,7 @@ module _ (ms : List ℕ) (r : ℕ) where
       let calls = map (λ (x : Call × List ℕ). x .0) cs in
       let claims = map (λ (x : Call × List ℕ). padded (x .1)) cs in (
         (start .number ∷ start .detail ∷ [])
-            ∷ (map eventList (run (start .ledger) column calls .trace) ++ map eventList (book ms r calls .trace)),
+            ∷ (map eventList (run (start .ledger) column calls .trace) ++ map eventList (book printing calls .trace)),
         accepted [] ∷ (claims ++ claims),
       )
 

@@ -25,13 +25,19 @@ compositionChecks ms r g =
     ∷ check 8 (isOther ms r g) 0
     ∷ []
 
--- "s is outside 1..N", where N is n
-abbrev pub isNoSerial : ℕ → ℕ → Bool
-isNoSerial n s = either (eqb s 0) (ltb n s)
+-- s is outside f..N, where N is n; the place 'serial given' for serials from f on
+abbrev pub isOutside : ℕ → ℕ → ℕ → Bool
+isOutside f n s = either (ltb s f) (ltb n s)
 
--- the place 'serial given': "0 or over N"
+abbrev pub outside : ℕ → ℕ → ℕ → Check
+outside f n s = check 6 (isOutside f n s) 0
+
+-- "s is outside 1..N"; the place 'serial given': "0 or over N"
+abbrev pub isNoSerial : ℕ → ℕ → Bool
+isNoSerial n s = isOutside 1 n s
+
 abbrev pub noSerial : ℕ → ℕ → Check
-noSerial n s = check 6 (isNoSerial n s) 0
+noSerial n s = outside 1 n s
 
 abbrev pub serialChecks : List ℕ → ℕ → ℕ → List Check
 serialChecks ms r s = noSerial (countOf ms r) s ∷ []
@@ -41,8 +47,11 @@ abbrev pub mostEntries : ℕ
 mostEntries = 1000000
 
 -- "N over 1,000,000", in the place 'opening' and for a listing
+abbrev pub tooMany : ℕ → Check
+tooMany n = check 14 (ltb mostEntries n) 0
+
 abbrev pub manyChecks : List ℕ → ℕ → List Check
-manyChecks ms r = check 14 (ltb mostEntries (countOf ms r)) 0 ∷ []
+manyChecks ms r = tooMany (countOf ms r) ∷ []
 
 -- the place 'lent part': "length differs from what is to be written"
 abbrev pub lentChecks : ℕ → ℕ → List Check

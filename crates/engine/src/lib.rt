@@ -133,7 +133,7 @@ pub extern "C" fn huz_inversions(
 
 #[no_mangle]
 pub extern "C" fn huz_open(upper: &[u8], total: u32, orders: &[u32]) -> Opened
-    ensures { λ r. ⌜ r ≡ opening (now (upper .entry)) total (now (orders .entry)) ⌝ }
+    ensures { λ r. ⌜ r ≡ opening (record { bounds = now (upper .entry); total = total }) (now (orders .entry)) ⌝ }
 {
     ledger::open(upper, total, orders)
 }
@@ -159,7 +159,11 @@ pub extern "C" fn huz_void(ledger: Ledger, orders: &mut [u32], serial: u64) -> C
     ledger::void(ledger, orders, serial)
 }
 
-// The record is lent, and updated there.
+// ---- on a record that is lent
+// Document 01, "The register": "the record is also lent to take and spoil, which update it there with the same answers". Each copies the record,
+// calls the by-value core, and writes back the record that it answers, on acceptance alone: a refusal writes nothing at all, no padding between
+// the fields either, which no contract speaks of.
+
 #[no_mangle]
 pub extern "C" fn huz_claim_in(
     ledger: &mut Ledger,
@@ -171,7 +175,11 @@ pub extern "C" fn huz_claim_in(
         ⌜ (record { answer = r; ledger = now (ledger .exit) }, now (orders .exit))
         ≡ calling (now (ledger .entry)) (now (orders .entry)) (Call.claim serial order) ⌝ }
 {
-    lent::claim_in(ledger, orders, serial, order)
+    let claimed = ledger::claim(*ledger, orders, serial, order);
+    if claimed.answer.number == 0 {
+        *ledger = claimed.ledger;
+    }
+    claimed.answer
 }
 
 #[no_mangle]
@@ -180,7 +188,11 @@ pub extern "C" fn huz_void_in(ledger: &mut Ledger, orders: &mut [u32], serial: u
         ⌜ (record { answer = r; ledger = now (ledger .exit) }, now (orders .exit))
         ≡ calling (now (ledger .entry)) (now (orders .entry)) (Call.void serial) ⌝ }
 {
-    lent::void_in(ledger, orders, serial)
+    let voided = ledger::void(*ledger, orders, serial);
+    if voided.answer.number == 0 {
+        *ledger = voided.ledger;
+    }
+    voided.answer
 }
 
 // How many entries `ledger::entries` hands back: C has the column already.

@@ -1,131 +1,205 @@
 -- The tests of number 16, one law for each way out of them.
-use mathlib.Core.Path.{_≡_, sym, ap, _∙_}
-use mathlib.Core.Logic.{_≢_}
-use mathlib.Core.Bool.{true, false, false≢true}
-use mathlib.Core.List.{List, []}
+use mathlib.Core.Path.{_≡_, refl, sym, ap, _∙_}
+use mathlib.Core.Bool.{Bool, true, false}
+use mathlib.Core.List.{[], _∷_}
 use Prim.Native.Nat.{ℕ, _+_, _-_, _≤_, _<_, min, max}
 use native.Mathlib.Omega.{arith}
-use lib.ListN.{length, getD}
-use borrow.Author.Tests.{lt-leb, ne-eqb}
-use Rattle.walsh.specs.Order.{order, countOf}
+use lib.Dec.{eqb, leb}
+use lib.ListN.{getD}
+use borrow.Author.Tests.{lt-leb, le-leb, leb-true, eq-eqb, ne-eqb}
+use Rattle.walsh.specs.Order.{order}
 use Rattle.walsh.specs.Serial.{same, compositionOf}
+use Rattle.walsh.specs.Tests.{both}
 use Rattle.walsh.proofs.Cases.{on-less}
 use Rattle.bounds.specs.Refusal.{firstRefusal}
 use Rattle.bounds.specs.Edition.{recordChecks, cellsOf}
 use Rattle.bounds.specs.Places.{mostEntries}
-use Rattle.bounds.specs.declared.Bounds.{Bounds}
 use Rattle.bounds.specs.declared.Refusal.{Refusal}
 use Rattle.rank.specs.Locate.{nearest, locateRecordOf}
 use Rattle.rank.specs.declared.Located.{Located}
 use Rattle.rank.proofs.Locations.{record-refused, record-accepted}
-use Rattle.model.specs.Basics.{zeros, nonzeros}
-use Rattle.model.specs.Record.{upperOf, compositions, compositionsOf, nextComposition, written, consistent}
+use Rattle.model.specs.Basics.{all, firstPlace}
+use Rattle.model.specs.Entry.{Entry, Lent, sameOrder, room, soldIn, voidedIn}
+use Rattle.model.specs.Printing.{Printing, size, capacity, serialAt, nextComposition}
+use Rattle.model.specs.Record.{upperOf, printingOf, written, consistent}
 use Rattle.model.specs.declared.Ledger.{Ledger}
-use Rattle.model.proofs.Compositions.{compositions-size, compositions-at}
-use Rattle.model.proofs.Records.{few-parts, together, fails, sold-of}
-use Rattle.integrity.specs.Examine.{Scanned, Sees}
+use Rattle.model.proofs.Compositions.{compositions-at}
+use Rattle.model.proofs.Records.{few-parts, each, one-fails, sold-of}
+use Rattle.integrity.specs.Examine.{frameTests, framed, seenBy, foundBy}
 use Rattle.integrity.specs.declared.Seen.{Seen}
+use Rattle.integrity.specs.declared.Found.{Found}
 
 -- the composition of the nearest serial to the next is that of the next, of serial N when full
-pub nearest-next : (ms : List ℕ) (r e : ℕ) → nearest ms r (e + 1) ≡ nextComposition (compositions ms r) e
+pub nearest-next : (p : Printing) (e : ℕ) → nearest (p .bounds) (p .total) (e + 1) ≡ nextComposition p e
 unfolding compositionOf
-nearest-next ms r e =
-    let n = compositions-size ms r in
-    let at : max 1 (min (e + 1) (countOf ms r)) - 1 ≡ min (e + 1) (length (compositions ms r)) - 1 = rw n (omega arith) in
-    ap (λ (i : ℕ). cellsOf (getD (order ms r) i [])) at ∙ sym (compositions-at ms r (min (e + 1) (length (compositions ms r)) - 1))
+nearest-next p e =
+    let at : max 1 (min (e + 1) (size p)) - 1 ≡ min (serialAt p e) (size p) - 1 = omega arith in
+    ap (λ (i : ℕ). cellsOf (getD (order (p .bounds) (p .total)) i [])) at
+    ∙ sym (compositions-at (p .bounds) (p .total) (min (serialAt p e) (size p) - 1))
 
 -- what the edition answers for the next serial
-pub record Asked (b : Bounds) (e : ℕ) (at : Located) : Type 0 where
-  pub sound : firstRefusal (recordChecks b) .number ≡ 0
-  pub count : at .count ≡ length (compositionsOf b)
-  pub next : at .composition ≡ nextComposition (compositionsOf b) e
-  pub few : b .parts ≤ 24
+pub record Asked (r : Ledger) (at : Located) : Type 0 where
+  pub sound : firstRefusal (recordChecks (r .bounds)) .number ≡ 0
+  pub count : at .count ≡ size (printingOf r)
+  pub next : at .composition ≡ nextComposition (printingOf r) (r .entries)
+  pub few : r .bounds .parts ≤ 24
 
-pub asked : (b : Bounds) (e : ℕ) (at : Located) → at ≡ locateRecordOf b (e + 1) → at .number ≡ 0 → Asked b e at
-asked b e at is z =
-    let p = record-accepted b (e + 1) at is z in
+pub asked : (r : Ledger) (at : Located) → at ≡ locateRecordOf (r .bounds) (r .entries + 1) → at .number ≡ 0 → Asked r at
+asked r at is z =
+    let p = record-accepted (r .bounds) (r .entries + 1) at is z in
     record {
       sound = p .0;
-      count = p .1 .count ∙ sym (compositions-size (upperOf b) (b .total));
-      next = p .1 .cells ∙ nearest-next (upperOf b) (b .total) e;
-      few = few-parts b (p .0);
+      count = p .1 .count;
+      next = p .1 .cells ∙ nearest-next (printingOf r) (r .entries);
+      few = few-parts (r .bounds) (p .0);
     }
 
-module _ (r : Ledger) (col : List ℕ) (x : ℕ) where
-  abbrev gs : List (List ℕ)
-  gs = compositionsOf (r .bounds)
+-- ---- what is answered
 
-  -- a record and a column that do not belong together
-  module _ {s : Seen} (no : s ≡ record { fits = false; count = 0; hits = 0 }) where
-    pub apart : consistent r col ≡ false → Sees r col x s
-    apart f =
-        let never : s .fits ≡ false = ap (λ (y : Seen). y .fits) no in
-        record {
-          fits = never ∙ sym f;
-          count = λ t. absurd (false≢true (sym never ∙ t));
-          hits = λ t. absurd (false≢true (sym never ∙ t));
-          other = λ t. (ap (λ (y : Seen). y .count) no, ap (λ (y : Seen). y .hits) no);
-        }
+module _ (r : Ledger) {b : Bool} {s : Seen} where
+  pub seen-fits : s ≡ seenBy b r → s .fits ≡ b
+  unfolding seenBy
+  seen-fits e = ap (λ (x : Seen). x .fits) e
+
+  pub seen-count : b ≡ true → s ≡ seenBy b r → s .count ≡ size (printingOf r)
+  unfolding seenBy
+  seen-count t e = ap (λ (x : Seen). x .count) e ∙ rw t
+
+  pub seen-none : b ≡ false → s ≡ record { fits = false; count = 0 } → s ≡ seenBy b r
+  unfolding seenBy
+  seen-none f e = e ∙ rw f
+
+module _ (r : Ledger) (col : Lent) (o : Entry) {b : Bool} {s : Found} where
+  pub found-fits : s ≡ foundBy b r col o → s .fits ≡ b
+  unfolding foundBy
+  found-fits e = ap (λ (x : Found). x .fits) e
+
+  pub found-count : b ≡ true → s ≡ foundBy b r col o → s .count ≡ size (printingOf r)
+  unfolding foundBy
+  found-count t e = ap (λ (x : Found). x .count) e ∙ rw t
+
+  pub found-place : b ≡ true → s ≡ foundBy b r col o → s .place ≡ firstPlace (sameOrder o) (written r col)
+  unfolding foundBy
+  found-place t e = ap (λ (x : Found). x .place) e ∙ rw t
+
+  pub found-none : b ≡ false → s ≡ record { fits = false; count = 0; place = 0 } → s ≡ foundBy b r col o
+  unfolding foundBy
+  found-none f e = e ∙ rw f
+
+pub found-made : (r : Ledger) (col : Lent) (o : Entry) {b : Bool} {n k : ℕ} → b ≡ true
+    → n ≡ size (printingOf r)
+    → k ≡ firstPlace (sameOrder o) (written r col)
+    → record { fits = true; count = n; place = k } ≡ foundBy b r col o
+unfolding foundBy
+found-made r col o t en ek = rw (t, en, ek)
+
+-- ---- the tests that look at no line
+
+module _ (r : Ledger) (n : ℕ) where
+  abbrev most : ℕ
+  most = size (printingOf r)
+
+  stops : (i : ℕ) → getD (frameTests r n) i true ≡ false → framed r n ≡ false
+  unfolding framed
+  stops i e = one-fails i (frameTests r n) e
+
+  module _ {s : Seen} (no : s ≡ record { fits = false; count = 0 }) where
+    apart : framed r n ≡ false → s ≡ seenBy (framed r n) r
+    apart f = seen-none r f no
 
     -- so many entries are either more than N, or N is over the most
-    pub too-full : mostEntries < r .entries → Sees r col x s
+    pub too-full : mostEntries < r .entries → s ≡ seenBy (framed r n) r
     too-full l =
-        on-less mostEntries (length gs)
-        (λ m t. apart (fails r col 1 (lt-leb (length gs) mostEntries m)))
-        (λ m t. apart (fails r col 3 (lt-leb (r .entries) (length gs) (omega arith))))
+        on-less mostEntries most
+        (λ m t. apart (stops 1 (lt-leb most mostEntries m)))
+        (λ m t. apart (stops 3 (lt-leb (r .entries) most (omega arith))))
 
-    pub no-edition : {at : Located} → at ≡ locateRecordOf (r .bounds) (r .entries + 1) → 0 < at .number → Sees r col x s
+    pub no-edition : {at : Located} → at ≡ locateRecordOf (r .bounds) (r .entries + 1) → 0 < at .number → s ≡ seenBy (framed r n) r
     no-edition {at} is l =
         let e = ap (λ (v : Refusal). v .number) (record-refused (r .bounds) (r .entries + 1) at is l) in
-        apart (fails r col 0 (ne-eqb (firstRefusal (recordChecks (r .bounds)) .number) 0 (λ z. omega (arith, e, z))))
+        apart (stops 0 (ne-eqb (firstRefusal (recordChecks (r .bounds)) .number) 0 (λ z. omega (arith, e, z))))
 
-    module _ {at : Located} (a : Asked (r .bounds) (r .entries) at) where
-      pub too-many : mostEntries < at .count → Sees r col x s
-      too-many l = apart (fails r col 1 (lt-leb (length gs) mostEntries (omega (arith, a .count))))
+    module _ {at : Located} (a : Asked r at) where
+      pub too-many : mostEntries < at .count → s ≡ seenBy (framed r n) r
+      too-many l = apart (stops 1 (lt-leb most mostEntries (omega (arith, a .count))))
 
-      pub no-room : length col < at .count → Sees r col x s
-      no-room l = apart (fails r col 2 (lt-leb (length gs) (length col) (omega (arith, a .count))))
+      pub no-room : n < at .count → s ≡ seenBy (framed r n) r
+      no-room l = apart (stops 2 (lt-leb most n (omega (arith, a .count))))
 
-      pub past-end : at .count < r .entries → Sees r col x s
-      past-end l = apart (fails r col 3 (lt-leb (r .entries) (length gs) (omega (arith, a .count))))
+      pub past-end : at .count < r .entries → s ≡ seenBy (framed r n) r
+      past-end l = apart (stops 3 (lt-leb (r .entries) most (omega (arith, a .count))))
 
-      pub other-next : same (r .next) (at .composition) ≡ false → Sees r col x s
-      other-next f = apart (fails r col 6 (ap (same (r .next)) (sym (a .next)) ∙ f))
+      pub other-next : same (r .next) (at .composition) ≡ false → s ≡ seenBy (framed r n) r
+      other-next f = apart (stops 4 (ap (same (r .next)) (sym (a .next)) ∙ f))
 
-    module _ {z h : ℕ} (found : Scanned (written r col) x z h) where
-      pub other-voided : r .voided ≢ z → Sees r col x s
-      other-voided n = apart (fails r col 5 (ne-eqb (r .voided) (zeros (written r col)) (λ e. n (e ∙ sym (found .zeros-are)))))
+    pub no-spare : same (r .bounds .upper) (cellsOf (upperOf (r .bounds))) ≡ false → s ≡ seenBy (framed r n) r
+    no-spare f = apart (stops 5 f)
 
-      pub other-sold : r .entries ≤ length col → r .sold ≢ r .entries - z → Sees r col x s
-      other-sold l n =
-          apart (fails r col 4
-          (ne-eqb (r .sold) (nonzeros (written r col)) (λ e. n (e ∙ sold-of r col l ∙ ap (λ (k : ℕ). r .entries - k) (sym (found .zeros-are))))))
-
-    pub no-spare : same (r .bounds .upper) (cellsOf (upperOf (r .bounds))) ≡ false → Sees r col x s
-    no-spare f = apart (fails r col 7 f)
-
-  -- all tests pass
-  pub belongs : {at : Located} {z h : ℕ}
-      → Asked (r .bounds) (r .entries) at
+  -- all of them pass
+  pub frame-passes : {at : Located}
+      → Asked r at
       → at .count ≤ mostEntries
-      → at .count ≤ length col
+      → at .count ≤ n
       → r .entries ≤ at .count
-      → Scanned (written r col) x z h
-      → r .voided ≡ z
-      → r .sold ≡ r .entries - z
       → same (r .next) (at .composition) ≡ true
       → same (r .bounds .upper) (cellsOf (upperOf (r .bounds))) ≡ true
-      → Sees r col x (record { fits = true; count = at .count; hits = h })
-  belongs {at} {z} a small room inside found voided sold next spare =
-      let l : r .entries ≤ length col = omega arith in
-      record {
-        fits =
-            sym (together r col (a .sound) (omega (arith, a .count)) (omega (arith, a .count)) (omega (arith, a .count))
-            (sold ∙ ap (λ (k : ℕ). r .entries - k) (found .zeros-are) ∙ sym (sold-of r col l))
-            (voided ∙ found .zeros-are)
-            (ap (same (r .next)) (sym (a .next)) ∙ next)
-            spare);
-        count = λ t. a .count;
-        hits = λ t. found .hits-are;
-        other = λ t. absurd (false≢true (sym t));
-      }
+      → record { fits = true; count = at .count } ≡ seenBy (framed r n) r
+  unfolding framed seenBy
+  frame-passes {at} a small fits inside next spare =
+      rw (
+        eq-eqb (firstRefusal (recordChecks (r .bounds)) .number) 0 (a .sound),
+        le-leb most mostEntries (omega (arith, a .count)),
+        le-leb most n (omega (arith, a .count)),
+        le-leb (r .entries) most (omega (arith, a .count)),
+        ap (same (r .next)) (sym (a .next)) ∙ next,
+        spare,
+        a .count,
+      )
+
+  -- then the lines written are within the column
+  pub frame-room : framed r n ≡ true → (r .entries ≤ n) × (r .entries ≤ mostEntries)
+  unfolding framed
+  frame-room t =
+      let q = each (frameTests r n) t in
+      let small = leb-true most mostEntries (q .1 .0) in
+      let fits = leb-true most n (q .1 .1 .0) in
+      let inside = leb-true (r .entries) most (q .1 .1 .1 .0) in
+      (omega arith, omega arith)
+
+-- ---- and those that count the lines
+
+-- the two counts, which stand in the middle of the row, come last
+last : (a b c d s v x : Bool)
+    → both a (both b (both c (both d (both s (both v x))))) ≡ both (both a (both b (both c (both d x)))) (both v s)
+last false b c d s v x = refl
+last true false c d s v x = refl
+last true true false d s v x = refl
+last true true true false s v x = refl
+last true true true true false false false = refl
+last true true true true false false true = refl
+last true true true true false true false = refl
+last true true true true false true true = refl
+last true true true true true false false = refl
+last true true true true true false true = refl
+last true true true true true true false = refl
+last true true true true true true true = refl
+
+module _ (r : Ledger) (col : Lent) where
+  counts-last : consistent r col
+      ≡ both (framed r (room col)) (both (eqb (r .voided) (voidedIn (written r col))) (eqb (r .sold) (soldIn (written r col))))
+  unfolding consistent framed
+  counts-last =
+      let p = printingOf r in
+      last (eqb (firstRefusal (recordChecks (r .bounds)) .number) 0) (leb (capacity p) mostEntries) (leb (capacity p) (room col))
+      (leb (r .entries) (capacity p)) (eqb (r .sold) (soldIn (written r col))) (eqb (r .voided) (voidedIn (written r col)))
+      (all (same (r .next) (nextComposition p (r .entries)) ∷ same (r .bounds .upper) (cellsOf (upperOf (r .bounds))) ∷ []))
+
+  pub not-framed : framed r (room col) ≡ false → consistent r col ≡ false
+  not-framed f = counts-last ∙ rw f
+
+  -- the lines are counted where they are within the column
+  pub by-counts : (z : ℕ) → framed r (room col) ≡ true → z ≡ voidedIn (written r col)
+      → consistent r col ≡ both (eqb (r .voided) z) (eqb (r .sold) (r .entries - z))
+  by-counts z t e =
+      let s : soldIn (written r col) ≡ r .entries - z = sold-of r col (frame-room r (room col) t .0) ∙ ap (λ (k : ℕ). r .entries - k) (sym e) in
+      counts-last ∙ rw (t, sym e, s)

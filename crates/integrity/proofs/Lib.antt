@@ -1,2 +1,3 @@
-pub mod Scans
+pub mod Cells
+pub mod Places
 pub mod Checks

@@ -1,23 +1,44 @@
--- Number 16 and the search for an order, by one pass over the entries.
-use mathlib.Core.Path.{_≡_}
-use mathlib.Core.Bool.{true, false}
-use mathlib.Core.List.{List}
+-- Number 16 as the code tests it: first what needs no line, then the counts of the lines written.
+use mathlib.Core.Bool.{Bool, cond}
+use mathlib.Core.List.{List, [], _∷_}
 use Prim.Native.Nat.{ℕ}
-use lib.ListN.{length}
-use Rattle.walsh.specs.Tests.{times}
-use Rattle.model.specs.Basics.{zeros}
-use Rattle.model.specs.Record.{compositionsOf, written, consistent}
+use lib.Dec.{leb, eqb}
+use Rattle.walsh.specs.Serial.{same}
+use Rattle.bounds.specs.Refusal.{firstRefusal}
+use Rattle.bounds.specs.Edition.{recordChecks, cellsOf}
+use Rattle.bounds.specs.Places.{mostEntries}
+use Rattle.model.specs.Basics.{all, firstPlace}
+use Rattle.model.specs.Entry.{Entry, Lent, sameOrder}
+use Rattle.model.specs.Printing.{size, capacity, nextComposition}
+use Rattle.model.specs.Record.{upperOf, printingOf, written}
 use Rattle.model.specs.declared.Ledger.{Ledger}
 use Rattle.integrity.specs.declared.Seen.{Seen}
+use Rattle.integrity.specs.declared.Found.{Found}
 
--- z entries of l are 0, and h are x
-pub record Scanned (l : List ℕ) (x z h : ℕ) : Type 0 where
-  pub zeros-are : z ≡ zeros l
-  pub hits-are : h ≡ times x l
+-- the tests that look at no line, of a column with room for n
+abbrev pub frameTests : Ledger → ℕ → List Bool
+frameTests r n =
+    let p = printingOf r in
+    eqb (firstRefusal (recordChecks (r .bounds)) .number) 0
+    ∷ leb (capacity p) mostEntries
+    ∷ leb (capacity p) n
+    ∷ leb (r .entries) (capacity p)
+    ∷ same (r .next) (nextComposition p (r .entries))
+    ∷ same (r .bounds .upper) (cellsOf (upperOf (r .bounds)))
+    ∷ []
 
--- whether a record and a column belong together; if so, N, and how many of the entries are x; or else 0 and 0
-pub record Sees (r : Ledger) (col : List ℕ) (x : ℕ) (s : Seen) : Type 0 where
-  pub fits : s .fits ≡ consistent r col
-  pub count : s .fits ≡ true → s .count ≡ length (compositionsOf (r .bounds))
-  pub hits : s .fits ≡ true → s .hits ≡ times x (written r col)
-  pub other : s .fits ≡ false → (s .count ≡ 0) × (s .hits ≡ 0)
+unfoldable pub framed : Ledger → ℕ → Bool
+framed r n = all (frameTests r n)
+
+-- what is answered where a test says fits: N, or else 0
+unfoldable pub seenBy : Bool → Ledger → Seen
+seenBy fits r = record { fits = fits; count = cond fits (size (printingOf r)) 0 }
+
+-- the same, with the lowest place of e's order among the lines written, their number where it does not stand there
+unfoldable pub foundBy : Bool → Ledger → Lent → Entry → Found
+foundBy fits r col e =
+    record {
+      fits = fits;
+      count = cond fits (size (printingOf r)) 0;
+      place = cond fits (firstPlace (sameOrder e) (written r col)) 0;
+    }

@@ -1,71 +1,50 @@
-// Number 16 (document 01, "Refusals", place 'register calls'): whether a record and a column belong together, by one pass over the entries, which
-// finds the order too.
+// Number 16 (document 01, "Refusals", place 'register calls'): whether a record and a column belong together, by one pass over the lines written,
+// which finds the lowest place of an order too where one is looked for.
+mod pass;
+
 use bounds::Bounds;
 use model::Ledger;
-use rank::Located;
 ghost use mathlib.Core.Path.{_≡_};
 ghost use mathlib.Core.Bool.{false, cond};
-ghost use Prim.Native.Nat.{_+_, _≤_};
+ghost use Prim.Native.Nat.{_-_, _≤_};
 ghost use lib.Dec.{eqb};
-ghost use lib.ListN.{length, take};
 ghost use Rattle.walsh.specs.Serial.{same};
+ghost use Rattle.walsh.specs.Tests.{both};
 ghost use Rattle.bounds.specs.Edition.{cellsOf};
-ghost use Rattle.bounds.specs.Places.{mostEntries};
-ghost use Rattle.rank.specs.Locate.{locateRecordOf};
-ghost use Rattle.model.specs.Record.{upperOf};
-ghost use Rattle.integrity.specs.Examine.{Scanned, Sees};
+ghost use Rattle.model.specs.Record.{upperOf, consistent};
+ghost use Rattle.integrity.specs.Examine.{framed, seenBy, foundBy};
 
-// How many entries are 0, and how many are the order that is looked for.
-struct Counts {
-    zeros: u64,
-    hits: u64,
-}
-
-// Where a record and a column belong together: N, and how many entries are the order that is looked for; elsewhere 0 and 0.
+// Whether a record and a column belong together, and N where they do; elsewhere 0.
 pub struct Seen {
     pub fits: bool,
     pub count: u64,
-    pub hits: u64,
 }
 
-// 1 where two numbers are the same, with no branch in the loop that adds it up.
-fn one(a: u32, b: u32) -> u32
-    ensures { λ r. ⌜ (r ≡ cond (eqb a b) 1 0) × (r ≤ 1) ⌝ }
+// The same, and the lowest place, from 0, of the order that is looked for: the number of lines where it does not stand among them.
+pub struct Found {
+    pub fits: bool,
+    pub count: u64,
+    pub place: u64,
+}
+
+// 1 where two cells differ.
+fn differs(a: u8, b: u8) -> u8
+    ensures { λ r. ⌜ (r ≡ cond (eqb a b) 0 1) × (r ≤ 1) ⌝ }
 {
-    if a == b { 1 } else { 0 }
+    if a == b { 0 } else { 1 }
 }
 
-// One pass over the first n entries.
-fn scan(orders: &[u32], n: usize, order: u32) -> Counts
-    requires { ⌜ (n ≤ length (now orders)) × (n ≤ mostEntries) ⌝ }
-    ensures { λ r. ⌜ Scanned (take n (now (orders .entry))) order (r .zeros) (r .hits) ⌝ }
-{
-    let mut zeros: u32 = 0;
-    let mut hits: u32 = 0;
-    let mut i: usize = 0;
-    while i < n {
-        let x = orders[i];
-        zeros += one(x, 0);
-        hits += one(x, order);
-        i += 1;
-    }
-    Counts {
-        zeros: zeros as u64,
-        hits: hits as u64,
-    }
-}
-
+// All cells are compared, with no branch between them.
 fn equal(a: [u8; 24], b: [u8; 24]) -> bool
     ensures { λ r. ⌜ r ≡ same a b ⌝ }
 {
+    let mut others: u8 = 0;
     let mut i: usize = 0;
     while i < 24 {
-        if a[i] != b[i] {
-            return false;
-        }
+        others += differs(a[i], b[i]);
         i += 1;
     }
-    true
+    others == 0
 }
 
 // Whether the cells past n are 0.
@@ -73,67 +52,40 @@ fn packed(bounds: Bounds) -> bool
     requires { ⌜ bounds .parts ≤ 24 ⌝ }
     ensures { λ r. ⌜ r ≡ same (bounds .upper) (cellsOf (upperOf bounds)) ⌝ }
 {
-    let n = bounds.parts;
     let upper = bounds.upper;
-    let cells = bounds::pack(&upper[..n]);
-    equal(upper, cells)
+    let mut k = bounds.parts;
+    while k < 24 {
+        if upper[k] != 0 {
+            return false;
+        }
+        k += 1;
+    }
+    true
 }
 
 fn unseen() -> Seen
-    ensures { λ r. ⌜ r ≡ record { fits = false; count = 0; hits = 0 } ⌝ }
+    ensures { λ r. ⌜ r ≡ record { fits = false; count = 0 } ⌝ }
 {
     Seen {
         fits: false,
         count: 0,
-        hits: 0,
     }
 }
 
-// The tests of number 16, with N and the composition of the next serial, of serial N when full.
-fn test(ledger: Ledger, orders: &[u32], order: u32, at: Located) -> Seen
-    requires { ⌜ (ledger .entries ≤ mostEntries) × (at ≡ locateRecordOf (ledger .bounds) (ledger .entries + 1)) ⌝ }
-    ensures { λ r. ⌜ Sees ledger (now (orders .entry)) order r ⌝ }
+fn unfound() -> Found
+    ensures { λ r. ⌜ r ≡ record { fits = false; count = 0; place = 0 } ⌝ }
 {
-    if 0 < at.number {
-        return unseen();
-    }
-    let count = at.count;
-    if bounds::MOST_ENTRIES < count {
-        return unseen();
-    }
-    if orders.len() < count as usize {
-        return unseen();
-    }
-    let entries = ledger.entries;
-    if count < entries {
-        return unseen();
-    }
-    let found = scan(orders, entries as usize, order);
-    if ledger.voided != found.zeros {
-        return unseen();
-    }
-    if ledger.sold != entries - found.zeros {
-        return unseen();
-    }
-    let next = ledger.next;
-    let composition = at.composition;
-    if !equal(next, composition) {
-        return unseen();
-    }
-    let bounds = ledger.bounds;
-    if !packed(bounds) {
-        return unseen();
-    }
-    Seen {
-        fits: true,
-        count,
-        hits: found.hits,
+    Found {
+        fits: false,
+        count: 0,
+        place: 0,
     }
 }
 
-// A record and a column that nobody has checked. More than MOST_ENTRIES entries never belong to a column, so the next serial fits 64 bits.
-pub fn examine(ledger: Ledger, orders: &[u32], order: u32) -> Seen
-    ensures { λ r. ⌜ Sees ledger (now (orders .entry)) order r ⌝ }
+// The tests of number 16 that look at no line, of a column with room for so many. More than MOST_ENTRIES entries never belong to a column, so the
+// next serial fits 64 bits.
+fn frame(ledger: Ledger, room: usize) -> Seen
+    ensures { λ r. ⌜ r ≡ seenBy (framed ledger room) ledger ⌝ }
 {
     let entries = ledger.entries;
     if bounds::MOST_ENTRIES < entries {
@@ -141,5 +93,73 @@ pub fn examine(ledger: Ledger, orders: &[u32], order: u32) -> Seen
     }
     let bounds = ledger.bounds;
     let at = rank::locate_record(bounds, entries + 1);
-    test(ledger, orders, order, at)
+    if 0 < at.number {
+        return unseen();
+    }
+    let count = at.count;
+    if bounds::MOST_ENTRIES < count {
+        return unseen();
+    }
+    if room < count as usize {
+        return unseen();
+    }
+    if count < entries {
+        return unseen();
+    }
+    let next = ledger.next;
+    let composition = at.composition;
+    if !equal(next, composition) {
+        return unseen();
+    }
+    if !packed(bounds) {
+        return unseen();
+    }
+    Seen { fits: true, count }
+}
+
+// The tests that count the lines: so many of those written are 0.
+fn counted(ledger: Ledger, zeros: u64) -> bool
+    requires { ⌜ zeros ≤ ledger .entries ⌝ }
+    ensures { λ r. ⌜ r ≡ both (eqb (ledger .voided) zeros) (eqb (ledger .sold) (ledger .entries - zeros)) ⌝ }
+{
+    if ledger.voided != zeros {
+        return false;
+    }
+    ledger.sold == ledger.entries - zeros
+}
+
+// A record and a column that nobody has checked.
+pub fn examine(ledger: Ledger, orders: &[u32]) -> Seen
+    ensures { λ r. ⌜ r ≡ seenBy (consistent ledger (now (orders .entry))) ledger ⌝ }
+{
+    let seen = frame(ledger, orders.len());
+    if !seen.fits {
+        return unseen();
+    }
+    let n = ledger.entries as usize;
+    let zeros = pass::zeros(&orders[..n]);
+    if !counted(ledger, zeros) {
+        return unseen();
+    }
+    seen
+}
+
+// The same, and where an order stands.
+pub fn examine_for(ledger: Ledger, orders: &[u32], order: u32) -> Found
+    ensures { λ r. ⌜ r ≡ foundBy (consistent ledger (now (orders .entry))) ledger (now (orders .entry)) order ⌝ }
+{
+    let framed = frame(ledger, orders.len());
+    if !framed.fits {
+        return unfound();
+    }
+    let written = ledger.entries as usize;
+    let passed = pass::seek(&orders[..written], order);
+    if !counted(ledger, passed.zeros) {
+        return unfound();
+    }
+    Found {
+        fits: true,
+        count: framed.count,
+        place: passed.place as u64,
+    }
 }

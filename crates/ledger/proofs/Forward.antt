@@ -6,7 +6,7 @@ use Prim.Native.Nat.{ℕ, _+_, _-_, _≤_, _<_, min}
 use native.Mathlib.Omega.{arith}
 use lib.ListN.{length, take, drop}
 use borrow.Author.Tests.{eq-eqb}
-use Rattle.walsh.specs.Order.{Composition, countOf}
+use Rattle.walsh.specs.Order.{Composition}
 use Rattle.walsh.specs.Serial.{serialOf, compositionOf}
 use Rattle.walsh.proofs.Cases.{on-less}
 use Rattle.walsh.proofs.Serials.{composition-is, serial-composition}
@@ -14,49 +14,50 @@ use Rattle.bounds.specs.Edition.{cellsOf}
 use Rattle.bounds.proofs.Cells.{cells-back, cells-replaced}
 use Rattle.step.specs.Advance.{advanceOf, Advances}
 use Rattle.step.proofs.Ways.{advance-serial}
-use Rattle.model.specs.Record.{compositions, nextComposition}
-use Rattle.model.proofs.Compositions.{compositions-size, compositions-at}
+use Rattle.model.specs.Printing.{Printing, size, nextComposition}
+use Rattle.model.proofs.Compositions.{compositions-at}
 
-module _ (ms : List ℕ) (r e : ℕ) where
-  abbrev gs : List (List ℕ)
-  gs = compositions ms r
+module _ (p : Printing) (e : ℕ) where
+  abbrev ms : List ℕ
+  ms = p .bounds
+
+  abbrev r : ℕ
+  r = p .total
 
   -- the composition of serial s, of serial N where s is larger
-  at-serial : (s : ℕ) → nextComposition gs s ≡ cellsOf (compositionOf ms r (min (s + 1) (length gs)))
+  at-serial : (s : ℕ) → nextComposition p s ≡ cellsOf (compositionOf ms r (min (s + 1) (size p)))
   unfolding compositionOf
-  at-serial s = compositions-at ms r (min (s + 1) (length gs) - 1)
+  at-serial s = compositions-at ms r (min (s + 1) (size p) - 1)
 
   pub forward : (n : ℕ) (next : List ℕ) (b : Bool) (h : List ℕ)
       → n ≡ length ms
       → length ms ≤ 24
-      → next ≡ nextComposition gs e
-      → e < length gs
+      → next ≡ nextComposition p e
+      → e < size p
       → Advances ms r (take n next) b h
-      → h ++ drop n next ≡ nextComposition gs (e + 1)
+      → h ++ drop n next ≡ nextComposition p (e + 1)
   unfolding advanceOf
-  forward n next b h size few is room step =
-      let count = compositions-size ms r in
-      let now : min (e + 1) (length gs) ≡ e + 1 = omega arith in
+  forward n next b h count few is room step =
+      let now : min (e + 1) (size p) ≡ e + 1 = omega arith in
       let g : List ℕ = compositionOf ms r (e + 1) in
       let cells : next ≡ cellsOf g = is ∙ at-serial e ∙ ap (λ (s : ℕ). cellsOf (compositionOf ms r s)) now in
       let valid : Composition ms r g = composition-is ms r (e + 1) (omega arith) (omega arith) in
-      let long : n ≡ length g = size ∙ sym (valid .size) in
+      let long : n ≡ length g = count ∙ sym (valid .size) in
       let same : take n next ≡ g = rw (cells, long) (cells-back g) in
       let serial : serialOf ms r g ≡ e + 1 = serial-composition ms r (e + 1) (omega arith) (omega arith) in
       let did : _≡_ {A = Bool × List ℕ} (b, h) (advanceOf ms r g) = rw same at (step .next few (rw same valid)) in
-      let to : h ≡ compositionOf ms r (min (e + 1 + 1) (length gs)) = ap (λ (p : Bool × List ℕ). p .1) did ∙ reached serial in
-      let valid′ : Composition ms r h = rw to (composition-is ms r (min (e + 1 + 1) (length gs)) (omega arith) (omega arith)) in
-      rw cells (cells-replaced g h n (sym long) (valid′ .size ∙ sym size)) ∙ ap cellsOf to ∙ sym (at-serial (e + 1))
+      let to : h ≡ compositionOf ms r (min (e + 1 + 1) (size p)) = ap (λ (q : Bool × List ℕ). q .1) did ∙ reached serial in
+      let valid′ : Composition ms r h = rw to (composition-is ms r (min (e + 1 + 1) (size p)) (omega arith) (omega arith)) in
+      rw cells (cells-replaced g h n (sym long) (valid′ .size ∙ sym count)) ∙ ap cellsOf to ∙ sym (at-serial (e + 1))
     where
       reached : serialOf ms r (compositionOf ms r (e + 1)) ≡ e + 1
-          → advanceOf ms r (compositionOf ms r (e + 1)) .1 ≡ compositionOf ms r (min (e + 1 + 1) (length gs))
+          → advanceOf ms r (compositionOf ms r (e + 1)) .1 ≡ compositionOf ms r (min (e + 1 + 1) (size p))
       reached serial =
-          let count = compositions-size ms r in
-          on-less (e + 1) (countOf ms r)
+          on-less (e + 1) (size p)
           (λ l t.
-          let more : e + 1 + 1 ≡ min (e + 1 + 1) (length gs) = omega arith in
-          ap (λ (p : Bool × List ℕ). p .1) (advance-serial ms r (e + 1) (omega arith) l) ∙ ap (compositionOf ms r) more)
+          let more : e + 1 + 1 ≡ min (e + 1 + 1) (size p) = omega arith in
+          ap (λ (q : Bool × List ℕ). q .1) (advance-serial ms r (e + 1) (omega arith) l) ∙ ap (compositionOf ms r) more)
           (λ l t.
-          let last : e + 1 ≡ countOf ms r = omega arith in
-          let same : e + 1 ≡ min (e + 1 + 1) (length gs) = omega arith in
-          rw (serial, eq-eqb (e + 1) (countOf ms r) last) (ap (compositionOf ms r) same))
+          let last : e + 1 ≡ size p = omega arith in
+          let same : e + 1 ≡ min (e + 1 + 1) (size p) = omega arith in
+          rw (serial, eq-eqb (e + 1) (size p) last) (ap (compositionOf ms r) same))

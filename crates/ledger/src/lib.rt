@@ -7,9 +7,9 @@ use model::Opened;
 ghost use mathlib.Core.Path.{_≡_};
 ghost use mathlib.Core.Bool.{true};
 ghost use Prim.Native.Nat.{_+_, _≤_, _<_};
-ghost use lib.ListN.{length};
+ghost use Rattle.model.specs.Printing.{size, nextComposition};
 ghost use Rattle.model.specs.Model.{Call};
-ghost use Rattle.model.specs.Record.{compositionsOf, nextComposition, blankLedger, opening, consistent, answered, calling, entriesOf};
+ghost use Rattle.model.specs.Record.{printingOf, blankLedger, opening, consistent, answered, calling, entriesOf};
 ghost use Rattle.ledger.specs.Entering.{entering};
 
 // ---- opening
@@ -34,7 +34,7 @@ pub fn unopened(number: u32, detail: u64) -> Opened
 
 // A ledger without entries. No entry of the column is written.
 pub fn open(upper: &[u8], total: u32, orders: &[u32]) -> Opened
-    ensures { λ r. ⌜ r ≡ opening (now (upper .entry)) total (now (orders .entry)) ⌝ }
+    ensures { λ r. ⌜ r ≡ opening (record { bounds = now (upper .entry); total = total }) (now (orders .entry)) ⌝ }
 {
     let first = rank::locate(upper, total, 1);
     if 0 < first.number {
@@ -66,9 +66,9 @@ pub fn open(upper: &[u8], total: u32, orders: &[u32]) -> Opened
 // The composition after the record's, by one step; the last stays.
 fn following(ledger: Ledger) -> [u8; 24]
     requires { ⌜ (ledger .bounds .parts ≤ 24)
-        × (ledger .next ≡ nextComposition (compositionsOf (ledger .bounds)) (ledger .entries))
-        × (ledger .entries < length (compositionsOf (ledger .bounds))) ⌝ }
-    ensures { λ r. ⌜ r ≡ nextComposition (compositionsOf (ledger .bounds)) (ledger .entries + 1) ⌝ }
+        × (ledger .next ≡ nextComposition (printingOf ledger) (ledger .entries))
+        × (ledger .entries < size (printingOf ledger)) ⌝ }
+    ensures { λ r. ⌜ r ≡ nextComposition (printingOf ledger) (ledger .entries + 1) ⌝ }
 {
     let bounds = ledger.bounds;
     let n = bounds.parts;
@@ -78,22 +78,24 @@ fn following(ledger: Ledger) -> [u8; 24]
     cells
 }
 
-// The order in the next entry, and the record that counts it.
+// The order in the next entry, and the record that counts it, with the composition after it. It calls nothing, so that the record is built where
+// the caller hands it back, and not copied.
 fn enter(
     ledger: Ledger,
     orders: &mut [u32],
     answer: Answer,
+    next: [u8; 24],
     order: u32,
     sold: u64,
     voided: u64,
 ) -> Claimed
-    requires { ⌜ (consistent ledger (now orders) ≡ true) × (ledger .entries < length (compositionsOf (ledger .bounds))) ⌝ }
+    requires { ⌜ (consistent ledger (now orders) ≡ true) × (ledger .entries < size (printingOf ledger))
+        × (next ≡ nextComposition (printingOf ledger) (ledger .entries + 1)) ⌝ }
     ensures { λ r. ⌜ (r, now (orders .exit)) ≡ entering ledger (now (orders .entry)) answer order sold voided ⌝ }
 {
     let at = ledger.entries as usize;
     orders[at] = order;
     let bounds = ledger.bounds;
-    let next = following(ledger);
     let after = Ledger {
         bounds,
         entries: ledger.entries + 1,
@@ -127,10 +129,12 @@ pub fn claim(ledger: Ledger, orders: &mut [u32], serial: u64, order: u32) -> Cla
             ledger,
         };
     }
+    let next = following(ledger);
     enter(
         ledger,
         orders,
         claimed,
+        next,
         order,
         ledger.sold + 1,
         ledger.voided,
@@ -148,14 +152,23 @@ pub fn void(ledger: Ledger, orders: &mut [u32], serial: u64) -> Claimed
             ledger,
         };
     }
-    enter(ledger, orders, voided, 0, ledger.sold, ledger.voided + 1)
+    let after = following(ledger);
+    enter(
+        ledger,
+        orders,
+        voided,
+        after,
+        0,
+        ledger.sold,
+        ledger.voided + 1,
+    )
 }
 
 // The entries so far, as the beginning of the lent column itself; none where number 16 holds.
 pub fn entries(ledger: Ledger, orders: &[u32]) -> &[u32]
     ensures { λ r. ⌜ (now r ≡ entriesOf ledger (now (orders .entry))) × (r .ptr ≡ orders .entry .ptr) ⌝ }
 {
-    let seen = integrity::examine(ledger, orders, 0);
+    let seen = integrity::examine(ledger, orders);
     if !seen.fits {
         return &orders[..0];
     }

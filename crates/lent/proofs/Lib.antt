@@ -1,2 +1,4 @@
 pub mod Forms
+pub mod Lending
+pub mod Numbers
 pub mod Stored

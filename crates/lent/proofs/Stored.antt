@@ -1,4 +1,4 @@
--- What both walks use: a store on acceptance alone.
+-- What the walk uses beside the kit: a store on acceptance alone.
 use mathlib.Core.Path.{_≡_, refl, sym, ap, _∙_}
 use mathlib.Core.Bool.{Bool, true, false, not}
 use mathlib.Core.List.{List}

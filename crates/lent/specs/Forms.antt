@@ -3,32 +3,34 @@
 use mathlib.Core.Path.{_≡_}
 use mathlib.Core.List.{List, [], _∷_}
 use Prim.Native.Nat.{ℕ}
-use Rattle.model.specs.Model.{Call}
+use Rattle.model.specs.Entry.{Entry, Lent as Column}
+use Rattle.model.specs.Printing.{Printing}
+use Rattle.model.specs.Model.{Call, event}
 use Rattle.model.specs.Record.{opening, answered, calling, Run}
 use Rattle.model.specs.declared.Answer.{Answer}
 use Rattle.model.specs.declared.Claimed.{Claimed}
 use Rattle.model.specs.declared.Ledger.{Ledger}
 
--- the functions that can be called: `ledger::peek`, `ledger::claim`, `ledger::void`, and `lent::claim_in`, `lent::void_in`
+-- the functions that can be called: `ledger::peek`, `ledger::claim`, `ledger::void`, and `engine::huz_claim_in`, `huz_void_in`
 pub data Invocation : Type 0 where
   peek : Invocation
-  claim : ℕ → ℕ → Invocation
+  claim : ℕ → Entry → Invocation
   void : ℕ → Invocation
-  claim-in : ℕ → ℕ → Invocation
+  claim-in : ℕ → Entry → Invocation
   void-in : ℕ → Invocation
 
 -- which of document 01's calls it is
 abbrev pub callOf : Invocation → Call
 callOf peek = Call.peek
-callOf (claim s o) = Call.claim s o
+callOf (claim s e) = Call.claim s e
 callOf (void s) = Call.void s
-callOf (claim-in s o) = Call.claim s o
+callOf (claim-in s e) = Call.claim s e
 callOf (void-in s) = Call.void s
 
 -- what the caller keeps between two calls
 pub record State : Type 0 where
   pub ledger : Ledger
-  pub column : List ℕ
+  pub column : Column
 
 -- ---- the contracts: of a call at x, that a is answered and y is left
 
@@ -50,9 +52,9 @@ pub record Peeks (x : State) (a : Answer) (y : State) : Type 0 where
 
 abbrev pub Does : Invocation → State → Answer → State → Type 0
 Does peek = Peeks
-Does (claim s o) = ByValue (Call.claim s o)
+Does (claim s e) = ByValue (Call.claim s e)
 Does (void s) = ByValue (Call.void s)
-Does (claim-in s o) = Lent (Call.claim s o)
+Does (claim-in s e) = Lent (Call.claim s e)
 Does (void-in s) = Lent (Call.void s)
 
 -- ---- a list of calls
@@ -62,8 +64,8 @@ abbrev pub Runs : State → List Invocation → Run → Type 0
 Runs x [] w = w ≡ record { trace = []; ledger = x .ledger; column = x .column }
 Runs x (s ∷ ss) w =
     (a : Answer) × (y : State) × (v : Run) × Does s x a y × Runs y ss v
-    × (w ≡ record { trace = record { call = callOf s; reply = a } ∷ v .trace; ledger = v .ledger; column = v .column })
+    × (w ≡ record { trace = event (callOf s) a ∷ v .trace; ledger = v .ledger; column = v .column })
 
 -- "the column and the record of an accepted opening"
-abbrev pub start : List ℕ → ℕ → List ℕ → State
-start ms r col = record { ledger = opening ms r col .ledger; column = col }
+abbrev pub start : Printing → Column → State
+start p col = record { ledger = opening p col .ledger; column = col }

@@ -3,102 +3,127 @@ use mathlib.Core.Path.{_≡_, refl, sym, ap, _∙_}
 use mathlib.Core.Logic.{_≢_}
 use mathlib.Core.Bool.{true}
 use mathlib.Core.List.{List, [], _∷_, _++_}
-use Prim.Native.Nat.{ℕ, _+_, _-_, _≤_, _<_}
+use Prim.Native.Nat.{ℕ, _≤_, _<_}
 use native.Mathlib.Omega.{arith}
 use lib.Dec.{eqb}
 use lib.ListN.{length, getD}
-use borrow.Author.Tests.{lt-ltb, le-ltb, eqb-true, eq-eqb, ne-eqb}
-use Rattle.walsh.proofs.Cases.{on-test}
-use Rattle.bounds.specs.Refusal.{firstRefusal}
-use Rattle.bounds.specs.Places.{isNoSerial, noSerial}
+use borrow.Author.Tests.{lt-ltb, le-ltb, eqb-true, ne-eqb}
+use Rattle.walsh.proofs.Cases.{on-test, on-less}
+use Rattle.bounds.specs.Refusal.{refused, firstRefusal}
+use Rattle.bounds.specs.Places.{isOutside}
 use Rattle.bounds.specs.declared.Refusal.{Refusal}
-use Rattle.bounds.proofs.Refusals.{refusal-here, refusal-next, refusal-first, refusal-later, by-acceptance}
+use Rattle.bounds.proofs.Refusals.{refusal-here, refusal-next, refusal-first, refusal-later, by-acceptance, same-number}
+use Rattle.bounds.proofs.Chains.{Accepts}
 use Rattle.model.specs.declared.Answer.{Answer}
-use Rattle.model.specs.Basics.{indexOf}
-use Rattle.model.specs.Model.{peek, claim, void, next, noOrder, alreadyWritten, aboveNext, standsEarlier, allWritten}
-use Rattle.model.specs.Model.{placeChecks, callChecks, given, refusedWith, answerBy, answer}
+use Rattle.model.specs.Basics.{firstPlace}
+use Rattle.model.specs.Entry.{Entry, voidEntry, orderOf, sameOrder}
+use Rattle.model.specs.Printing.{Printing, size, lowest, placeOf, serialAt}
+use Rattle.model.specs.Model.{peek, claim, void, next, noOrder, noLine, alreadyWritten, aboveNext, standsEarlier, allWritten}
+use Rattle.model.specs.Model.{orderChecks, placeChecks, callChecks, given, refusedWith, answerBy, answer}
+use Rattle.model.proofs.Entries.{is-voided, not-voided}
 
 -- an answer has the number of its refusal
-pub answer-number : (v : Refusal) (gs : List (List ℕ)) (s : ℕ) → answerBy v gs s .number ≡ v .number
-answer-number v gs s = on-test (eqb (v .number) 0) (λ t. rw t (sym (eqb-true (v .number) 0 t))) (λ t. rw t)
+pub answer-number : (v : Refusal) (p : Printing) (s : ℕ) → answerBy v p s .number ≡ v .number
+answer-number v p s = on-test (eqb (v .number) 0) (λ t. rw t (sym (eqb-true (v .number) 0 t))) (λ t. rw t)
+
+-- ---- an order by itself
+
+pub order-none : (e : Entry) → orderOf e ≡ 0 → firstRefusal (orderChecks e) ≡ refused 17 0
+order-none e z = refusal-here (noOrder e) [] (is-voided e z)
+
+pub order-good : (e : Entry) → orderOf e ≢ 0 → Accepts (orderChecks e)
+unfolding firstRefusal
+order-good e n = same-number (refusal-next (noOrder e) [] (not-voided e n))
 
 -- the answer of the checks of a serial alone, which is that of a void
-abbrev pub placed : List (List ℕ) → List ℕ → ℕ → Answer
-placed gs l s = answer gs l (void s)
+abbrev pub placed : Printing → List Entry → ℕ → Answer
+placed p l s = answer p l (void s)
 
-module _ (gs : List (List ℕ)) (l : List ℕ) where
+module _ (p : Printing) (l : List Entry) where
   abbrev by : Refusal → ℕ → Answer
-  by v s = answerBy v gs s
+  by v s = answerBy v p s
 
   -- ---- a peek
 
-  pub peek-open : next l ≤ length gs → answer gs l peek ≡ given gs (next l)
+  pub peek-open : next p l ≤ size p → answer p l peek ≡ given p (next p l)
   unfolding answer firstRefusal
-  peek-open h = ap (λ (v : Refusal). by v (next l)) (refusal-next (allWritten gs l) [] (le-ltb (length gs) (next l) h))
+  peek-open h = ap (λ (v : Refusal). by v (next p l)) (refusal-next (allWritten p l) [] (le-ltb (size p) (next p l) h))
 
-  pub peek-closed : length gs < next l → answer gs l peek ≡ refusedWith 21 0
+  pub peek-closed : size p < next p l → answer p l peek ≡ refusedWith 21 0
   unfolding answer
-  peek-closed h = ap (λ (v : Refusal). by v (next l)) (refusal-here (allWritten gs l) [] (lt-ltb (length gs) (next l) h))
+  peek-closed h = ap (λ (v : Refusal). by v (next p l)) (refusal-here (allWritten p l) [] (lt-ltb (size p) (next p l) h))
 
   -- ---- the checks of a serial
 
-  module _ (s : ℕ) (h : 1 ≤ s) (k : s ≤ length gs) where
-    inside : firstRefusal (placeChecks gs l s) ≡ firstRefusal (alreadyWritten l s ∷ aboveNext l s ∷ [])
-    inside = refusal-next _ _ (rw (ne-eqb s 0 (omega arith)) (le-ltb (length gs) s k))
-
-    -- the next one is accepted
-    pub placed-next : s ≡ next l → placed gs l s ≡ given gs s
-    unfolding answer firstRefusal
-    placed-next q =
-        let not-19 = refusal-next (aboveNext l s) [] (le-ltb (next l) s (omega arith)) in
-        let not-18 = refusal-next (alreadyWritten l s) (aboveNext l s ∷ []) (le-ltb s (next l) (omega arith)) in
-        ap (λ (v : Refusal). by v s) (inside ∙ not-18 ∙ not-19)
-
-    pub placed-below : s < next l → placed gs l s ≡ refusedWith 18 (getD l (s - 1) 0)
+  module _ (s : ℕ) where
+    outside-by : isOutside (lowest p) (size p) s ≡ true → placed p l s ≡ refusedWith 6 0
     unfolding answer
-    placed-below q = ap (λ (v : Refusal). by v s) (inside ∙ refusal-here (alreadyWritten l s) _ (lt-ltb s (next l) q))
+    outside-by t = ap (λ (v : Refusal). by v s) (refusal-here (noLine p s) _ t)
 
-    pub placed-above : next l < s → placed gs l s ≡ refusedWith 19 (next l)
-    unfolding answer
-    placed-above q =
-        let not-18 = refusal-next (alreadyWritten l s) (aboveNext l s ∷ []) (le-ltb s (next l) (omega arith)) in
-        ap (λ (v : Refusal). by v s) (inside ∙ not-18 ∙ refusal-here (aboveNext l s) [] (lt-ltb (next l) s q))
+    pub placed-low : s < lowest p → placed p l s ≡ refusedWith 6 0
+    placed-low h = outside-by (rw (lt-ltb s (lowest p) h))
 
-  pub placed-outside : (s : ℕ) → isNoSerial (length gs) s ≡ true → placed gs l s ≡ refusedWith 6 0
-  unfolding answer
-  placed-outside s t = ap (λ (v : Refusal). by v s) (refusal-here (noSerial (length gs) s) _ t)
+    pub placed-high : size p < s → placed p l s ≡ refusedWith 6 0
+    placed-high h = on-less s (lowest p) (λ b t. placed-low b) (λ b t. outside-by (rw t (lt-ltb (size p) s h)))
+
+    module _ (h : lowest p ≤ s) (k : s ≤ size p) where
+      inside : firstRefusal (placeChecks p l s) ≡ firstRefusal (alreadyWritten p l s ∷ aboveNext p l s ∷ [])
+      inside = refusal-next (noLine p s) _ (rw (le-ltb s (lowest p) h) (le-ltb (size p) s k))
+
+      -- the next one is accepted
+      pub placed-next : s ≡ next p l → placed p l s ≡ given p s
+      unfolding answer firstRefusal
+      placed-next q =
+          let not-19 = refusal-next (aboveNext p l s) [] (le-ltb (next p l) s (omega arith)) in
+          let not-18 = refusal-next (alreadyWritten p l s) (aboveNext p l s ∷ []) (le-ltb s (next p l) (omega arith)) in
+          ap (λ (v : Refusal). by v s) (inside ∙ not-18 ∙ not-19)
+
+      pub placed-below : s < next p l → placed p l s ≡ refusedWith 18 (orderOf (getD l (placeOf p s) voidEntry))
+      unfolding answer
+      placed-below q = ap (λ (v : Refusal). by v s) (inside ∙ refusal-here (alreadyWritten p l s) _ (lt-ltb s (next p l) q))
+
+      pub placed-above : next p l < s → placed p l s ≡ refusedWith 19 (next p l)
+      unfolding answer
+      placed-above q =
+          let not-18 = refusal-next (alreadyWritten p l s) (aboveNext p l s ∷ []) (le-ltb s (next p l) (omega arith)) in
+          ap (λ (v : Refusal). by v s) (inside ∙ not-18 ∙ refusal-here (aboveNext p l s) [] (lt-ltb (next p l) s q))
 
   -- ---- the checks of a claim
 
-  module _ (s o : ℕ) where
-    pub claim-none : o ≡ 0 → answer gs l (claim s o) ≡ refusedWith 17 0
+  module _ (s : ℕ) (e : Entry) where
+    -- an order that its own checks refuse
+    pub claim-none : (n d : ℕ) → n ≢ 0 → firstRefusal (orderChecks e) ≡ refused n d → answer p l (claim s e) ≡ refusedWith n d
     unfolding answer
-    claim-none e = ap (λ (v : Refusal). by v s) (refusal-here (noOrder o) _ (eq-eqb o 0 e))
+    claim-none n d z q =
+        let first = refusal-first (orderChecks e) (placeChecks p l s ++ (standsEarlier p l e ∷ [])) (λ y. z (same-number (sym q) ∙ y)) in
+        ap (λ (v : Refusal). by v s) (first ∙ q) ∙ rw (ne-eqb n 0 z)
 
-    module _ (n : o ≢ 0) where
-      ordered : firstRefusal (callChecks gs l (claim s o)) ≡ firstRefusal (placeChecks gs l s ++ (standsEarlier l o ∷ []))
-      ordered = refusal-next (noOrder o) _ (ne-eqb o 0 n)
+    module _ (n : Accepts (orderChecks e)) where
+      ordered : firstRefusal (callChecks p l (claim s e)) ≡ firstRefusal (placeChecks p l s ++ (standsEarlier p l e ∷ []))
+      ordered = refusal-later (orderChecks e) _ refl n
 
-      pub claim-refused : placed gs l s .number ≢ 0 → answer gs l (claim s o) ≡ placed gs l s
+      pub claim-refused : placed p l s .number ≢ 0 → answer p l (claim s e) ≡ placed p l s
       unfolding answer
       claim-refused f =
-          let number = answer-number (firstRefusal (placeChecks gs l s)) gs s in
-          ap (λ (v : Refusal). by v s) (ordered ∙ refusal-first (placeChecks gs l s) (standsEarlier l o ∷ []) (λ z. f (number ∙ z)))
+          let number = answer-number (firstRefusal (placeChecks p l s)) p s in
+          ap (λ (v : Refusal). by v s) (ordered ∙ refusal-first (placeChecks p l s) (standsEarlier p l e ∷ []) (λ z. f (number ∙ z)))
 
-      module _ (z : placed gs l s .number ≡ 0) where
-        zero-number : firstRefusal (placeChecks gs l s) .number ≡ 0
+      module _ (z : placed p l s .number ≡ 0) where
+        zero-number : firstRefusal (placeChecks p l s) .number ≡ 0
         unfolding answer
-        zero-number = sym (answer-number (firstRefusal (placeChecks gs l s)) gs s) ∙ z
+        zero-number = sym (answer-number (firstRefusal (placeChecks p l s)) p s) ∙ z
 
-        later : firstRefusal (callChecks gs l (claim s o)) ≡ firstRefusal (standsEarlier l o ∷ [])
-        later = ordered ∙ refusal-later (placeChecks gs l s) (standsEarlier l o ∷ []) refl zero-number
+        later : firstRefusal (callChecks p l (claim s e)) ≡ firstRefusal (standsEarlier p l e ∷ [])
+        later = ordered ∙ refusal-later (placeChecks p l s) (standsEarlier p l e ∷ []) refl zero-number
 
-        pub claim-again : indexOf o l < length l → answer gs l (claim s o) ≡ refusedWith 20 (indexOf o l + 1)
+        pub claim-again : firstPlace (sameOrder e) l < length l
+            → answer p l (claim s e) ≡ refusedWith 20 (serialAt p (firstPlace (sameOrder e) l))
         unfolding answer
-        claim-again p = ap (λ (v : Refusal). by v s) (later ∙ refusal-here (standsEarlier l o) [] (lt-ltb (indexOf o l) (length l) p))
+        claim-again q =
+            ap (λ (v : Refusal). by v s) (later ∙ refusal-here (standsEarlier p l e) [] (lt-ltb (firstPlace (sameOrder e) l) (length l) q))
 
-        pub claim-good : length l ≤ indexOf o l → answer gs l (claim s o) ≡ placed gs l s
+        pub claim-good : length l ≤ firstPlace (sameOrder e) l → answer p l (claim s e) ≡ placed p l s
         unfolding answer firstRefusal
-        claim-good p =
-            let none = refusal-next (standsEarlier l o) [] (le-ltb (indexOf o l) (length l) p) in
-            ap (λ (v : Refusal). by v s) (later ∙ none) ∙ sym (by-acceptance (firstRefusal (placeChecks gs l s)) _ _ zero-number)
+        claim-good q =
+            let none = refusal-next (standsEarlier p l e) [] (le-ltb (firstPlace (sameOrder e) l) (length l) q) in
+            ap (λ (v : Refusal). by v s) (later ∙ none) ∙ sym (by-acceptance (firstRefusal (placeChecks p l s)) _ _ zero-number)

@@ -1,172 +1,171 @@
 -- Laws of a list of calls of the model: the lines that it wrote, and its second list.
 use mathlib.Core.Path.{_≡_, refl, sym, ap, _∙_}
-use mathlib.Core.Bool.{Bool, true, false, cond}
-use mathlib.Core.List.{List, [], _∷_, _++_, append-assoc, append-nil, nil≢cons, head-eq-of-cons-eq, tail-eq-of-cons-eq}
-use Prim.Native.Nat.{ℕ, _+_, _-_, _≤_, _<_}
+use mathlib.Core.Bool.{Bool, true, false, cond, false≢true}
+use mathlib.Core.List.{List, [], _∷_, _++_, append-nil, nil≢cons, head-eq-of-cons-eq, tail-eq-of-cons-eq}
+use Prim.Native.Nat.{suc, _+_, _<_}
 use native.Mathlib.Nat.{add-zero}
-use native.Mathlib.Numerals.{add-one}
 use native.Mathlib.Omega.{arith}
-use lib.ListN.{length, take, drop}
+use lib.ListN.{length, take, drop, length-append}
 use lib.Seq.{drop-cons}
-use Rattle.model.specs.Model.{Call, peek, claim, void, blank, accepted, next, answer, after, Event, bookFrom}
-use Rattle.model.specs.Trace.{writes, isClaim, isVoid, ordered, those, writers, serials, orders, answeredCompositions}
+use Rattle.model.specs.Entry.{Entry, voidEntry}
+use Rattle.model.specs.declared.Answer.{Answer}
+use Rattle.model.specs.Printing.{Printing, blank, compositionAt, stock}
+use Rattle.model.specs.Model.{Call, peek, claim, void, accepted, next, granted, answer, appended, after, Event, eventAt, bookFrom}
+use Rattle.model.specs.Trace.{writes, named, entryOf, isClaim, isVoid, those, kept, writers, serials, entriesBy, answeredCompositions}
 use Rattle.model.specs.Trace.{peeked, Foretold, countFrom}
-use Rattle.model.proofs.Lists.{length-snoc}
+use Rattle.model.proofs.Lists.{length-snoc, snoc-append}
+use Rattle.model.proofs.Stock.{stock-size, stock-at}
 use Rattle.model.proofs.Answers.{peek-open}
-use Rattle.model.proofs.Calls.{grant}
+use Rattle.model.proofs.Calls.{Reached, Grant, grant}
 
-module _ (gs : List (List ℕ)) where
-  abbrev pub event : List ℕ → Call → Event
-  event l c = record { call = c; reply = answer gs l c }
+module _ (p : Printing) where
+  -- an accepted claim or void, where the lines l are written
+  pub record Wrote (l : List Entry) (x : Event) : Type 0 where
+    pub writing : writes (x .call) ≡ true
+    pub granted : accepted (answer p l (x .call)) ≡ true
+    pub answering : x ≡ eventAt p l (x .call)
 
-  -- a call writes a line, or it leaves the list as it is
-  pub data Effect (l : List ℕ) (c : Call) : Type 0 where
-    wrote : accepted (answer gs l c) ≡ true → writes c ≡ true → after gs l c ≡ l ++ (ordered c ∷ []) → Effect l c
-    still : ((t : List Event) → writers (event l c ∷ t) ≡ writers t) → after gs l c ≡ l → Effect l c
+  -- from the lines l, by the events ws one after another, to the lines m
+  abbrev pub Grown : List Entry → List Event → List Entry → Type 0
+  Grown l [] m = l ≡ m
+  Grown l (x ∷ ws) m = Wrote l x × Grown (l ++ appended (x .call)) ws m
 
-  pub effect : (l : List ℕ) (c : Call) → Effect l c
+  -- a call and what follows it
+  grown-call : (l : List Entry) (c : Call) (t : List Event) (m : List Entry)
+      → Grown (after p l c) (writers t) m → Grown l (writers (eventAt p l c ∷ t)) m
   unfolding after
-  effect l c = go c (accepted (answer gs l c)) refl
+  grown-call l c t m = go c (accepted (answer p l c)) refl
     where
-      go : (c : Call) (b : Bool) → accepted (answer gs l c) ≡ b → Effect l c
-      go c false p = still (λ t. rw p) (rw p)
-      go peek true p = still (λ t. rw p) (rw p)
-      go (claim s o) true p = wrote p refl (rw p)
-      go (void s) true p = wrote p refl (rw p)
+      go : (c : Call) (b : Bool) → accepted (answer p l c) ≡ b
+          → Grown (cond b (l ++ appended c) l) (writers t) m
+          → Grown l (those writes (cond b (eventAt p l c ∷ kept t) (kept t))) m
+      go c false q g = g
+      go peek true q g = rw (append-nil l) at g
+      go (claim s e) true q g = (record { writing = refl; granted = q; answering = refl }, g)
+      go (void s) true q g = (record { writing = refl; granted = q; answering = refl }, g)
 
-  peek-keeps : (l : List ℕ) → after gs l peek ≡ l
+  pub grown : (cs : List Call) (l : List Entry) → Grown l (writers (bookFrom p l cs .trace)) (bookFrom p l cs .entries)
+  unfolding bookFrom
+  grown [] l = refl
+  grown (c ∷ cs) l = grown-call l c (bookFrom p (after p l c) cs .trace) (bookFrom p (after p l c) cs .entries) (grown cs (after p l c))
+
+  -- the call at any place of a trace: what the model had written before it
+  pub record Stood (l : List Entry) (before : List Event) (x : Event) : Type 0 where
+    pub entries : List Entry
+    pub answering : x ≡ eventAt p entries (x .call)
+    pub by : Grown l (writers before) entries
+
+  pub stood :
+      (before : List Event) (cs : List Call) (l : List Entry) (x : Event) (rest : List Event)
+      → bookFrom p l cs .trace ≡ before ++ (x ∷ rest)
+      → Stood l before x
+  unfolding bookFrom
+  stood [] [] l x rest q = absurd (nil≢cons q)
+  stood [] (c ∷ cs) l x rest q =
+      let h : eventAt p l c ≡ x = head-eq-of-cons-eq q in
+      rw (← h) (record { entries = l; answering = refl; by = refl })
+  stood (y ∷ before) [] l x rest q = absurd (nil≢cons q)
+  stood (y ∷ before) (c ∷ cs) l x rest q =
+      let h : eventAt p l c ≡ y = head-eq-of-cons-eq q in
+      let i = stood before cs (after p l c) x rest (tail-eq-of-cons-eq q) in
+      rw (← h) (record { entries = i .entries; answering = i .answering; by = grown-call l c before (i .entries) (i .by) })
+
+  -- ---- what such events say
+
+  -- one line each, the serials in turn, each with its composition; and with a peek before each they do the same again
+  pub record Facts (l : List Entry) (ws : List Event) (m : List Entry) : Type 0 where
+    pub size : length m ≡ length l + length ws
+    pub lines : m ≡ l ++ entriesBy ws
+    pub reached : Reached p m
+    pub serial : serials ws ≡ countFrom (next p l) (length ws)
+    pub composition : answeredCompositions ws ≡ take (length ws) (drop (length l) (stock p))
+    pub again-entries : bookFrom p l (peeked ws) .entries ≡ m
+    pub again-trace : those writes (bookFrom p l (peeked ws) .trace) ≡ ws
+    pub again-peeks : Foretold (bookFrom p l (peeked ws) .trace)
+
+  -- a claim or a void appends its line, and is granted the serial that it names
+  record OneLine (l : List Entry) (c : Call) : Type 0 where
+    pub line : appended c ≡ entryOf c ∷ []
+    pub longer : length (l ++ appended c) ≡ suc (length l)
+    pub serial : granted p l c ≡ named c
+
+  one-line : (l : List Entry) (c : Call) → writes c ≡ true → OneLine l c
+  one-line l (claim s e) w = record { line = refl; longer = length-snoc l e ∙ omega arith; serial = refl }
+  one-line l (void s) w = record { line = refl; longer = length-snoc l voidEntry ∙ omega arith; serial = refl }
+  one-line l peek w = absurd (false≢true w)
+
+  peek-keeps : (l : List Entry) → after p l peek ≡ l
   unfolding after
-  peek-keeps l = go (accepted (answer gs l peek))
+  peek-keeps l = go (accepted (answer p l peek))
     where
-      go : (b : Bool) → cond b l l ≡ l
-      go true = refl
+      go : (b : Bool) → cond b (l ++ []) l ≡ l
+      go true = append-nil l
       go false = refl
 
-  -- from the entries l, by the writers ws, to the entries m: their orders one behind the other, and they took the serials in turn
-  pub record Grown (l : List ℕ) (ws : List Event) (m : List ℕ) : Type 0 where
-    pub size : length m ≡ length l + length ws
-    pub entries : m ≡ l ++ orders ws
-    pub serial : serials ws ≡ countFrom (next l) (length ws)
-    pub fits : length l ≤ length gs → length m ≤ length gs
+  accepted-after : (l : List Entry) (c : Call) → accepted (answer p l c) ≡ true → after p l c ≡ l ++ appended c
+  unfolding after
+  accepted-after l c t = rw t
 
-  grown-none : (l : List ℕ) → Grown l [] l
-  grown-none l = record { size = sym (add-zero (length l)); entries = sym (append-nil l); serial = refl; fits = λ h. h }
-
-  grown-wrote :
-      (l : List ℕ) (c : Call) (ws : List Event) (m : List ℕ)
-      → accepted (answer gs l c) ≡ true
-      → writes c ≡ true
-      → after gs l c ≡ l ++ (ordered c ∷ [])
-      → Grown (after gs l c) ws m
-      → Grown l (event l c ∷ ws) m
-  grown-wrote l c ws m a w e f =
-      let n = ap length e ∙ length-snoc l (ordered c) in
-      record {
-        size = omega (arith, f .size);
-        entries = f .entries ∙ ap (λ (k : List ℕ). k ++ orders ws) e ∙ append-assoc l (ordered c ∷ []) (orders ws);
-        serial = rw (grant gs l c a .serial w, f .serial, n, add-one (next l));
-        fits = λ _. f .fits (omega (arith, grant gs l c a .room));
+  -- a peek and an accepted call
+  again : (l : List Entry) (c : Call) (cs : List Call) → accepted (answer p l c) ≡ true
+      → bookFrom p l (peek ∷ c ∷ cs)
+      ≡ record {
+        trace = eventAt p l peek ∷ eventAt p l c ∷ bookFrom p (l ++ appended c) cs .trace;
+        entries = bookFrom p (l ++ appended c) cs .entries;
       }
-
-  -- from the entries l, by the trace t, to the entries m
-  pub record Facts (l : List ℕ) (t : List Event) (m : List ℕ) : Type 0 where
-    pub grown : Grown l (writers t) m
-    pub composition : answeredCompositions (writers t) ≡ take (length (writers t)) (drop (length l) gs)
-    pub again-entries : bookFrom gs l (peeked (writers t)) .entries ≡ m
-    pub again-trace : those writes (bookFrom gs l (peeked (writers t)) .trace) ≡ writers t
-    pub again-peeks : Foretold (bookFrom gs l (peeked (writers t)) .trace)
-
-  wrote-facts :
-      (l : List ℕ) (c : Call) (t : List Event) (m : List ℕ)
-      → accepted (answer gs l c) ≡ true
-      → writes c ≡ true
-      → after gs l c ≡ l ++ (ordered c ∷ [])
-      → Facts (after gs l c) t m
-      → Facts l (event l c ∷ t) m
   unfolding bookFrom
-  wrote-facts l c t m a w e f =
-      let n = ap length e ∙ length-snoc l (ordered c) in
-      let g = grant gs l c a in
-      let in-range : length l < length gs = omega (arith, g .room) in
-      let place : next l - 1 ≡ length l = omega arith in
-      record {
-        grown = rw (a, w) (grown-wrote l c (writers t) m a w e (f .grown));
-        composition = rw (a, w, g .reply, f .composition, n, drop-cons gs (length l) blank in-range, place, add-one);
-        again-entries = rw (a, w, peek-keeps l) (f .again-entries);
-        again-trace = rw (a, w, peek-keeps l, w, f .again-trace);
-        again-peeks =
-            rw (a, w, peek-keeps l, peek-open gs l (g .room)) (refl, refl, sym (g .serial w), f .again-peeks);
-      }
+  again l c cs t = rw (peek-keeps l, accepted-after l c t)
 
-  still-facts :
-      (l : List ℕ) (x : Event) (t : List Event) (m : List ℕ)
-      → writers (x ∷ t) ≡ writers t
-      → Facts l t m
-      → Facts l (x ∷ t) m
-  still-facts l x t m e f =
-      record {
-        grown = rw e (f .grown);
-        composition = rw e (f .composition);
-        again-entries = rw e (f .again-entries);
-        again-trace = rw e (f .again-trace);
-        again-peeks = rw e (f .again-peeks);
-      }
-
-  pub facts : (cs : List Call) (l : List ℕ) → Facts l (bookFrom gs l cs .trace) (bookFrom gs l cs .entries)
+  facts-none : (l : List Entry) → Reached p l → Facts l [] l
   unfolding bookFrom
-  facts [] l =
+  facts-none l h =
       record {
-        grown = grown-none l;
+        size = sym (add-zero (length l));
+        lines = sym (append-nil l);
+        reached = h;
+        serial = refl;
         composition = refl;
         again-entries = refl;
         again-trace = refl;
         again-peeks = tt;
       }
-  facts (c ∷ cs) l = go (effect l c) (facts cs (after gs l c)) (facts cs l)
-    where
-      go :
-          Effect l c
-          → Facts (after gs l c) (bookFrom gs (after gs l c) cs .trace) (bookFrom gs (after gs l c) cs .entries)
-          → Facts l (bookFrom gs l cs .trace) (bookFrom gs l cs .entries)
-          → Facts l (event l c ∷ bookFrom gs (after gs l c) cs .trace) (bookFrom gs (after gs l c) cs .entries)
-      go (wrote a w n) f f′ = wrote-facts l c _ _ a w n f
-      go (still k e) f f′ = rw e (still-facts l (event l c) _ _ (k (bookFrom gs l cs .trace)) f′)
 
-  -- the call at any place of a trace: what the model had written before it
-  pub record Stood (l : List ℕ) (before : List Event) (x : Event) : Type 0 where
-    pub entries : List ℕ
-    pub reply : x .reply ≡ answer gs entries (x .call)
-    pub grown : Grown l (writers before) entries
+  facts-more : (x : Event) (ws : List Event) (l m : List Entry)
+      → Reached p l → Wrote l x → Grant p l (x .call) → Facts (l ++ appended (x .call)) ws m → Facts l (x ∷ ws) m
+  facts-more x ws l m h w a f =
+      let c = x .call in
+      let one = one-line l c (w .writing) in
+      let turn : next p (l ++ appended c) ≡ suc (next p l) = omega (arith, one .longer) in
+      let in-range : length l < length (stock p) = omega (arith, length-append l (appended c), one .longer, a .reached .fits, stock-size p) in
+      let q = again l c (peeked ws) (w .granted) in
+      let reply : x .reply .composition ≡ compositionAt p (next p l) =
+      ap (λ (y : Event). y .reply .composition) (w .answering) ∙ ap (λ (y : Answer). y .composition) (a .reply) in
+      record {
+        size = omega (arith, f .size, one .longer);
+        lines = f .lines ∙ ap (λ (es : List Entry). (l ++ es) ++ entriesBy ws) (one .line) ∙ snoc-append l (entryOf c) (entriesBy ws);
+        reached = f .reached;
+        serial = rw (← (one .serial), a .serial, f .serial, turn);
+        composition = rw (reply, ← (stock-at p (length l)), f .composition, one .longer, drop-cons (stock p) (length l) blank in-range);
+        again-entries = rw q (f .again-entries);
+        again-trace = rw (q, w .writing, f .again-trace) (ap (λ (y : Event). y ∷ ws) (sym (w .answering)));
+        again-peeks = rw (q, peek-open p l (a .inside)) (refl, refl, sym (a .serial) ∙ one .serial, f .again-peeks);
+      }
 
-  pub stood :
-      (before : List Event) (cs : List Call) (l : List ℕ) (x : Event) (rest : List Event)
-      → bookFrom gs l cs .trace ≡ before ++ (x ∷ rest)
-      → Stood l before x
-  unfolding bookFrom
-  stood [] [] l x rest p = absurd (nil≢cons p)
-  stood [] (c ∷ cs) l x rest p =
-      let h : event l c ≡ x = head-eq-of-cons-eq p in
-      rw (← h) (record { entries = l; reply = refl; grown = grown-none l })
-  stood (y ∷ before) [] l x rest p = absurd (nil≢cons p)
-  stood (y ∷ before) (c ∷ cs) l x rest p =
-      let h : event l c ≡ y = head-eq-of-cons-eq p in
-      let q : bookFrom gs (after gs l c) cs .trace ≡ before ++ (x ∷ rest) = tail-eq-of-cons-eq p in
-      rw (← h) (go (effect l c) (stood before cs (after gs l c) x rest q))
-    where
-      go : Effect l c → Stood (after gs l c) before x → Stood l (event l c ∷ before) x
-      go (wrote a w n) f =
-          record { entries = f .entries; reply = f .reply; grown = rw (a, w) (grown-wrote l c (writers before) (f .entries) a w n (f .grown)) }
-      go (still k e) f =
-          let f′ : Stood l before x = rw e at f in
-          record { entries = f′ .entries; reply = f′ .reply; grown = rw (k before) (f′ .grown) }
+  pub facts : (ws : List Event) (l m : List Entry) → Reached p l → Grown l ws m → Facts l ws m
+  facts [] l m h g = rw (← g) (facts-none l h)
+  facts (x ∷ ws) l m h g =
+      let a = grant p l (x .call) h (g .0 .granted) in
+      facts-more x ws l m h (g .0) a (facts ws (l ++ appended (x .call)) m (a .reached) (g .1))
 
 -- each writer is a claim or a void
-pub claims-and-voids : (u : List Event) → length (those writes u) ≡ length (those isClaim u) + length (those isVoid u)
+abbrev Parted : List Event → Type 0
+Parted ws = length ws ≡ length (those isClaim ws) + length (those isVoid ws)
+
+pub claims-and-voids : (u : List Event) → Parted (those writes u)
 claims-and-voids [] = refl
 claims-and-voids (x ∷ u) = go (x .call) refl (claims-and-voids u)
   where
-    go : (c : Call) → x .call ≡ c → length (those writes u) ≡ length (those isClaim u) + length (those isVoid u)
-        → length (those writes (x ∷ u)) ≡ length (those isClaim (x ∷ u)) + length (those isVoid (x ∷ u))
+    go : (c : Call) → x .call ≡ c → Parted (those writes u) → Parted (those writes (x ∷ u))
     go peek e i = rw e i
     go (claim s o) e i = rw e (omega (arith, i))
     go (void s) e i = rw e (omega (arith, i))

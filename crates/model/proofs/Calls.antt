@@ -2,24 +2,27 @@
 use mathlib.Core.Path.{_≡_, refl, sym, ap, _∙_}
 use mathlib.Core.Logic.{_≢_, _↔_}
 use mathlib.Core.Bool.{true, false, false≢true}
-use mathlib.Core.List.{List, [], _∷_, _++_}
+use mathlib.Core.List.{List, [], _∷_, _++_, append-nil}
 use Prim.Native.Nat.{ℕ, _≤_, _<_}
 use native.Mathlib.Omega.{arith}
-use lib.Dec.{eqb, ltb}
+use lib.Dec.{ltb}
 use lib.ListN.{length}
-use borrow.Author.Tests.{ltb-false, lt-ltb, eqb-true, eqb-false}
-use Rattle.walsh.proofs.Cases.{on-less}
+use borrow.Author.Tests.{ltb-false, lt-ltb, eqb-true}
+use Rattle.walsh.proofs.Cases.{on-test, on-less}
 use Rattle.bounds.specs.Refusal.{Check, firstRefusal}
-use Rattle.bounds.specs.Places.{isNoSerial}
+use Rattle.bounds.specs.Places.{isOutside}
 use Rattle.bounds.specs.declared.Refusal.{Refusal}
 use Rattle.bounds.proofs.Editions.{neither}
 use Rattle.bounds.proofs.Refusals.{same-number, numbered, passed, refusal-here, refusal-next, refusal-later, is-accepted, lacks, refusal-lacks}
-use Rattle.bounds.proofs.Chains.{Accepts}
+use Rattle.bounds.proofs.Chains.{Accepts, accepts-split}
 use Rattle.model.specs.declared.Answer.{Answer}
-use Rattle.model.specs.Basics.{indexOf}
-use Rattle.model.specs.Model.{Call, peek, claim, void, next, alreadyWritten, aboveNext, standsEarlier, allWritten}
-use Rattle.model.specs.Model.{placeChecks, callChecks, rowsBefore, granted, given, answer, accepted}
+use Rattle.model.specs.Basics.{firstPlace}
+use Rattle.model.specs.Entry.{Entry, voidEntry, isVoided, sameOrder}
+use Rattle.model.specs.Printing.{Printing, size, lowest, capacity}
+use Rattle.model.specs.Model.{Call, peek, claim, void, next, noLine, alreadyWritten, aboveNext, standsEarlier, allWritten}
+use Rattle.model.specs.Model.{orderChecks, placeChecks, claimChecks, callChecks, rowsBefore, granted, given, answer, accepted, appended, after}
 use Rattle.model.specs.Trace.{writes, named}
+use Rattle.model.proofs.Lists.{length-snoc}
 use Rattle.model.proofs.Answers.{answer-number}
 
 module _ (c : Check) (cs : List Check) where
@@ -29,103 +32,124 @@ module _ (c : Check) (cs : List Check) where
   number-next : c .holds ≡ false → firstRefusal (c ∷ cs) .number ≡ firstRefusal cs .number
   number-next t = ap (λ (v : Refusal). v .number) (refusal-next c cs t)
 
-module _ (gs : List (List ℕ)) (l : List ℕ) where
-  accepting : (c : Call) → accepted (answer gs l c) ≡ true
-      → (firstRefusal (callChecks gs l c) .number ≡ 0) × (answer gs l c ≡ given gs (granted gs l c))
-  unfolding answer
-  accepting c t =
-      is-accepted (firstRefusal (callChecks gs l c)) _ _ (λ (x : Answer). x .number) (λ (x : Answer). x .detail) refl refl refl _ refl
-      (eqb-true (answer gs l c .number) 0 t)
+module _ (p : Printing) where
+  -- what holds of every list that the model reaches
+  pub record Reached (l : List Entry) : Type 0 where
+    pub fits : length l ≤ capacity p
 
-  -- a serial that its checks accept, and what stands behind them
-  pub record InTurn (s : ℕ) (rest : List Check) : Type 0 where
-    pub serial : s ≡ next l
-    pub room : next l ≤ length gs
-    pub rest-accepts : firstRefusal rest .number ≡ 0
+  pub reached-none : Reached []
+  reached-none = record { fits = omega arith }
 
-  pub in-turn : (s : ℕ) (rest : List Check) → numbered rest ≡ true → firstRefusal (placeChecks gs l s ++ rest) .number ≡ 0 → InTurn s rest
-  in-turn s rest n e =
-      let p6 = passed _ _ n e in
-      let p18 = passed _ _ n (p6 .2) in
-      let p19 = passed _ _ n (p18 .2) in
-      let h6 = ltb-false (length gs) s (neither (eqb s 0) (ltb (length gs) s) (p6 .0) .1) in
-      let h18 = ltb-false s (next l) (p18 .0) in
-      let h19 = ltb-false (next l) s (p19 .0) in
-      record { serial = omega arith; room = omega arith; rest-accepts = p19 .2 }
+  reached-more : (l : List Entry) (e : Entry) → next p l ≤ size p → Reached l → Reached (l ++ (e ∷ []))
+  reached-more l e h k = record { fits = omega (arith, length-snoc l e) }
 
-  -- what is known of an accepted call
-  pub record Grant (c : Call) : Type 0 where
-    pub reply : answer gs l c ≡ given gs (next l)
-    pub room : next l ≤ length gs
-    pub serial : writes c ≡ true → named c ≡ next l
+  module _ (l : List Entry) where
+    -- ---- an accepted call
 
-  pub grant : (c : Call) → accepted (answer gs l c) ≡ true → Grant c
-  grant peek t =
-      let a = accepting peek t in
-      record { reply = a .1; room = ltb-false _ _ (passed _ _ refl (a .0) .0); serial = λ w. cc }
-  grant (claim s o) t =
-      let a = accepting (claim s o) t in
-      let p = in-turn s (standsEarlier l o ∷ []) refl (passed _ _ refl (a .0) .2) in
-      record { reply = a .1 ∙ ap (given gs) (p .serial); room = p .room; serial = λ w. p .serial }
-  grant (void s) t =
-      let a = accepting (void s) t in
-      let p = in-turn s [] refl (a .0) in
-      record { reply = a .1 ∙ ap (given gs) (p .serial); room = p .room; serial = λ w. p .serial }
+    pub accepting : (c : Call) → accepted (answer p l c) ≡ true → Accepts (callChecks p l c) × (answer p l c ≡ given p (granted p l c))
+    unfolding answer
+    accepting c t =
+        is-accepted (firstRefusal (callChecks p l c)) _ _ (λ (x : Answer). x .number) (λ (x : Answer). x .detail) refl refl refl _ refl
+        (eqb-true (answer p l c .number) 0 t)
 
-  -- an accepted claim is for an order other than 0, which stands in no line
-  pub for-an-order : (s o : ℕ) → accepted (answer gs l (claim s o)) ≡ true → o ≢ 0
-  for-an-order s o t = eqb-false o 0 (passed _ _ refl (accepting (claim s o) t .0) .0)
+    -- a serial that its checks accept, and what stands behind them
+    pub record InTurn (s : ℕ) (rest : List Check) : Type 0 where
+      pub serial : s ≡ next p l
+      pub inside : next p l ≤ size p
+      pub rest-accepts : Accepts rest
 
-  pub for-a-new-order : (s o : ℕ) → accepted (answer gs l (claim s o)) ≡ true → length l ≤ indexOf o l
-  for-a-new-order s o t =
-      let p = in-turn s (standsEarlier l o ∷ []) refl (passed _ _ refl (accepting (claim s o) t .0) .2) in
-      ltb-false (indexOf o l) (length l) (passed _ _ refl (p .rest-accepts) .0)
+    pub in-turn : (s : ℕ) (rest : List Check) → numbered rest ≡ true → Accepts (placeChecks p l s ++ rest) → InTurn s rest
+    in-turn s rest n e =
+        let p6 = passed _ _ n e in
+        let p18 = passed _ _ n (p6 .2) in
+        let p19 = passed _ _ n (p18 .2) in
+        let h6 = ltb-false (size p) s (neither (ltb s (lowest p)) (ltb (size p) s) (p6 .0) .1) in
+        let h18 = ltb-false s (next p l) (p18 .0) in
+        let h19 = ltb-false (next p l) s (p19 .0) in
+        record { serial = omega arith; inside = omega arith; rest-accepts = p19 .2 }
 
-  -- ---- which number an answer has
+    -- a claim that its checks accept
+    pub claim-turn : (s : ℕ) (e : Entry) → Accepts (claimChecks p l s e) → Accepts (orderChecks e) × InTurn s (standsEarlier p l e ∷ [])
+    claim-turn s e a = let q = accepts-split (orderChecks e) _ refl a in (q .0, in-turn s (standsEarlier p l e ∷ []) refl (q .1))
 
-  number-of : (c : Call) → answer gs l c .number ≡ firstRefusal (callChecks gs l c) .number
-  unfolding answer
-  number-of c = answer-number (firstRefusal (callChecks gs l c)) gs (granted gs l c)
+    -- an accepted claim is for an order other than 0, which stands in no line
+    module _ (s : ℕ) (e : Entry) (t : accepted (answer p l (claim s e)) ≡ true) where
+      pub for-an-order : isVoided e ≡ false
+      for-an-order = passed _ _ refl (claim-turn s e (accepting (claim s e) t .0) .0) .0
 
-  pub not-16 : (c : Call) → answer gs l c .number ≢ 16
-  not-16 peek = rw (number-of peek) (refusal-lacks 16 (callChecks gs l peek) (omega arith) refl)
-  not-16 (claim s o) = rw (number-of (claim s o)) (refusal-lacks 16 (callChecks gs l (claim s o)) (omega arith) refl)
-  not-16 (void s) = rw (number-of (void s)) (refusal-lacks 16 (callChecks gs l (void s)) (omega arith) refl)
+      pub for-a-new-order : length l ≤ firstPlace (sameOrder e) l
+      for-a-new-order =
+          let q = claim-turn s e (accepting (claim s e) t .0) .1 in
+          ltb-false (firstPlace (sameOrder e) l) (length l) (passed _ _ refl (q .rest-accepts) .0)
 
-  -- a peek answers 21 where every composition is written
-  pub peek-21 : (answer gs l peek .number ≡ 21) ↔ (length gs < next l)
-  peek-21 =
-      let c = allWritten gs l in
-      rw (number-of peek) (
-        (λ e.
-            on-less (length gs) (next l) (λ h t. h)
-            (λ h t. absurd (refusal-lacks 21 [] (omega arith) refl (sym (number-next c [] t) ∙ e)))),
-        λ h. (number-here c [] (lt-ltb _ _ h)),
-      )
+    -- what is known of an accepted call
+    pub record Grant (c : Call) : Type 0 where
+      pub reply : answer p l c ≡ given p (next p l)
+      pub serial : granted p l c ≡ next p l
+      pub inside : next p l ≤ size p
+      pub reached : Reached (l ++ appended c)
 
-  -- a call that no check before 18 refuses; behind 18 come other numbers
-  written-18 : (xs ys : List Check) (s : ℕ) → numbered xs ≡ true → Accepts xs → lacks 18 ys ≡ true
-      → (firstRefusal (xs ++ (alreadyWritten l s ∷ ys)) .number ≡ 18) ↔ (s < next l)
-  written-18 xs ys s n a k =
-      let c = alreadyWritten l s in
-      let e = same-number (refusal-later xs (c ∷ ys) n a) in
-      rw e (
-        (λ q. on-less s (next l) (λ b t. b) (λ b t. absurd (refusal-lacks 18 ys (omega arith) k (sym (number-next c ys t) ∙ q)))),
-        λ h. number-here c ys (lt-ltb _ _ h),
-      )
+    grant-by : (c : Call) → accepted (answer p l c) ≡ true → granted p l c ≡ next p l → next p l ≤ size p → Reached (l ++ appended c) → Grant c
+    grant-by c t s i h = record { reply = accepting c t .1 ∙ ap (given p) s; serial = s; inside = i; reached = h }
 
-  -- a serial that is not refused 6
-  positive : (s : ℕ) → isNoSerial (length gs) s ≡ false → 1 ≤ s
-  positive s e = omega (arith, eqb-false s 0 (neither (eqb s 0) (ltb (length gs) s) e .0))
+    pub grant : (c : Call) → Reached l → accepted (answer p l c) ≡ true → Grant c
+    grant peek h t = grant-by peek t refl (ltb-false _ _ (passed _ _ refl (accepting peek t .0) .0)) (rw (append-nil l) h)
+    grant (claim s e) h t =
+        let q = claim-turn s e (accepting (claim s e) t .0) .1 in
+        grant-by (claim s e) t (q .serial) (q .inside) (reached-more l e (q .inside) h)
+    grant (void s) h t =
+        let q = in-turn s [] refl (accepting (void s) t .0) in
+        grant-by (void s) t (q .serial) (q .inside) (reached-more l voidEntry (q .inside) h)
 
-  pub already-written : (c : Call) → writes c ≡ true → Accepts (rowsBefore 18 (callChecks gs l c))
-      → (answer gs l c .number ≡ 18) ↔ ((1 ≤ named c) × (named c < next l))
-  already-written peek w a = absurd (false≢true w)
-  already-written (claim s o) w a =
-      let h = positive s (passed _ _ refl (passed _ _ refl a .2) .0) in
-      let b = written-18 (rowsBefore 18 (callChecks gs l (claim s o))) (aboveNext l s ∷ standsEarlier l o ∷ []) s refl a refl in
-      rw (number-of (claim s o)) ((λ q. (h, b .0 q)), λ p. b .1 (p .1))
-  already-written (void s) w a =
-      let h = positive s (passed _ _ refl a .0) in
-      let b = written-18 (rowsBefore 18 (callChecks gs l (void s))) (aboveNext l s ∷ []) s refl a refl in
-      rw (number-of (void s)) ((λ q. (h, b .0 q)), λ p. b .1 (p .1))
+    pub after-reached : (c : Call) → Reached l → Reached (after p l c)
+    unfolding after
+    after-reached c h = on-test (accepted (answer p l c)) (λ t. rw t (grant c h t .reached)) (λ t. rw t h)
+
+    -- ---- which number an answer has
+
+    pub number-of : (c : Call) → answer p l c .number ≡ firstRefusal (callChecks p l c) .number
+    unfolding answer
+    number-of c = answer-number (firstRefusal (callChecks p l c)) p (granted p l c)
+
+    pub not-16 : (c : Call) → answer p l c .number ≢ 16
+    not-16 peek = rw (number-of peek) (refusal-lacks 16 (callChecks p l peek) (omega arith) refl)
+    not-16 (claim s e) = rw (number-of (claim s e)) (refusal-lacks 16 (callChecks p l (claim s e)) (omega arith) refl)
+    not-16 (void s) = rw (number-of (void s)) (refusal-lacks 16 (callChecks p l (void s)) (omega arith) refl)
+
+    -- a peek answers 21 where every serial is written
+    pub peek-21 : (answer p l peek .number ≡ 21) ↔ (size p < next p l)
+    peek-21 =
+        let c = allWritten p l in
+        rw (number-of peek) (
+          (λ e.
+              on-less (size p) (next p l) (λ h t. h)
+              (λ h t. absurd (refusal-lacks 21 [] (omega arith) refl (sym (number-next c [] t) ∙ e)))),
+          λ h. (number-here c [] (lt-ltb _ _ h)),
+        )
+
+    -- a call that no check before 18 refuses; behind 18 come other numbers
+    written-18 : (xs ys : List Check) (s : ℕ) → numbered xs ≡ true → Accepts xs → lacks 18 ys ≡ true
+        → (firstRefusal (xs ++ (alreadyWritten p l s ∷ ys)) .number ≡ 18) ↔ (s < next p l)
+    written-18 xs ys s n a k =
+        let c = alreadyWritten p l s in
+        let e = same-number (refusal-later xs (c ∷ ys) n a) in
+        rw e (
+          (λ q. on-less s (next p l) (λ b t. b) (λ b t. absurd (refusal-lacks 18 ys (omega arith) k (sym (number-next c ys t) ∙ q)))),
+          λ h. number-here c ys (lt-ltb _ _ h),
+        )
+
+    -- a serial that is not refused 6
+    not-low : (s : ℕ) → isOutside (lowest p) (size p) s ≡ false → lowest p ≤ s
+    not-low s e = ltb-false s (lowest p) (neither (ltb s (lowest p)) (ltb (size p) s) e .0)
+
+    pub already-written : (c : Call) → writes c ≡ true → Accepts (rowsBefore 18 (callChecks p l c))
+        → (answer p l c .number ≡ 18) ↔ ((lowest p ≤ named c) × (named c < next p l))
+    already-written peek w a = absurd (false≢true w)
+    already-written (claim s e) w a =
+        let h = not-low s (passed _ _ refl (accepts-split (orderChecks e) (noLine p s ∷ []) refl a .1) .0) in
+        let b = written-18 (rowsBefore 18 (callChecks p l (claim s e))) (aboveNext p l s ∷ standsEarlier p l e ∷ []) s refl a refl in
+        rw (number-of (claim s e)) ((λ q. (h, b .0 q)), λ q. b .1 (q .1))
+    already-written (void s) w a =
+        let h = not-low s (passed _ _ refl a .0) in
+        let b = written-18 (rowsBefore 18 (callChecks p l (void s))) (aboveNext p l s ∷ []) s refl a refl in
+        rw (number-of (void s)) ((λ q. (h, b .0 q)), λ q. b .1 (q .1))

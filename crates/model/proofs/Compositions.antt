@@ -11,8 +11,7 @@ use Rattle.walsh.proofs.Gray.{gray}
 use Rattle.walsh.proofs.Serials.{count-length}
 use Rattle.bounds.specs.Edition.{cellsOf}
 use Rattle.model.specs.Basics.{Distinct}
-use Rattle.model.specs.Model.{blank}
-use Rattle.model.specs.Record.{compositions}
+use Rattle.model.specs.Printing.{blank, compositions}
 use Rattle.model.proofs.Cells.{cells-nil, cells-apart, cells-neighbours}
 
 module _ (ms : List ℕ) (r : ℕ) where

@@ -1,6 +1,8 @@
 pub mod Lists
+pub mod Entries
 pub mod Cells
 pub mod Compositions
+pub mod Stock
 pub mod Opening
 pub mod Answers
 pub mod Calls

@@ -1,58 +1,61 @@
 -- What a list of calls of the model says of its lines: how many are sold and how many are voided, by the trace, and no order twice.
 use mathlib.Core.Path.{_≡_, refl, sym}
-use mathlib.Core.Bool.{Bool, true, false}
-use mathlib.Core.List.{List, [], _∷_}
-use Prim.Native.Nat.{ℕ, _+_}
+use mathlib.Core.Bool.{not, false≢true, true}
+use mathlib.Core.List.{List, [], _∷_, _++_}
+use Prim.Native.Nat.{_+_}
 use native.Mathlib.Nat.{add-zero}
 use native.Mathlib.Omega.{arith}
 use lib.ListN.{length}
-use Rattle.model.specs.Basics.{zeros, nonzeros, DistinctOrders}
-use Rattle.model.specs.Model.{Call, peek, claim, void, accepted, answer, after, Event, bookFrom}
-use Rattle.model.specs.Trace.{isClaim, isVoid, those, kept}
-use Rattle.model.proofs.Lists.{nonzeros-snoc, zeros-snoc}
+use Rattle.model.specs.Entry.{Entry, voidEntry, isVoided, soldIn, voidedIn, DistinctOrders}
+use Rattle.model.specs.Printing.{Printing}
+use Rattle.model.specs.Model.{Call, peek, claim, void, accepted, answer, appended, Event}
+use Rattle.model.specs.Trace.{writes, isClaim, isVoid, those}
+use Rattle.model.proofs.Lists.{many-append}
+use Rattle.model.proofs.Entries.{one-sold}
 use Rattle.model.proofs.Calls.{for-an-order, for-a-new-order}
 use Rattle.model.proofs.Orders.{distinct-snoc}
-use Rattle.model.proofs.Books.{event}
+use Rattle.model.proofs.Books.{Grown}
 
-module _ (gs : List (List ℕ)) where
-  -- ---- the counts: from the entries l, by the trace t, to the entries m
+module _ (p : Printing) where
+  -- ---- the counts: from the lines l, by the events ws, to the lines m
 
-  pub record Counts (l : List ℕ) (t : List Event) (m : List ℕ) : Type 0 where
-    pub sold : nonzeros m ≡ nonzeros l + length (those isClaim (kept t))
-    pub voided : zeros m ≡ zeros l + length (those isVoid (kept t))
+  pub record Counts (l : List Entry) (ws : List Event) (m : List Entry) : Type 0 where
+    pub sold : soldIn m ≡ soldIn l + length (those isClaim ws)
+    pub voided : voidedIn m ≡ voidedIn l + length (those isVoid ws)
 
-  call-counts : (l : List ℕ) (c : Call) (t : List Event) (m : List ℕ) → Counts (after gs l c) t m → Counts l (event gs l c ∷ t) m
-  unfolding after
-  call-counts l c t m f = go c (accepted (answer gs l c)) refl f
+  more : (l es : List Entry) → (soldIn (l ++ es) ≡ soldIn l + soldIn es) × (voidedIn (l ++ es) ≡ voidedIn l + voidedIn es)
+  more l es = (many-append (λ e. not (isVoided e)) l es, many-append (λ e. isVoided e) l es)
+
+  counts-more : (l : List Entry) (x : Event) (ws : List Event) (m : List Entry)
+      → writes (x .call) ≡ true
+      → accepted (answer p l (x .call)) ≡ true
+      → Counts (l ++ appended (x .call)) ws m
+      → Counts l (x ∷ ws) m
+  counts-more l x ws m = go (x .call) refl
     where
-      go : (c : Call) (b : Bool) → accepted (answer gs l c) ≡ b → Counts (after gs l c) t m → Counts l (event gs l c ∷ t) m
-      go c false p f = record { sold = rw p (rw p at (f .sold)); voided = rw p (rw p at (f .voided)) }
-      go peek true p f = record { sold = rw p (rw p at (f .sold)); voided = rw p (rw p at (f .voided)) }
-      go (claim s o) true p f =
-          let n = nonzeros-snoc l o (for-an-order gs l s o p) in
-          record { sold = rw p (omega (arith, rw p at (f .sold), n .0)); voided = rw p (omega (arith, rw p at (f .voided), n .1)) }
-      go (void s) true p f =
-          let n = zeros-snoc l in
-          record { sold = rw p (omega (arith, rw p at (f .sold), n .0)); voided = rw p (omega (arith, rw p at (f .voided), n .1)) }
+      go : (c : Call) → x .call ≡ c → writes (x .call) ≡ true → accepted (answer p l (x .call)) ≡ true → Counts (l ++ appended (x .call)) ws m
+          → Counts l (x ∷ ws) m
+      go peek q w t f = absurd (false≢true (rw q at w))
+      go (claim s e) q w t f =
+          let one = one-sold e (for-an-order p l s e (rw q at t)) in
+          let n = more l (e ∷ []) in
+          record { sold = rw q (omega (arith, rw q at (f .sold), n .0, one .0)); voided = rw q (omega (arith, rw q at (f .voided), n .1, one .1)) }
+      go (void s) q w t f =
+          let n = more l (voidEntry ∷ []) in
+          record { sold = rw q (omega (arith, rw q at (f .sold), n .0)); voided = rw q (omega (arith, rw q at (f .voided), n .1)) }
 
-  pub counts : (cs : List Call) (l : List ℕ) → Counts l (bookFrom gs l cs .trace) (bookFrom gs l cs .entries)
-  unfolding bookFrom
-  counts [] l = record { sold = sym (add-zero (nonzeros l)); voided = sym (add-zero (zeros l)) }
-  counts (c ∷ cs) l = call-counts l c (bookFrom gs (after gs l c) cs .trace) (bookFrom gs (after gs l c) cs .entries) (counts cs (after gs l c))
+  pub counts : (ws : List Event) (l m : List Entry) → Grown p l ws m → Counts l ws m
+  counts [] l m g = rw (← g) (record { sold = sym (add-zero (soldIn l)); voided = sym (add-zero (voidedIn l)) })
+  counts (x ∷ ws) l m g = counts-more l x ws m (g .0 .writing) (g .0 .granted) (counts ws (l ++ appended (x .call)) m (g .1))
 
   -- ---- no order twice
 
-  distinct-after : (l : List ℕ) (c : Call) → DistinctOrders l → DistinctOrders (after gs l c)
-  unfolding after
-  distinct-after l c u = go c (accepted (answer gs l c)) refl
-    where
-      go : (c : Call) (b : Bool) → accepted (answer gs l c) ≡ b → DistinctOrders (after gs l c)
-      go c false p = rw p u
-      go peek true p = rw p u
-      go (claim s o) true p = rw p (distinct-snoc l o u (λ n. for-a-new-order gs l s o p))
-      go (void s) true p = rw p (distinct-snoc l 0 u (λ n. absurd (n refl)))
+  distinct-more : (l : List Entry) (c : Call) → writes c ≡ true → accepted (answer p l c) ≡ true → DistinctOrders l → DistinctOrders (l ++ appended c)
+  distinct-more l peek w t u = absurd (false≢true w)
+  distinct-more l (claim s e) w t u = distinct-snoc l e u (λ n. for-a-new-order p l s e t)
+  distinct-more l (void s) w t u = distinct-snoc l voidEntry u (λ n. absurd (n refl))
 
-  pub distinct-book : (cs : List Call) (l : List ℕ) → DistinctOrders l → DistinctOrders (bookFrom gs l cs .entries)
-  unfolding bookFrom
-  distinct-book [] l u = u
-  distinct-book (c ∷ cs) l u = distinct-book cs (after gs l c) (distinct-after l c u)
+  pub distinct-lines : (ws : List Event) (l m : List Entry) → Grown p l ws m → DistinctOrders l → DistinctOrders m
+  distinct-lines [] l m g u = rw (← g) u
+  distinct-lines (x ∷ ws) l m g u =
+      distinct-lines ws (l ++ appended (x .call)) m (g .1) (distinct-more l (x .call) (g .0 .writing) (g .0 .granted) u)

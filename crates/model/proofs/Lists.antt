@@ -1,55 +1,49 @@
--- Laws of counts and of a list put over another.
-use mathlib.Core.Path.{_≡_, refl, _∙_}
-use mathlib.Core.Logic.{_≢_}
-use mathlib.Core.Bool.{Bool, cond, not}
-use mathlib.Core.List.{List, [], _∷_, _++_, append-assoc}
-use Prim.Native.Nat.{ℕ, _+_, _≤_, _<_}
-use native.Mathlib.Nat.{add-zero}
-use native.Mathlib.Numerals.{add-one}
+-- Laws of counts and of a list put over the beginning of another.
+use mathlib.Core.Path.{_≡_, refl, ap, _∙_}
+use mathlib.Core.Bool.{Bool, not}
+use mathlib.Core.List.{List, [], _∷_, _++_, append-assoc, append-nil}
+use Prim.Native.Nat.{suc, _+_, _≤_, _<_}
 use native.Mathlib.Omega.{arith}
-use lib.Dec.{eqb}
-use lib.ListN.{length, set, length-append, length-drop}
-use lib.Seq.{drop-cons, set-append-seam}
-use borrow.Author.Tests.{ne-eqb}
-use Rattle.walsh.specs.Tests.{howMany}
+use native.Mathlib.Numerals.{add-one}
+use lib.ListN.{length, take, drop, set, length-append, length-drop}
+use lib.Seq.{sets, drop-cons, set-append-seam, take-append-seam}
 use Rattle.walsh.proofs.Cases.{on-test}
-use Rattle.model.specs.Basics.{zeros, nonzeros, over}
+use Rattle.model.specs.Basics.{howMany, replaced}
 
-pub length-snoc : (l : List ℕ) (x : ℕ) → length (l ++ (x ∷ [])) ≡ length l + 1
-length-snoc l x = length-append l (x ∷ [])
+module _ {A : Type 0} (test : A → Bool) where
+  pub many-append : (l m : List A) → howMany test (l ++ m) ≡ howMany test l + howMany test m
+  many-append [] m = omega arith
+  many-append (x ∷ l) m = omega (arith, many-append l m)
 
--- ---- how many entries pass a test
-
-module _ (test : ℕ → Bool) where
-  pub howMany-append : (l m : List ℕ) → howMany test (l ++ m) ≡ howMany test l + howMany test m
-  howMany-append [] m = omega arith
-  howMany-append (x ∷ l) m = omega (arith, howMany-append l m)
-
-  pub howMany-snoc : (l : List ℕ) (x : ℕ) → howMany test (l ++ (x ∷ [])) ≡ howMany test l + cond (test x) 1 0
-  howMany-snoc l x = howMany-append l (x ∷ []) ∙ omega arith
-
-  -- each does, or it does not
-  howMany-or-not : (l : List ℕ) → howMany (λ x. not (test x)) l + howMany test l ≡ length l
-  howMany-or-not [] = refl
-  howMany-or-not (x ∷ l) = let h = howMany-or-not l in on-test (test x) (λ t. rw t (omega arith)) (λ t. rw t (omega arith))
-
--- ---- zeros and the others
-
-pub zeros-or-not : (l : List ℕ) → nonzeros l + zeros l ≡ length l
-zeros-or-not l = howMany-or-not (λ x. eqb x 0) l
-
-pub nonzeros-snoc : (l : List ℕ) (x : ℕ) → x ≢ 0 → (nonzeros (l ++ (x ∷ [])) ≡ nonzeros l + 1) × (zeros (l ++ (x ∷ [])) ≡ zeros l)
-nonzeros-snoc l x h =
-    let other = ne-eqb x 0 h in
-    (rw other at (howMany-snoc (λ y. not (eqb y 0)) l x), rw other at (howMany-snoc (λ y. eqb y 0) l x) ∙ add-zero (zeros l))
-
-pub zeros-snoc : (l : List ℕ) → (nonzeros (l ++ (0 ∷ [])) ≡ nonzeros l) × (zeros (l ++ (0 ∷ [])) ≡ zeros l + 1)
-zeros-snoc l = (howMany-snoc (λ y. not (eqb y 0)) l 0 ∙ add-zero (nonzeros l), howMany-snoc (λ y. eqb y 0) l 0)
+  -- each entry passes the test, or it does not
+  pub many-or-not : (l : List A) → howMany (λ x. not (test x)) l + howMany test l ≡ length l
+  many-or-not [] = refl
+  many-or-not (x ∷ l) = let h = many-or-not l in on-test (test x) (λ t. rw t (omega arith)) (λ t. rw t (omega arith))
 
 -- ---- a list over the beginning of another
 
-pub length-over : (col l : List ℕ) → length l ≤ length col → length (over col l) ≡ length col
-length-over col l h = simp (length-append, length-drop) (omega arith)
+module _ {A : Type 0} where
+  pub length-snoc : (l : List A) (x : A) → length (l ++ (x ∷ [])) ≡ length l + 1
+  length-snoc l x = length-append l (x ∷ [])
 
-pub set-over : (col l : List ℕ) (x : ℕ) → length l < length col → set (over col l) (length l) x ≡ over col (l ++ (x ∷ []))
-set-over col l x h = rw (drop-cons col (length l) 0, set-append-seam, length-snoc, add-one, append-assoc)
+  -- an entry more, and others behind it
+  pub snoc-append : (l : List A) (x : A) (xs : List A) → (l ++ (x ∷ [])) ++ xs ≡ l ++ (x ∷ xs)
+  snoc-append l x xs = append-assoc l (x ∷ []) xs
+
+  module _ (c l : List A) where
+    pub take-replaced : take (length l) (replaced c l) ≡ l
+    take-replaced = take-append-seam l (drop (length l) c)
+
+    pub length-replaced : length l ≤ length c → length (replaced c l) ≡ length c
+    length-replaced h = simp (length-append, length-drop) (omega arith)
+
+    set-replaced : (x : A) → length l < length c → set (replaced c l) (length l) x ≡ replaced c (l ++ (x ∷ []))
+    set-replaced x h = rw (drop-cons c (length l) x, set-append-seam, length-snoc, add-one, append-assoc)
+
+  pub sets-replaced : (xs c l : List A) → length l + length xs ≤ length c → sets (replaced c l) (length l) xs ≡ replaced c (l ++ xs)
+  sets-replaced [] c l h = rw (append-nil l)
+  sets-replaced (x ∷ xs) c l h =
+      let n = length-snoc l x ∙ add-one (length l) in
+      ap (λ (r : List A). sets r (suc (length l)) xs) (set-replaced c l x (omega arith))
+      ∙ rw (← n) (sets-replaced xs c (l ++ (x ∷ [])) (omega arith))
+      ∙ ap (replaced c) (snoc-append l x xs)

@@ -1,12 +1,12 @@
 -- Laws of the record and the column: what number 16 tests, and what a call leaves.
-use mathlib.Core.Path.{_≡_, refl, sym, ap}
+use mathlib.Core.Path.{_≡_, refl, sym, ap, _∙_}
 use mathlib.Core.Logic.{_≢_}
 use mathlib.Core.Bool.{Bool, true, false, not, false≢true}
 use mathlib.Core.List.{List, [], _∷_}
 use Prim.Native.Nat.{ℕ, zero, suc, _-_, _≤_}
 use native.Mathlib.Omega.{arith}
-use lib.ListN.{length, getD, set}
-use lib.Seq.{length-take-le}
+use native.Mathlib.Nat.{add-zero}
+use lib.ListN.{length, getD}
 use borrow.Author.Tests.{ltb-false, leb-true, le-leb, eqb-true, eq-eqb, ne-eqb}
 use Rattle.walsh.specs.Serial.{same}
 use Rattle.walsh.specs.Tests.{both}
@@ -21,11 +21,13 @@ use Rattle.bounds.proofs.Refusals.{passed, refusal-here, refusal-next}
 use Rattle.model.specs.declared.Answer.{Answer}
 use Rattle.model.specs.declared.Claimed.{Claimed}
 use Rattle.model.specs.declared.Ledger.{Ledger}
-use Rattle.model.specs.Basics.{zeros, nonzeros, all}
-use Rattle.model.specs.Model.{Call, granted, refusedWith, answerBy, answer, accepted}
-use Rattle.model.specs.Record.{upperOf, compositionsOf, nextComposition, written, tests, consistent}
-use Rattle.model.specs.Record.{notTogether, answered, counted, entered, recordAfter, columnAfter, calling, entriesOf}
-use Rattle.model.proofs.Lists.{zeros-or-not}
+use Rattle.model.specs.Basics.{all}
+use Rattle.model.specs.Entry.{soldIn, voidedIn, Lent, room}
+use Rattle.model.specs.Printing.{Printing, capacity, nextComposition}
+use Rattle.model.specs.Model.{Call, refusedWith, answerBy, answer, accepted}
+use Rattle.model.specs.Record.{upperOf, printingOf, written, tests, consistent, notTogether, grantedBy, answered}
+use Rattle.model.specs.Record.{advanced, counted, entered, recordAfter, columnAfter, calling, entriesOf}
+use Rattle.model.proofs.Entries.{sold-or-voided, length-entries}
 
 -- ---- number 16
 
@@ -49,45 +51,45 @@ pub few-parts : (b : Bounds) → firstRefusal (recordChecks b) .number ≡ 0 →
 few-parts b e = ltb-false 24 (b .parts) (passed _ _ refl e .0)
 
 -- what a record and a column meet that belong together
-pub record Consistent (r : Ledger) (col : List ℕ) : Type 0 where
+pub record Consistent (r : Ledger) (col : Lent) : Type 0 where
   pub sound : firstRefusal (recordChecks (r .bounds)) .number ≡ 0
-  pub small : length (compositionsOf (r .bounds)) ≤ mostEntries
-  pub room : length (compositionsOf (r .bounds)) ≤ length col
-  pub entries : r .entries ≤ length (compositionsOf (r .bounds))
-  pub sold : r .sold ≡ nonzeros (written r col)
-  pub voided : r .voided ≡ zeros (written r col)
-  pub next : r .next ≡ nextComposition (compositionsOf (r .bounds)) (r .entries)
+  pub small : capacity (printingOf r) ≤ mostEntries
+  pub fits : capacity (printingOf r) ≤ room col
+  pub entries : r .entries ≤ capacity (printingOf r)
+  pub sold : r .sold ≡ soldIn (written r col)
+  pub voided : r .voided ≡ voidedIn (written r col)
+  pub next : r .next ≡ nextComposition (printingOf r) (r .entries)
   pub spare : r .bounds .upper ≡ cellsOf (upperOf (r .bounds))
   pub few : r .bounds .parts ≤ 24
   pub length-written : length (written r col) ≡ r .entries
   pub few-sold : r .sold ≤ mostEntries
   pub few-voided : r .voided ≤ mostEntries
 
-module _ (r : Ledger) (col : List ℕ) where
-  abbrev gs : List (List ℕ)
-  gs = compositionsOf (r .bounds)
+module _ (r : Ledger) (col : Lent) where
+  abbrev p : Printing
+  p = printingOf r
 
   pub parts : consistent r col ≡ true → Consistent r col
   unfolding consistent
   parts t =
-      let p = each (tests r col) t in
-      let h1 = eqb-true (firstRefusal (recordChecks (r .bounds)) .number) 0 (p .0) in
-      let h2 = leb-true (length gs) mostEntries (p .1 .0) in
-      let h3 = leb-true (length gs) (length col) (p .1 .1 .0) in
-      let h4 = leb-true (r .entries) (length gs) (p .1 .1 .1 .0) in
-      let h5 = eqb-true (r .sold) (nonzeros (written r col)) (p .1 .1 .1 .1 .0) in
-      let h6 = eqb-true (r .voided) (zeros (written r col)) (p .1 .1 .1 .1 .1 .0) in
-      let n = length-take-le (r .entries) col (omega arith) in
-      let both = zeros-or-not (written r col) in
+      let q = each (tests r col) t in
+      let h1 = eqb-true (firstRefusal (recordChecks (r .bounds)) .number) 0 (q .0) in
+      let h2 = leb-true (capacity p) mostEntries (q .1 .0) in
+      let h3 = leb-true (capacity p) (room col) (q .1 .1 .0) in
+      let h4 = leb-true (r .entries) (capacity p) (q .1 .1 .1 .0) in
+      let h5 = eqb-true (r .sold) (soldIn (written r col)) (q .1 .1 .1 .1 .0) in
+      let h6 = eqb-true (r .voided) (voidedIn (written r col)) (q .1 .1 .1 .1 .1 .0) in
+      let n = length-entries (r .entries) col (omega arith) in
+      let both = sold-or-voided (written r col) in
       record {
         sound = h1;
         small = h2;
-        room = h3;
+        fits = h3;
         entries = h4;
         sold = h5;
         voided = h6;
-        next = same-eq (r .next) (nextComposition gs (r .entries)) (p .1 .1 .1 .1 .1 .1 .0);
-        spare = same-eq (r .bounds .upper) (cellsOf (upperOf (r .bounds))) (p .1 .1 .1 .1 .1 .1 .1 .0);
+        next = same-eq (r .next) (nextComposition p (r .entries)) (q .1 .1 .1 .1 .1 .1 .0);
+        spare = same-eq (r .bounds .upper) (cellsOf (upperOf (r .bounds))) (q .1 .1 .1 .1 .1 .1 .1 .0);
         few = few-parts (r .bounds) h1;
         length-written = n;
         few-sold = omega arith;
@@ -101,60 +103,72 @@ module _ (r : Ledger) (col : List ℕ) where
 
   pub together :
       firstRefusal (recordChecks (r .bounds)) .number ≡ 0
-      → length gs ≤ mostEntries
-      → length gs ≤ length col
-      → r .entries ≤ length gs
-      → r .sold ≡ nonzeros (written r col)
-      → r .voided ≡ zeros (written r col)
-      → same (r .next) (nextComposition gs (r .entries)) ≡ true
+      → capacity p ≤ mostEntries
+      → capacity p ≤ room col
+      → r .entries ≤ capacity p
+      → r .sold ≡ soldIn (written r col)
+      → r .voided ≡ voidedIn (written r col)
+      → same (r .next) (nextComposition p (r .entries)) ≡ true
       → same (r .bounds .upper) (cellsOf (upperOf (r .bounds))) ≡ true
       → consistent r col ≡ true
   unfolding consistent
   together h1 h2 h3 h4 h5 h6 h7 h8 =
       rw (
         eq-eqb (firstRefusal (recordChecks (r .bounds)) .number) 0 h1,
-        le-leb (length gs) mostEntries h2,
-        le-leb (length gs) (length col) h3,
-        le-leb (r .entries) (length gs) h4,
-        eq-eqb (r .sold) (nonzeros (written r col)) h5,
-        eq-eqb (r .voided) (zeros (written r col)) h6,
+        le-leb (capacity p) mostEntries h2,
+        le-leb (capacity p) (room col) h3,
+        le-leb (r .entries) (capacity p) h4,
+        eq-eqb (r .sold) (soldIn (written r col)) h5,
+        eq-eqb (r .voided) (voidedIn (written r col)) h6,
         h7,
         h8,
       )
 
-  -- the entries that are no zeros
-  pub sold-of : r .entries ≤ length col → nonzeros (written r col) ≡ r .entries - zeros (written r col)
-  sold-of h = omega (arith, zeros-or-not (written r col), length-take-le (r .entries) col h)
+  -- the lines that are not spoilt
+  pub sold-of : r .entries ≤ room col → soldIn (written r col) ≡ r .entries - voidedIn (written r col)
+  sold-of h = omega (arith, sold-or-voided (written r col), length-entries (r .entries) col h)
 
   -- ---- the calls
 
   module _ (c : Call) where
     pub answered-16 : consistent r col ≡ false → answered r col c ≡ refusedWith 16 0
     unfolding answered
-    answered-16 f =
-        ap (λ (v : Refusal). answerBy v gs (granted gs (written r col) c)) (refusal-here (notTogether r col) _ (ap not f))
+    answered-16 f = ap (λ (v : Refusal). answerBy v p (grantedBy r col c)) (refusal-here (notTogether r col) _ (ap not f))
 
     -- where a record and a column belong together, the answer is the model's over the lines written
-    pub answered-by : consistent r col ≡ true → answered r col c ≡ answer gs (written r col) c
+    pub answered-by : consistent r col ≡ true → answered r col c ≡ answer p (written r col) c
     unfolding answered answer
-    answered-by t =
-        ap (λ (v : Refusal). answerBy v gs (granted gs (written r col) c)) (refusal-next (notTogether r col) _ (ap not t))
+    answered-by t = ap (λ (v : Refusal). answerBy v p (grantedBy r col c)) (refusal-next (notTogether r col) _ (ap not t))
 
     module _ (a : Answer) (e : a ≡ answered r col c) where
-      pub calling-refused : a .number ≢ 0 → _≡_ {A = Claimed × List ℕ} (record { answer = a; ledger = r }, col) (calling r col c)
+      pub calling-refused : a .number ≢ 0 → _≡_ {A = Claimed × Lent} (record { answer = a; ledger = r }, col) (calling r col c)
       unfolding calling recordAfter columnAfter
       calling-refused n = rw (← e, ne-eqb (a .number) 0 n)
 
-      pub calling-accepted : (r′ : Ledger) (x : ℕ) → a .number ≡ 0 → r′ ≡ counted r c → entered col c ≡ set col (r .entries) x
-          → _≡_ {A = Claimed × List ℕ} (record { answer = a; ledger = r′ }, set col (r .entries) x) (calling r col c)
+      pub calling-accepted : (r′ : Ledger) (col′ : Lent) → a .number ≡ 0 → r′ ≡ counted r c → col′ ≡ entered r col c
+          → _≡_ {A = Claimed × Lent} (record { answer = a; ledger = r′ }, col′) (calling r col c)
       unfolding calling recordAfter columnAfter
-      calling-accepted r′ x n p q = rw (← e, eq-eqb (a .number) 0 n, p, q)
+      calling-accepted r′ col′ n p q = rw (← e, eq-eqb (a .number) 0 n, p, q)
 
-  -- a peek leaves all as it was
-  pub calling-peek : (a : Answer) → a ≡ answered r col Call.peek
-      → _≡_ {A = Claimed × List ℕ} (record { answer = a; ledger = r }, col) (calling r col Call.peek)
+  -- ---- no more lines: a peek leaves all as it was
+
+  none-more : consistent r col ≡ true → advanced r [] ≡ r
+  none-more t =
+      let q = parts t in
+      rw (add-zero (r .entries), add-zero (r .sold), add-zero (r .voided), ← (q .next))
+
+  peek-by : advanced r [] ≡ r → (a : Answer) → a ≡ answered r col Call.peek
+      → _≡_ {A = Claimed × Lent} (record { answer = a; ledger = r }, col) (calling r col Call.peek)
   unfolding calling recordAfter columnAfter
-  calling-peek a e = on-test (accepted (answered r col Call.peek)) (λ t. rw (e, t)) (λ t. rw (e, t))
+  peek-by q a e = on-test (accepted (answered r col Call.peek)) (λ t. rw (e, t, q)) (λ t. rw (e, t))
+
+  pub calling-peek : (a : Answer) → a ≡ answered r col Call.peek
+      → _≡_ {A = Claimed × Lent} (record { answer = a; ledger = r }, col) (calling r col Call.peek)
+  calling-peek a e =
+      on-test (consistent r col) (λ t. peek-by (none-more t) a e)
+      (λ f.
+      let n : a .number ≡ 16 = ap (λ (y : Answer). y .number) (e ∙ answered-16 Call.peek f) in
+      calling-refused Call.peek a e (λ z. omega (arith, n, z)))
 
   -- ---- the lines so far
 

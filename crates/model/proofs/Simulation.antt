@@ -1,11 +1,9 @@
 -- The record and the column follow the model: one induction over the calls.
 use mathlib.Core.Path.{_≡_, refl, sym, ap, _∙_}
-use mathlib.Core.Bool.{Bool, true, false, cond}
+use mathlib.Core.Bool.{Bool, true, false, cond, not}
 use mathlib.Core.List.{List, [], _∷_, _++_}
-use Prim.Native.Nat.{ℕ, _+_, _-_, _≤_}
 use native.Mathlib.Omega.{arith}
-use lib.ListN.{length, drop, set}
-use lib.Seq.{take-append-seam}
+use lib.ListN.{length, take, length-append}
 use Rattle.walsh.proofs.Serials.{same-refl}
 use Rattle.bounds.specs.Refusal.{firstRefusal}
 use Rattle.bounds.specs.Edition.{recordChecks, cellsOf, boundsOf}
@@ -13,117 +11,103 @@ use Rattle.bounds.specs.declared.Refusal.{Refusal}
 use Rattle.bounds.proofs.Answers.{record-few}
 use Rattle.bounds.proofs.Cells.{cells-back}
 use Rattle.model.specs.declared.Ledger.{Ledger}
-use Rattle.model.specs.Basics.{zeros, nonzeros, over}
-use Rattle.model.specs.Model.{Call, peek, claim, void, next, accepted, answer, appended, after, bookFrom}
-use Rattle.model.specs.Record.{compositions, written, nextComposition, consistent, answered}
+use Rattle.model.specs.Entry.{Entry, isVoided, Lent, over}
+use Rattle.model.specs.Printing.{Printing, placeOf, nextComposition}
+use Rattle.model.specs.Model.{Call, accepted, granted, answer, appended, after, event, eventAt, bookFrom}
+use Rattle.model.specs.Record.{printingOf, ledgerOf, written, consistent, answered}
 use Rattle.model.specs.Record.{advanced, counted, entered, recordAfter, columnAfter, Run, run}
-use Rattle.model.proofs.Lists.{length-snoc, length-over, set-over, nonzeros-snoc, zeros-snoc}
-use Rattle.model.proofs.Calls.{grant, for-an-order}
+use Rattle.model.proofs.Lists.{many-append}
+use Rattle.model.proofs.Entries.{entries-over, room-over, put-over}
+use Rattle.model.proofs.Calls.{Reached, Grant, grant}
 use Rattle.model.proofs.Opening.{Opens}
 use Rattle.model.proofs.Records.{together, answered-by}
 
--- the record that belongs to a list of lines
-abbrev pub ledgerOf : List ℕ → ℕ → List ℕ → Ledger
-ledgerOf ms r l =
-    record {
-      bounds = boundsOf ms r;
-      entries = length l;
-      sold = nonzeros l;
-      voided = zeros l;
-      next = nextComposition (compositions ms r) (length l);
-    }
+module _ (p : Printing) (col : Lent) (o : Opens p col) where
+  -- the record of a list of lines is for p, and its lines are the list
+  own-bounds : take (length (p .bounds)) (cellsOf (p .bounds)) ≡ p .bounds
+  own-bounds = cells-back (p .bounds)
 
-module _ (ms : List ℕ) (r : ℕ) (col : List ℕ) (o : Opens ms r col) where
-  abbrev gs : List (List ℕ)
-  gs = compositions ms r
+  own-printing : (l : List Entry) → printingOf (ledgerOf p l) ≡ p
+  own-printing l = λ i. record { bounds = own-bounds i; total = p .total }
 
-  sound : firstRefusal (recordChecks (boundsOf ms r)) .number ≡ 0
+  own-lines : (l : List Entry) → written (ledgerOf p l) (over col l) ≡ l
+  own-lines l = entries-over col l
+
+  sound : firstRefusal (recordChecks (boundsOf (p .bounds) (p .total))) .number ≡ 0
   sound =
-      ap (λ (v : Refusal). v .number) (sym (record-few (boundsOf ms r) (o .few))) ∙ rw (cells-back ms) (o .sound)
+      ap (λ (v : Refusal). v .number) (sym (record-few (boundsOf (p .bounds) (p .total)) (o .few)))
+      ∙ rw own-bounds (o .sound)
 
-  belongs : (l : List ℕ) → length l ≤ length gs → consistent (ledgerOf ms r l) (over col l) ≡ true
+  belongs : (l : List Entry) → Reached p l → consistent (ledgerOf p l) (over col l) ≡ true
   belongs l h =
-      together (ledgerOf ms r l) (over col l) sound (rw (cells-back ms) (o .small))
-      (rw (cells-back ms, length-over col l (omega (arith, o .room))) (o .room))
-      (rw (cells-back ms) h)
-      (rw (take-append-seam l (drop (length l) col)))
-      (rw (take-append-seam l (drop (length l) col)))
-      (rw (cells-back ms) (same-refl (nextComposition gs (length l))))
-      (rw (cells-back ms) (same-refl (cellsOf ms)))
+      together (ledgerOf p l) (over col l) sound (rw own-bounds (o .small))
+      (rw (own-bounds, room-over col l (omega (arith, o .fits, h .fits))) (o .fits))
+      (rw own-bounds (h .fits))
+      (rw (own-lines l))
+      (rw (own-lines l))
+      (rw own-bounds (same-refl (nextComposition p (length l))))
+      (rw own-bounds (same-refl (cellsOf (p .bounds))))
 
   -- one call: the answer is the model's, and the record and the column are those of the model's list after it
-  pub answers : (l : List ℕ) → length l ≤ length gs → (c : Call) → answered (ledgerOf ms r l) (over col l) c ≡ answer gs l c
+  pub answers : (l : List Entry) → Reached p l → (c : Call) → answered (ledgerOf p l) (over col l) c ≡ answer p l c
   answers l h c =
-      answered-by (ledgerOf ms r l) (over col l) c (belongs l h)
-      ∙ ap (λ (m : List ℕ). answer (compositions m r) (written (ledgerOf ms r l) (over col l)) c) (cells-back ms)
-      ∙ ap (λ (m : List ℕ). answer gs m c) (take-append-seam l (drop (length l) col))
+      answered-by (ledgerOf p l) (over col l) c (belongs l h)
+      ∙ ap (λ (q : Printing). answer q (written (ledgerOf p l) (over col l)) c) (own-printing l)
+      ∙ ap (λ (m : List Entry). answer p m c) (own-lines l)
 
-  -- after an accepted call that writes x: the record counts up, the column has x at the next place
-  grown : (l : List ℕ) (x sold voided : ℕ) → sold ≡ nonzeros (l ++ (x ∷ [])) → voided ≡ zeros (l ++ (x ∷ []))
-      → advanced (ledgerOf ms r l) sold voided ≡ ledgerOf ms r (l ++ (x ∷ []))
-  grown l x sold voided p q = rw (p, q, length-snoc l x, cells-back ms)
+  own-event : (l : List Entry) → Reached p l → (c : Call)
+      → event c (answered (ledgerOf p l) (over col l) c) ≡ eventAt p l c
+  own-event l h c = ap (event c) (answers l h c)
 
-  entered-at : (l : List ℕ) (s x : ℕ) → s ≡ next l → next l ≤ length gs → set (over col l) (s - 1) x ≡ over col (l ++ (x ∷ []))
-  entered-at l s x p h =
-      let q : s - 1 ≡ length l = omega arith in
-      rw (q, set-over col l x (omega (arith, o .room)))
+  more : (l es : List Entry) → advanced (ledgerOf p l) es ≡ ledgerOf p (l ++ es)
+  more l es = rw (own-bounds, length-append l es, many-append (λ e. isVoided e) l es, many-append (λ e. not (isVoided e)) l es)
 
-  record Follows (l : List ℕ) (ledger : Ledger) (column : List ℕ) : Type 0 where
-    pub record-follows : ledger ≡ ledgerOf ms r l
+  entered-at : (l : List Entry) (c : Call) → Grant p l c → entered (ledgerOf p l) (over col l) c ≡ over col (l ++ appended c)
+  entered-at l c g =
+      let at : placeOf p (granted p l c) ≡ length l = omega (arith, g .serial) in
+      rw (own-lines l, at)
+      (put-over col l (appended c) (omega (arith, length-append l (appended c), g .reached .fits, o .fits)))
+
+  record Follows (l : List Entry) (ledger : Ledger) (column : Lent) : Type 0 where
+    pub record-follows : ledger ≡ ledgerOf p l
     pub column-follows : column ≡ over col l
-    pub fits : length l ≤ length gs
+    pub reached : Reached p l
 
-  accepted-call : (l : List ℕ) (c : Call) → length l ≤ length gs → accepted (answer gs l c) ≡ true
-      → Follows (appended l c) (counted (ledgerOf ms r l) c) (entered (over col l) c)
-  accepted-call l peek h t = record { record-follows = refl; column-follows = refl; fits = h }
-  accepted-call l (claim s x) h t =
-      let g = grant gs l (claim s x) t in
-      let n = nonzeros-snoc l x (for-an-order gs l s x t) in
-      record {
-        record-follows = grown l x (nonzeros l + 1) (zeros l) (sym (n .0)) (sym (n .1));
-        column-follows = entered-at l s x (g .serial refl) (g .room);
-        fits = rw (length-snoc l x) (g .room);
-      }
-  accepted-call l (void s) h t =
-      let g = grant gs l (void s) t in
-      let n = zeros-snoc l in
-      record {
-        record-follows = grown l 0 (nonzeros l) (zeros l + 1) (sym (n .0)) (sym (n .1));
-        column-follows = entered-at l s 0 (g .serial refl) (g .room);
-        fits = rw (length-snoc l 0) (g .room);
-      }
-
-  follows : (l : List ℕ) (c : Call) → length l ≤ length gs
-      → Follows (after gs l c) (recordAfter (ledgerOf ms r l) (over col l) c) (columnAfter (ledgerOf ms r l) (over col l) c)
+  follows : (l : List Entry) (c : Call) → Reached p l
+      → Follows (after p l c) (recordAfter (ledgerOf p l) (over col l) c) (columnAfter (ledgerOf p l) (over col l) c)
   unfolding after recordAfter columnAfter
-  follows l c h = rw (answers l h c) (go (accepted (answer gs l c)) refl)
+  follows l c h = rw (answers l h c) (go (accepted (answer p l c)) refl)
     where
-      go : (b : Bool) → accepted (answer gs l c) ≡ b
-          → Follows (cond b (appended l c) l) (cond b (counted (ledgerOf ms r l) c) (ledgerOf ms r l)) (cond b (entered (over col l) c) (over col l))
-      go true t = accepted-call l c h t
-      go false t = record { record-follows = refl; column-follows = refl; fits = h }
+      go : (b : Bool) → accepted (answer p l c) ≡ b
+          → Follows (cond b (l ++ appended c) l) (cond b (counted (ledgerOf p l) c) (ledgerOf p l))
+          (cond b (entered (ledgerOf p l) (over col l) c) (over col l))
+      go true t =
+          let g = grant p l c h t in
+          record { record-follows = more l (appended c); column-follows = entered-at l c g; reached = g .reached }
+      go false t = record { record-follows = refl; column-follows = refl; reached = h }
 
   -- a list of calls
-  pub record Simulates (l : List ℕ) (cs : List Call) : Type 0 where
-    pub trace : run (ledgerOf ms r l) (over col l) cs .trace ≡ bookFrom gs l cs .trace
-    pub ledger : run (ledgerOf ms r l) (over col l) cs .ledger ≡ ledgerOf ms r (bookFrom gs l cs .entries)
-    pub column : run (ledgerOf ms r l) (over col l) cs .column ≡ over col (bookFrom gs l cs .entries)
-    pub fits : length (bookFrom gs l cs .entries) ≤ length gs
+  pub record Simulates (l : List Entry) (cs : List Call) : Type 0 where
+    pub trace : run (ledgerOf p l) (over col l) cs .trace ≡ bookFrom p l cs .trace
+    pub ledger : run (ledgerOf p l) (over col l) cs .ledger ≡ ledgerOf p (bookFrom p l cs .entries)
+    pub column : run (ledgerOf p l) (over col l) cs .column ≡ over col (bookFrom p l cs .entries)
+    pub reached : Reached p (bookFrom p l cs .entries)
 
-  pub simulates : (cs : List Call) (l : List ℕ) → length l ≤ length gs → Simulates l cs
+  pub simulates : (cs : List Call) (l : List Entry) → Reached p l → Simulates l cs
   unfolding run bookFrom
-  simulates [] l h = record { trace = refl; ledger = refl; column = refl; fits = h }
+  simulates [] l h = record { trace = refl; ledger = refl; column = refl; reached = h }
   simulates (c ∷ cs) l h =
       let f = follows l c h in
-      let l′ = after gs l c in
-      let i = simulates cs l′ (f .fits) in
+      let l′ = after p l c in
+      let i = simulates cs l′ (f .reached) in
       let q :
-      run (recordAfter (ledgerOf ms r l) (over col l) c) (columnAfter (ledgerOf ms r l) (over col l) c) cs
-      ≡ run (ledgerOf ms r l′) (over col l′) cs =
+      run (recordAfter (ledgerOf p l) (over col l) c) (columnAfter (ledgerOf p l) (over col l) c) cs
+      ≡ run (ledgerOf p l′) (over col l′) cs =
       rw (f .record-follows, f .column-follows) in
+      let t = ap (λ (x : Run). x .trace) q ∙ i .trace in
       record {
-        trace = rw (f .record-follows, f .column-follows, answers l h c, i .trace);
+        trace = λ k. own-event l h c k ∷ t k;
         ledger = ap (λ (x : Run). x .ledger) q ∙ i .ledger;
         column = ap (λ (x : Run). x .column) q ∙ i .column;
-        fits = i .fits;
+        reached = i .reached;
       }

@@ -3,130 +3,140 @@ use mathlib.Core.Path.{_≡_, refl, sym, ap, _∙_}
 use mathlib.Core.Logic.{_≢_, _↔_, _⊎_, inl, inr}
 use mathlib.Core.Bool.{true}
 use mathlib.Core.List.{List, [], _∷_, _++_, List·Memᴰ, List·Memᴰ·cases-cons, List·Memᴰ·not-nil}
-use Prim.Native.Nat.{ℕ, suc, _+_, _≤_, _<_}
+use Prim.Native.Nat.{ℕ, suc, _≤_, _<_}
 use native.Mathlib.Nat.{zero-add, eq-or-lt-of-le}
 use native.Mathlib.Omega.{arith}
-use lib.ListN.{length, getD, take, drop, List·getD-append}
-use lib.Seq.{take-all, getD-take, take-append-seam}
-use Rattle.walsh.specs.Order.{Composition, countOf}
+use lib.ListN.{length, getD, take}
+use lib.Seq.{take-all, getD-take}
+use Rattle.walsh.specs.Order.{Composition}
 use Rattle.walsh.specs.Neighbours.{Adjacent}
 use Rattle.bounds.specs.Edition.{cellsOf}
 use Rattle.bounds.proofs.Chains.{Accepts}
 use Rattle.model.specs.declared.Answer.{Answer}
 use Rattle.model.specs.declared.Ledger.{Ledger}
-use Rattle.model.specs.Basics.{over, Once}
-use Rattle.model.specs.Model.{Call, peek, claim, void, blank, callChecks, rowsBefore, given, answer, after, Event, bookFrom}
-use Rattle.model.specs.Record.{compositions, opened, opening, answered, run}
-use Rattle.model.specs.Trace.{writes, isClaim, isVoid, named, those, kept, writers, serials, orders, peeked}
-use Rattle.model.specs.Reason.{Reason}
+use Rattle.model.specs.Basics.{Once}
+use Rattle.model.specs.Entry.{Entry, voidEntry, Lent, over}
+use Rattle.model.specs.Printing.{Printing, blank, size, lowest, serialAt, capacity, stock}
+use Rattle.model.specs.Model.{Call, peek, claim, void, next, callChecks, rowsBefore, given, answer, after, Event, eventAt, bookFrom}
+use Rattle.model.specs.Record.{ledgerOf, opened, opening, answered, run}
+use Rattle.model.specs.Trace.{writes, isClaim, isVoid, named, those, kept, writers, serials, entriesBy, peeked}
+use Rattle.model.specs.Reason.{GoodOrder, Reason}
 use Rattle.model.specs.Whole.{ran, book, secondList, Whole}
-use Rattle.model.proofs.Compositions.{compositions-size, compositions-distinct, compositions-near, composition-place, place-composition}
+use Rattle.model.proofs.Entries.{entries-over}
+use Rattle.model.proofs.Stock.{stock-size, stock-distinct, stock-near, stock-place, place-stock}
 use Rattle.model.proofs.Opening.{Opens, opens, opening-accepted}
-use Rattle.model.proofs.Calls.{not-16, peek-21, already-written}
-use Rattle.model.proofs.Orders.{index-none, distinct-none}
-use Rattle.model.proofs.Books.{facts, Stood, stood, claims-and-voids}
-use Rattle.model.proofs.Lines.{counts, distinct-book}
+use Rattle.model.proofs.Answers.{order-good, placed, placed-next, claim-good}
+use Rattle.model.proofs.Calls.{Reached, reached-none, after-reached, not-16, peek-21, already-written}
+use Rattle.model.proofs.Orders.{place-none, distinct-none}
+use Rattle.model.proofs.Books.{grown, Facts, facts, Stood, stood, claims-and-voids}
+use Rattle.model.proofs.Lines.{counts, distinct-lines}
 use Rattle.model.proofs.Places.{once-at, distinct-take, not-among, mem-count, count-mem}
-use Rattle.model.proofs.Answers.{placed-next, claim-good}
 use Rattle.model.proofs.Reasons.{only-reason}
-use Rattle.model.proofs.Simulation.{ledgerOf, answers, simulates}
+use Rattle.model.proofs.Simulation.{answers, simulates}
 
-never-16 : (gs : List (List ℕ)) (cs : List Call) (l : List ℕ) (x : Event) → List·Memᴰ x (bookFrom gs l cs .trace) → x .reply .number ≢ 16
-unfolding bookFrom
-never-16 gs [] l x m = absurd (List·Memᴰ·not-nil m)
-never-16 gs (c ∷ cs) l x m = go (List·Memᴰ·cases-cons m) (λ m′. never-16 gs cs (after gs l c) x m′)
-  where
-    go : (x ≡ record { call = c; reply = answer gs l c }) ⊎ List·Memᴰ x (bookFrom gs (after gs l c) cs .trace)
-        → (List·Memᴰ x (bookFrom gs (after gs l c) cs .trace) → x .reply .number ≢ 16)
-        → x .reply .number ≢ 16
-    go (inl e) below = rw e (not-16 gs l c)
-    go (inr m′) below = below m′
+-- what holds of every call with the model's answer holds of every event
+module _ (p : Printing) (P : Event → Type 0) (here : (l : List Entry) → Reached p l → (c : Call) → P (eventAt p l c)) where
+  each-event : (cs : List Call) (l : List Entry) → Reached p l → (x : Event) → List·Memᴰ x (bookFrom p l cs .trace) → P x
+  unfolding bookFrom
+  each-event [] l h x m = absurd (List·Memᴰ·not-nil m)
+  each-event (c ∷ cs) l h x m = go (List·Memᴰ·cases-cons m) (λ m′. each-event cs (after p l c) (after-reached p l c h) x m′)
+    where
+      go : (x ≡ eventAt p l c) ⊎ List·Memᴰ x (bookFrom p (after p l c) cs .trace)
+          → (List·Memᴰ x (bookFrom p (after p l c) cs .trace) → P x)
+          → P x
+      go (inl e) below = rw e (here l h c)
+      go (inr m′) below = below m′
 
-module _ (ms : List ℕ) (r : ℕ) where
-  -- the first k compositions
-  near : (k i : ℕ) → k ≤ length (compositions ms r) → suc i < k
-      → Adjacent (length ms) (getD (take k (compositions ms r)) i blank) (getD (take k (compositions ms r)) (suc i) blank)
+module _ (p : Printing) where
+  -- the first k lines
+  near : (k i : ℕ) → k ≤ capacity p → suc i < k
+      → Adjacent (length (p .bounds)) (getD (take k (stock p)) i blank) (getD (take k (stock p)) (suc i) blank)
   near k i h l =
       let a : i < k = omega arith in
-      rw (getD-take k (compositions ms r) i blank a, getD-take k (compositions ms r) (suc i) blank l) (compositions-near ms r i (omega arith))
+      rw (getD-take k (stock p) i blank a, getD-take k (stock p) (suc i) blank l) (stock-near p i (omega arith))
 
-  all-once : (k : ℕ) → k ≤ length (compositions ms r)
-      → (length (compositions ms r) < k + 1) ↔ ((g : List ℕ) → Composition ms r g → Once blank (cellsOf g) (take k (compositions ms r)))
+  -- they hold every composition, each once
+  abbrev Holds : ℕ → Type 0
+  Holds k = (g : List ℕ) → Composition (p .bounds) (p .total) g → Once blank (cellsOf g) (take k (stock p))
+
+  all-once : (k : ℕ) → k ≤ capacity p
+      → (size p < serialAt p k) ↔ Holds k
   all-once k h = (there, λ f. go f (eq-or-lt-of-le h))
     where
-      there : length (compositions ms r) < k + 1 → (g : List ℕ) → Composition ms r g → Once blank (cellsOf g) (take k (compositions ms r))
-      there p g c =
-          let q = composition-place ms r g c in
-          rw (take-all k (compositions ms r) (omega arith))
-          (once-at blank (compositions ms r) (compositions-distinct ms r) (cellsOf g) (q .0) (q .1) (q .2))
+      there : size p < serialAt p k → Holds k
+      there b g c =
+          let q = stock-place p g c in
+          rw (take-all k (stock p) (omega (arith, stock-size p))) (once-at blank (stock p) (stock-distinct p) (cellsOf g) (q .0) (q .1) (q .2))
 
-      go : ((g : List ℕ) → Composition ms r g → Once blank (cellsOf g) (take k (compositions ms r)))
-          → (k ≡ length (compositions ms r)) ⊎ (k < length (compositions ms r))
-          → length (compositions ms r) < k + 1
+      go : Holds k
+          → (k ≡ capacity p) ⊎ (k < capacity p)
+          → size p < serialAt p k
       go f (inl e) = omega arith
-      go f (inr p) =
-          let q = place-composition ms r k p in
-          absurd (not-among blank k (compositions ms r) (compositions-distinct ms r) p (rw (q .2) (f (q .0) (q .1))))
+      go f (inr b) =
+          let b′ : k < length (stock p) = omega (arith, stock-size p) in
+          let q = place-stock p k b′ in
+          absurd (not-among blank k (stock p) (stock-distinct p) b′ (rw (q .2) (f (q .0) (q .1))))
 
 -- the call at any place of the model's trace
-module _ (gs : List (List ℕ)) (cs : List Call) (before rest : List Event) (x : Event)
-    (p : bookFrom gs [] cs .trace ≡ before ++ (x ∷ rest)) where
-  here : Stood gs [] before x
-  here = stood gs before cs [] x rest p
+module _ (p : Printing) (cs : List Call) (before rest : List Event) (x : Event)
+    (q : bookFrom p [] cs .trace ≡ before ++ (x ∷ rest)) where
+  here : Stood p [] before x
+  here = stood p before cs [] x rest q
 
-  reasons : (a : Answer) → Reason gs before (x .call) a ↔ (a ≡ x .reply)
+  reply : x .reply ≡ answer p (here .entries) (x .call)
+  reply = ap (λ (y : Event). y .reply) (here .answering)
+
+  so-far : Facts p [] (writers before) (here .entries)
+  so-far = facts p (writers before) [] (here .entries) (reached-none p) (here .by)
+
+  reasons : (a : Answer) → Reason p before (x .call) a ↔ (a ≡ x .reply)
   reasons a =
-      let few = here .grown .fits (omega arith) in
-      rw (here .reply, here .grown .entries)
-      (only-reason gs before (here .grown .serial) (omega (arith, few, here .grown .size)) (x .call) a)
+      rw (reply, so-far .lines)
+      (only-reason p before (so-far .serial) (omega (arith, so-far .size, so-far .reached .fits)) (x .call) a)
 
   -- no check before 18 refuses it
-  claimed-once : writes (x .call) ≡ true → Accepts (rowsBefore 18 (callChecks gs (orders (writers before)) (x .call)))
+  claimed-once : writes (x .call) ≡ true → Accepts (rowsBefore 18 (callChecks p (entriesBy (writers before)) (x .call)))
       → (x .reply .number ≡ 18) ↔ List·Memᴰ (named (x .call)) (serials (writers before))
   claimed-once w a =
-      let b = already-written gs (here .entries) (x .call) w (rw (here .grown .entries) a) in
+      let b = already-written p (here .entries) (x .call) w (rw (so-far .lines) a) in
       let k = length (writers before) in
-      rw (here .reply, here .grown .serial) (
-        (λ q. let c = b .0 q in count-mem 1 k (c .0) (omega (arith, c .1, here .grown .size))),
-        λ q. let c = mem-count 1 k q in b .1 (c .0, omega (arith, c .1, here .grown .size)),
+      rw (reply, so-far .serial) (
+        (λ y. let c = b .0 y in count-mem (lowest p) k (c .0) (omega (arith, c .1, so-far .size))),
+        λ y. let c = mem-count (lowest p) k y in b .1 (c .0, omega (arith, c .1, so-far .size)),
       )
 
 -- the next call after the lines m
-module _ (ms : List ℕ) (r : ℕ) (col : List ℕ) (opened : Opens ms r col) (m : List ℕ) (left : length m < countOf ms r) where
-  abbrev gs : List (List ℕ)
-  gs = compositions ms r
+module _ (p : Printing) (col : Lent) (o : Opens p col) (m : List Entry) (h : Reached p m) (left : length m < capacity p) where
+  placed-there : placed p m (next p m) ≡ given p (next p m)
+  placed-there = placed-next p m (next p m) (omega arith) (omega arith) refl
 
-  room : length m + 1 ≤ length gs
-  room = omega (arith, left, compositions-size ms r)
+  next-void : answered (ledgerOf p m) (over col m) (void (next p m)) ≡ given p (next p m)
+  next-void = answers p col o m h (void (next p m)) ∙ placed-there
 
-  next-void : answered (ledgerOf ms r m) (over col m) (void (length m + 1)) ≡ given gs (length m + 1)
-  next-void =
-      answers ms r col opened m (omega (arith, room)) (void (length m + 1)) ∙ placed-next gs m (length m + 1) (omega arith) room refl
+  next-claim : (e : Entry) → GoodOrder e → ((i : ℕ) → i < length m → getD m i voidEntry ≢ e)
+      → answered (ledgerOf p m) (over col m) (claim (next p m) e) ≡ given p (next p m)
+  next-claim e good new =
+      answers p col o m h (claim (next p m) e)
+      ∙ claim-good p m (next p m) e (order-good e good) (ap (λ (a : Answer). a .number) placed-there) (place-none e m new)
+      ∙ placed-there
 
-  next-claim : (o : ℕ) → o ≢ 0 → ((i : ℕ) → i < length m → getD (over col m) i 0 ≢ o)
-      → answered (ledgerOf ms r m) (over col m) (claim (length m + 1) o) ≡ given gs (length m + 1)
-  next-claim o n new =
-      let good = placed-next gs m (length m + 1) (omega arith) room refl in
-      let fresh = index-none o m (λ i h e. new i h (List·getD-append m (drop (length m) col) 0 i h ∙ e)) in
-      answers ms r col opened m (omega (arith, room)) (claim (length m + 1) o)
-      ∙ claim-good gs m (length m + 1) o n (ap (λ (a : Answer). a .number) good) fresh ∙ good
-
-pub whole : (ms : List ℕ) (r : ℕ) (col : List ℕ) → Opens ms r col → (cs : List Call)
-    → Whole ms r col cs (ran ms r col cs) (ran ms r col (secondList (ran ms r col cs)))
+pub whole : (p : Printing) (col : Lent) → Opens p col → (cs : List Call)
+    → Whole p col cs (ran p col cs) (ran p col (secondList (ran p col cs)))
 unfolding opened
-whole ms r col o cs =
-    let gs = compositions ms r in
-    let sim = simulates ms r col o cs [] (omega arith) in
-    let f = facts gs cs [] in
-    let m = book ms r cs .entries in
-    let t = book ms r cs .trace in
-    let again = simulates ms r col o (peeked (writers t)) [] (omega arith) in
-    let c = counts gs cs [] in
-    let seam = take-append-seam m (drop (length m) col) in
-    let count : length m ≡ length (writers t) = f .grown .size ∙ zero-add (length (writers t)) in
+whole p col o cs =
+    let start = reached-none p in
+    let sim = simulates p col o cs [] start in
+    let m = book p cs .entries in
+    let t = book p cs .trace in
+    let f = facts p (writers t) [] m start (grown p cs []) in
+    let g = grown p cs [] in
+    let c = counts p (writers t) [] m g in
+    let own = entries-over col m in
+    let again = simulates p col o (peeked (writers t)) [] start in
+    let count : length m ≡ length (writers t) = f .size ∙ zero-add (length (writers t)) in
     record {
       answers = sim .trace;
-      never-16 = rw (sim .trace) (never-16 gs cs []);
+      never-16 = rw (sim .trace) (each-event p (λ x. x .reply .number ≢ 16) (λ l h c. not-16 p l c) cs [] start);
       column = sim .column;
       entries = ap (λ (x : Ledger). x .entries) (sim .ledger);
       sold = ap (λ (x : Ledger). x .sold) (sim .ledger);
@@ -138,30 +148,32 @@ whole ms r col o cs =
       second-answers = rw (sim .trace, again .trace) (f .again-trace);
       second-peeks = rw (sim .trace, again .trace) (f .again-peeks);
       written = rw (sim .trace, sim .ledger) (count ∙ claims-and-voids (kept t));
-      claims = rw (sim .trace, sim .ledger) (c .sold ∙ zero-add (length (those isClaim (kept t))));
-      voids = rw (sim .trace, sim .ledger) (c .voided ∙ zero-add (length (those isVoid (kept t))));
-      line-orders = rw (sim .trace, sim .ledger, sim .column) (seam ∙ f .grown .entries);
-      orders-once = rw (sim .ledger, sim .column, seam) (distinct-book gs cs [] distinct-none);
-      in-turn = rw (sim .trace, sim .ledger, count) (f .grown .serial);
+      claims = rw (sim .trace, sim .ledger) (c .sold ∙ zero-add (length (those isClaim (writers t))));
+      voids = rw (sim .trace, sim .ledger) (c .voided ∙ zero-add (length (those isVoid (writers t))));
+      line-orders = rw (sim .trace, sim .ledger, sim .column) (own ∙ f .lines);
+      orders-once = rw (sim .ledger, sim .column, own) (distinct-lines p (writers t) [] m g distinct-none);
+      in-turn = rw (sim .trace, sim .ledger, count) (f .serial);
       first-compositions = rw (sim .trace, sim .ledger, count) (f .composition);
-      no-repeat = rw (sim .trace, f .composition) (distinct-take blank (length (writers t)) gs (compositions-distinct ms r));
-      neighbours = rw (sim .trace, sim .ledger, f .composition, ← count) (λ i. near ms r (length m) i (sim .fits));
-      full = rw (sim .trace, sim .ledger, sim .column, answers ms r col o m (sim .fits) peek, f .composition, ← count) (full m (sim .fits));
-      next-claim = rw (sim .ledger, sim .column) (λ x h. next-claim ms r col o m h x);
-      next-void = rw (sim .ledger, sim .column) (λ h. next-void ms r col o m h);
-      reasons = λ before rest x p. reasons gs cs before rest x (sym (sim .trace) ∙ p);
-      claimed-once = λ before rest x p. claimed-once gs cs before rest x (sym (sim .trace) ∙ p);
+      no-repeat =
+          rw (sim .trace, f .composition)
+          (distinct-take blank (length (writers t)) (stock p) (stock-distinct p));
+      neighbours = rw (sim .trace, sim .ledger, f .composition, ← count) (λ i. near p (length m) i (sim .reached .fits));
+      full = rw (sim .trace, sim .ledger, sim .column, answers p col o m (sim .reached) peek, f .composition, ← count) (full m (sim .reached));
+      next-claim = rw (sim .ledger, sim .column, own) (λ e h good. next-claim p col o m (sim .reached) h e good);
+      next-void = rw (sim .ledger, sim .column) (λ h. next-void p col o m (sim .reached) h);
+      reasons = λ before rest x q. reasons p cs before rest x (sym (sim .trace) ∙ q);
+      claimed-once = λ before rest x q. claimed-once p cs before rest x (sym (sim .trace) ∙ q);
     }
   where
-    full : (m : List ℕ) → length m ≤ length (compositions ms r)
-        → (answer (compositions ms r) m peek .number ≡ 21)
-        ↔ ((g : List ℕ) → Composition ms r g → Once blank (cellsOf g) (take (length m) (compositions ms r)))
+    full : (m : List Entry) → Reached p m
+        → (answer p m peek .number ≡ 21)
+        ↔ Holds p (length m)
     full m h =
-        let a = peek-21 (compositions ms r) m in
-        let b = all-once ms r (length m) h in
-        ((λ p. b .0 (a .0 p)), λ q. a .1 (b .1 q))
+        let a = peek-21 p m in
+        let b = all-once p (length m) (h .fits) in
+        ((λ q. b .0 (a .0 q)), λ q. a .1 (b .1 q))
 
-pub from-opening : (ms : List ℕ) (r : ℕ) (col : List ℕ) (cs : List Call) → opening ms r col .number ≡ 0
-    → Whole ms r col cs (run (opening ms r col .ledger) col cs)
-    (run (opening ms r col .ledger) col (secondList (run (opening ms r col .ledger) col cs)))
-from-opening ms r col cs z = let o = opening-accepted ms r col _ refl z in rw (o .1) (whole ms r col (opens ms r col (o .0)) cs)
+pub from-opening : (p : Printing) (col : Lent) (cs : List Call) → opening p col .number ≡ 0
+    → Whole p col cs (run (opening p col .ledger) col cs)
+    (run (opening p col .ledger) col (secondList (run (opening p col .ledger) col cs)))
+from-opening p col cs z = let o = opening-accepted p col _ refl z in rw (o .1) (whole p col (opens p col (o .0)) cs)

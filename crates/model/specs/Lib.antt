@@ -1,4 +1,6 @@
 pub mod Basics
+pub mod Entry
+pub mod Printing
 pub mod Model
 pub mod Record
 pub mod Trace

@@ -1,70 +1,80 @@
 -- Document 01, "The register": the paper register, which says what must happen. "It is fed the arguments of the calls, and nothing of the record
 -- or the column. Its state is the edition and a list of order numbers, empty after opening; the first entry is serial 1's, the second serial 2's
--- and so on, and its next serial is the list's length + 1." Here the edition is the list gs of its compositions in their order, 24 cells each,
--- and l is the list of order numbers.
+-- and so on, and its next serial is the list's length + 1." Here p is what it is opened for, the edition, and l is the list of lines.
 use mathlib.Core.Path.{_≡_, refl}
 use mathlib.Core.Bool.{Bool, cond}
 use mathlib.Core.List.{List, [], _∷_, _++_}
-use Prim.Native.Nat.{ℕ, _+_, _-_}
+use Prim.Native.Nat.{ℕ}
 use lib.Dec.{ltb, eqb}
 use lib.ListN.{length, getD}
 use Rattle.bounds.specs.Refusal.{Check, check, firstRefusal, decided}
-use Rattle.bounds.specs.Places.{noSerial}
-pub use Rattle.bounds.specs.Edition.{blank}
+use Rattle.bounds.specs.Places.{outside}
 use Rattle.bounds.specs.declared.Refusal.{Refusal}
 use Rattle.model.specs.declared.Answer.{Answer}
-use Rattle.model.specs.Basics.{indexOf}
+use Rattle.model.specs.Basics.{firstPlace}
+use Rattle.model.specs.Entry.{Entry, voidEntry, orderOf, isVoided, sameOrder}
+use Rattle.model.specs.Printing.{Printing, blank, size, compositionAt, lowest, placeOf, serialAt}
 
 -- the document's look; take, of a serial for an order; spoil, of a serial
 pub data Call : Type 0 where
   peek : Call
-  claim : ℕ → ℕ → Call
+  claim : ℕ → Entry → Call
   void : ℕ → Call
 
 -- the next serial
-abbrev pub next : List ℕ → ℕ
-next l = length l + 1
+abbrev pub next : Printing → List Entry → ℕ
+next p l = serialAt p (length l)
 
--- ---- the rows of the table of refusals, in its words and order; behind them the words of the paper register. The row of number 6 is bounds
--- specs/Places `noSerial`: "0 or over N"; "s is 0 or over N".
+-- ---- the rows of the table of refusals, in its words and order; behind them the words of the paper register
 
 -- take: "order 0"; "o is 0"
-abbrev pub noOrder : ℕ → Check
-noOrder o = check 17 (eqb o 0) 0
+abbrev pub noOrder : Entry → Check
+noOrder e = check 17 (isVoided e) 0
+
+-- serial given: "0 or over N"; "s is 0 or over N"
+abbrev pub noLine : Printing → ℕ → Check
+noLine p s = outside (lowest p) (size p) s
 
 -- take, spoil: "already written; detail: the number on its line"; "s is below the next serial, detail the order number of its entry"
-abbrev pub alreadyWritten : List ℕ → ℕ → Check
-alreadyWritten l s = check 18 (ltb s (next l)) (getD l (s - 1) 0)
+abbrev pub alreadyWritten : Printing → List Entry → ℕ → Check
+alreadyWritten p l s = check 18 (ltb s (next p l)) (orderOf (getD l (placeOf p s) voidEntry))
 
 -- "above the next serial; detail: the next"; "s is above the next serial, detail the next"
-abbrev pub aboveNext : List ℕ → ℕ → Check
-aboveNext l s = check 19 (ltb (next l) s) (next l)
+abbrev pub aboveNext : Printing → List Entry → ℕ → Check
+aboveNext p l s = check 19 (ltb (next p l) s) (next p l)
 
 -- take: "this order stands in an earlier line; detail: the lowest such serial"; "o stands in the list, detail the lowest serial it stands at"
-abbrev pub standsEarlier : List ℕ → ℕ → Check
-standsEarlier l o = check 20 (ltb (indexOf o l) (length l)) (indexOf o l + 1)
+abbrev pub standsEarlier : Printing → List Entry → Entry → Check
+standsEarlier p l e = check 20 (ltb (firstPlace (sameOrder e) l) (length l)) (serialAt p (firstPlace (sameOrder e) l))
 
 -- look: "lines = N"; "if the next serial is above N"
-abbrev pub allWritten : List (List ℕ) → List ℕ → Check
-allWritten gs l = check 21 (ltb (length gs) (next l)) 0
+abbrev pub allWritten : Printing → List Entry → Check
+allWritten p l = check 21 (ltb (size p) (next p l)) 0
 
 -- ---- a call
 
-module _ (gs : List (List ℕ)) (l : List ℕ) where
-  -- those of a serial
-  abbrev pub placeChecks : ℕ → List Check
-  placeChecks s = noSerial (length gs) s ∷ alreadyWritten l s ∷ aboveNext l s ∷ []
+-- the checks of an order, and those of a serial
+abbrev pub orderChecks : Entry → List Check
+orderChecks e = noOrder e ∷ []
 
-  -- "Take (serial s, order o) is refused by the first of these that holds"; "Spoil (s): the same without o and its checks"
+abbrev pub placeChecks : Printing → List Entry → ℕ → List Check
+placeChecks p l s = noLine p s ∷ alreadyWritten p l s ∷ aboveNext p l s ∷ []
+
+-- "Take (serial s, order o) is refused by the first of these that holds"
+abbrev pub claimChecks : Printing → List Entry → ℕ → Entry → List Check
+claimChecks p l s e = orderChecks e ++ (placeChecks p l s ++ (standsEarlier p l e ∷ []))
+
+module _ (p : Printing) (l : List Entry) where
+  -- "Spoil (s): the same without o and its checks"
   abbrev pub callChecks : Call → List Check
-  callChecks peek = allWritten gs l ∷ []
-  callChecks (claim s o) = noOrder o ∷ (placeChecks s ++ (standsEarlier l o ∷ []))
-  callChecks (void s) = placeChecks s
+  callChecks peek = allWritten p l ∷ []
+  callChecks (claim s e) = claimChecks p l s e
+  callChecks (void s) = placeChecks p l s
 
   -- the serial that an accepted call answers: "the next serial"; "s"
   abbrev pub granted : Call → ℕ
-  granted peek = next l
-  granted (claim s o) = s
+  granted peek = next p l
+  granted (claim s e) = s
   granted (void s) = s
 
 -- the rows of a table that stand before the row of a number
@@ -73,52 +83,57 @@ rowsBefore n [] = []
 rowsBefore n (c ∷ cs) = cond (eqb (c .number) n) [] (c ∷ rowsBefore n cs)
 
 -- for example, of a claim 17 and 6 stand before 18
-before-18 : (gs : List (List ℕ)) (l : List ℕ) (s o : ℕ) → rowsBefore 18 (callChecks gs l (claim s o)) ≡ noOrder o ∷ noSerial (length gs) s ∷ []
-before-18 gs l s o = refl
-
--- the composition of serial s
-abbrev pub compositionAt : List (List ℕ) → ℕ → List ℕ
-compositionAt gs s = getD gs (s - 1) blank
+before-18 : (p : Printing) (l : List Entry) (s : ℕ) (e : Entry) → rowsBefore 18 (callChecks p l (claim s e)) ≡ noOrder e ∷ noLine p s ∷ []
+before-18 p l s e = refl
 
 -- an accepted call answers a serial "and its mix"
-abbrev pub given : List (List ℕ) → ℕ → Answer
-given gs s = record { number = 0; detail = 0; serial = s; composition = compositionAt gs s }
+abbrev pub given : Printing → ℕ → Answer
+given p s = record { number = 0; detail = 0; serial = s; composition = compositionAt p s }
 
 -- a refused one "such a mix all zeros, and serial 0"
 abbrev pub refusedWith : ℕ → ℕ → Answer
 refusedWith number detail = record { number = number; detail = detail; serial = 0; composition = blank }
 
-abbrev pub answerBy : Refusal → List (List ℕ) → ℕ → Answer
-answerBy v gs s = decided v (given gs s) (refusedWith (v .number) (v .detail))
+abbrev pub answerBy : Refusal → Printing → ℕ → Answer
+answerBy v p s = decided v (given p s) (refusedWith (v .number) (v .detail))
 
-unfoldable pub answer : List (List ℕ) → List ℕ → Call → Answer
-answer gs l c = answerBy (firstRefusal (callChecks gs l c)) gs (granted gs l c)
+unfoldable pub answer : Printing → List Entry → Call → Answer
+answer p l c = answerBy (firstRefusal (callChecks p l c)) p (granted p l c)
 
 abbrev pub accepted : Answer → Bool
 accepted a = eqb (a .number) 0
 
--- "Otherwise it is accepted, o is appended"; a spoil "appends 0"
-abbrev pub appended : List ℕ → Call → List ℕ
-appended l peek = l
-appended l (claim s o) = l ++ (o ∷ [])
-appended l (void s) = l ++ (0 ∷ [])
+-- the lines that an accepted call appends: "Otherwise it is accepted, o is appended"; a spoil "appends 0"
+abbrev pub appended : Call → List Entry
+appended peek = []
+appended (claim s e) = e ∷ []
+appended (void s) = voidEntry ∷ []
 
 -- "A refused call changes nothing."
-unfoldable pub after : List (List ℕ) → List ℕ → Call → List ℕ
-after gs l c = cond (accepted (answer gs l c)) (appended l c) l
+unfoldable pub after : Printing → List Entry → Call → List Entry
+after p l c = cond (accepted (answer p l c)) (l ++ appended c) l
+
+-- ---- a list of calls
 
 -- a call with its answer
 pub record Event : Type 0 where
   pub call : Call
   pub reply : Answer
 
--- what a list of calls leaves: the calls with their answers, and the list of order numbers
+abbrev pub event : Call → Answer → Event
+event c a = record { call = c; reply = a }
+
+-- a call on the list l, with the model's answer
+abbrev pub eventAt : Printing → List Entry → Call → Event
+eventAt p l c = event c (answer p l c)
+
+-- what a list of calls leaves: the calls with their answers, and the list of lines
 pub record Book : Type 0 where
   pub trace : List Event
-  pub entries : List ℕ
+  pub entries : List Entry
 
-unfoldable pub bookFrom : List (List ℕ) → List ℕ → List Call → Book
-bookFrom gs l [] = record { trace = []; entries = l }
-bookFrom gs l (c ∷ cs) =
-    let rest = bookFrom gs (after gs l c) cs in
-    record { trace = record { call = c; reply = answer gs l c } ∷ rest .trace; entries = rest .entries }
+unfoldable pub bookFrom : Printing → List Entry → List Call → Book
+bookFrom p l [] = record { trace = []; entries = l }
+bookFrom p l (c ∷ cs) =
+    let rest = bookFrom p (after p l c) cs in
+    record { trace = eventAt p l c ∷ rest .trace; entries = rest .entries }

@@ -3,35 +3,39 @@ use mathlib.Core.Path.{_≡_}
 use mathlib.Core.Bool.{Bool, true, false, cond}
 use mathlib.Core.List.{List, [], _∷_, map}
 use Prim.Native.Nat.{ℕ, zero, suc}
+use Rattle.walsh.specs.Tests.{either}
+use Rattle.model.specs.Entry.{Entry, voidEntry}
 use Rattle.model.specs.Model.{Call, peek, claim, void, accepted, Event}
 
--- claims and voids
-abbrev pub writes : Call → Bool
-writes peek = false
-writes (claim s o) = true
-writes (void s) = true
+-- ---- a call
 
 abbrev pub isClaim : Call → Bool
 isClaim peek = false
-isClaim (claim s o) = true
+isClaim (claim s e) = true
 isClaim (void s) = false
 
 abbrev pub isVoid : Call → Bool
 isVoid peek = false
-isVoid (claim s o) = false
+isVoid (claim s e) = false
 isVoid (void s) = true
 
--- the serial that a call names
+-- claims and voids
+abbrev pub writes : Call → Bool
+writes c = either (isClaim c) (isVoid c)
+
+-- the serial that a claim or a void names
 abbrev pub named : Call → ℕ
 named peek = 0
-named (claim s o) = s
+named (claim s e) = s
 named (void s) = s
 
--- the order that an accepted one writes; 0 for a void
-abbrev pub ordered : Call → ℕ
-ordered peek = 0
-ordered (claim s o) = o
-ordered (void s) = 0
+-- the line that an accepted claim or void writes
+abbrev pub entryOf : Call → Entry
+entryOf peek = voidEntry
+entryOf (claim s e) = e
+entryOf (void s) = voidEntry
+
+-- ---- a trace
 
 -- the events whose call passes a test
 abbrev pub those : (Call → Bool) → List Event → List Event
@@ -50,11 +54,13 @@ writers t = those writes (kept t)
 abbrev pub serials : List Event → List ℕ
 serials t = map (λ x. named (x .call)) t
 
-abbrev pub orders : List Event → List ℕ
-orders t = map (λ x. ordered (x .call)) t
+abbrev pub entriesBy : List Event → List Entry
+entriesBy t = map (λ x. entryOf (x .call)) t
 
 abbrev pub answeredCompositions : List Event → List (List ℕ)
 answeredCompositions t = map (λ x. x .reply .composition) t
+
+-- ---- the second list
 
 -- the calls of a trace, each with a peek directly before it
 abbrev pub peeked : List Event → List Call

@@ -6,48 +6,50 @@ use mathlib.Core.Logic.{_≢_, _↔_}
 use mathlib.Core.List.{List, [], _∷_, _++_, List·Memᴰ}
 use Prim.Native.Nat.{ℕ, suc, _+_, _<_}
 use lib.ListN.{length, getD, take}
-use Rattle.walsh.specs.Order.{Composition, countOf}
+use Rattle.walsh.specs.Order.{Composition}
 use Rattle.walsh.specs.Neighbours.{Adjacent}
 use Rattle.bounds.specs.Refusal.{firstRefusal}
 use Rattle.bounds.specs.Edition.{cellsOf, boundsOf}
 use Rattle.model.specs.declared.Answer.{Answer}
-use Rattle.model.specs.Basics.{zeros, nonzeros, over, Distinct, DistinctOrders, Once}
-use Rattle.model.specs.Model.{Call, peek, claim, void, blank, callChecks, rowsBefore, given, Event, Book, bookFrom}
-use Rattle.model.specs.Record.{compositions, nextComposition, opened, answered, Run, run}
-use Rattle.model.specs.Trace.{writes, isClaim, isVoid, named, those, kept, writers, serials, orders, answeredCompositions}
+use Rattle.model.specs.Basics.{Distinct, Once}
+use Rattle.model.specs.Entry.{Entry, voidEntry, DistinctOrders, soldIn, voidedIn, Lent, firstEntries, over}
+use Rattle.model.specs.Printing.{Printing, blank, lowest, serialAt, capacity, stock, nextComposition}
+use Rattle.model.specs.Model.{Call, peek, claim, void, callChecks, rowsBefore, given, Event, Book, bookFrom}
+use Rattle.model.specs.Record.{opened, answered, Run, run}
+use Rattle.model.specs.Trace.{writes, isClaim, isVoid, named, those, writers, serials, entriesBy, answeredCompositions}
 use Rattle.model.specs.Trace.{peeked, Foretold, countFrom}
-use Rattle.model.specs.Reason.{Reason}
+use Rattle.model.specs.Reason.{GoodOrder, Reason}
 
 -- the list of calls on the record and the column of an opened ledger, and on the model
-abbrev pub ran : List ℕ → ℕ → List ℕ → List Call → Run
-ran ms r col cs = run (opened ms r) col cs
+abbrev pub ran : Printing → Lent → List Call → Run
+ran p col cs = run (opened p) col cs
 
-abbrev pub book : List ℕ → ℕ → List Call → Book
-book ms r cs = bookFrom (compositions ms r) [] cs
+abbrev pub book : Printing → List Call → Book
+book p cs = bookFrom p [] cs
 
 -- the lines that a run leaves: the beginning of its column, as many as its record counts
-abbrev pub lines : Run → List ℕ
-lines w = take (w .ledger .entries) (w .column)
+abbrev pub lines : Run → List Entry
+lines w = firstEntries (w .ledger .entries) (w .column)
 
 -- "A second list has the accepted takes and spoils alone, in their order, each with a look directly before it"
 abbrev pub secondList : Run → List Call
 secondList w = peeked (writers (w .trace))
 
--- Of an opening on ms and r over the column col: w is the run of the list cs, v the run of its second list. First what document 01 says by the paper
+-- Of an opening for p over the column col: w is the run of the list cs, v the run of its second list. First what document 01 says by the paper
 -- register, then what it comes to by the calls and their answers alone.
-pub record Whole (ms : List ℕ) (r : ℕ) (col : List ℕ) (cs : List Call) (w v : Run) : Type 0 where
+pub record Whole (p : Printing) (col : Lent) (cs : List Call) (w v : Run) : Type 0 where
   -- "The answer of each call (number and detail, serial, mix) is the paper register's." "So 16 never comes up there."
-  pub answers : w .trace ≡ book ms r cs .trace
+  pub answers : w .trace ≡ book p cs .trace
   pub never-16 : (x : Event) → List·Memᴰ x (w .trace) → x .reply .number ≢ 16
   -- "the column begins with the paper register's list"; "Other entries of the column keep their values."
-  pub column : w .column ≡ over col (book ms r cs .entries)
+  pub column : w .column ≡ over col (book p cs .entries)
   -- "the record's three counts are that register's"
-  pub entries : w .ledger .entries ≡ length (book ms r cs .entries)
-  pub sold : w .ledger .sold ≡ nonzeros (book ms r cs .entries)
-  pub voided : w .ledger .voided ≡ zeros (book ms r cs .entries)
+  pub entries : w .ledger .entries ≡ length (book p cs .entries)
+  pub sold : w .ledger .sold ≡ soldIn (book p cs .entries)
+  pub voided : w .ledger .voided ≡ voidedIn (book p cs .entries)
   -- "the record's edition is the opened one and its mix that of the next serial (of serial N when full)"
-  pub bounds : w .ledger .bounds ≡ boundsOf ms r
-  pub next : w .ledger .next ≡ nextComposition (compositions ms r) (length (book ms r cs .entries))
+  pub bounds : w .ledger .bounds ≡ boundsOf (p .bounds) (p .total)
+  pub next : w .ledger .next ≡ nextComposition p (length (book p cs .entries))
   -- the second list "leaves the same column and record, its takes and spoils get the answers they had, and each look answers the serial that the
   -- call after it names"
   pub second-column : v .column ≡ w .column
@@ -57,33 +59,34 @@ pub record Whole (ms : List ℕ) (r : ℕ) (col : List ℕ) (cs : List Call) (w 
   -- ---- by the calls and their answers
 
   -- the lines are as many as the accepted claims and the accepted voids, the sold ones as the former, the voided ones as the latter
-  pub written : w .ledger .entries ≡ length (those isClaim (kept (w .trace))) + length (those isVoid (kept (w .trace)))
-  pub claims : w .ledger .sold ≡ length (those isClaim (kept (w .trace)))
-  pub voids : w .ledger .voided ≡ length (those isVoid (kept (w .trace)))
-  -- in turn they hold the orders of these calls, 0 for a void; no order stands in two of them
-  pub line-orders : lines w ≡ orders (writers (w .trace))
+  pub written : w .ledger .entries ≡ length (those isClaim (writers (w .trace))) + length (those isVoid (writers (w .trace)))
+  pub claims : w .ledger .sold ≡ length (those isClaim (writers (w .trace)))
+  pub voids : w .ledger .voided ≡ length (those isVoid (writers (w .trace)))
+  -- in turn they are what these calls wrote: the order of a claim, 0 for a void; no order stands in two of them
+  pub line-orders : lines w ≡ entriesBy (writers (w .trace))
   pub orders-once : DistinctOrders (lines w)
   -- they were written from serial 1 up; "A line holds the mix of its serial, a spoilt line too."
-  pub in-turn : serials (writers (w .trace)) ≡ countFrom 1 (w .ledger .entries)
-  pub first-compositions : answeredCompositions (writers (w .trace)) ≡ take (w .ledger .entries) (compositions ms r)
+  pub in-turn : serials (writers (w .trace)) ≡ countFrom (lowest p) (w .ledger .entries)
+  pub first-compositions : answeredCompositions (writers (w .trace)) ≡ take (w .ledger .entries) (stock p)
   -- no composition twice, and each next one has one unit more at one part and one fewer at another
   pub no-repeat : Distinct blank (answeredCompositions (writers (w .trace)))
   pub neighbours : (i : ℕ) → suc i < w .ledger .entries
-      → Adjacent (length ms) (getD (answeredCompositions (writers (w .trace))) i blank)
+      → Adjacent (length (p .bounds)) (getD (answeredCompositions (writers (w .trace))) i blank)
       (getD (answeredCompositions (writers (w .trace))) (suc i) blank)
   -- a peek afterwards answers 21 exactly when the lines hold every composition of the edition, each exactly once
   pub full : (answered (w .ledger) (w .column) peek .number ≡ 21)
-      ↔ ((g : List ℕ) → Composition ms r g → Once blank (cellsOf g) (answeredCompositions (writers (w .trace))))
-  -- afterwards a claim of the next serial, for an order that is not 0 and stands in no line, is accepted, and so is a void of that serial
-  pub next-claim : (o : ℕ) → w .ledger .entries < countOf ms r → o ≢ 0 → ((i : ℕ) → i < w .ledger .entries → getD (w .column) i 0 ≢ o)
-      → answered (w .ledger) (w .column) (claim (w .ledger .entries + 1) o) ≡ given (compositions ms r) (w .ledger .entries + 1)
-  pub next-void : w .ledger .entries < countOf ms r
-      → answered (w .ledger) (w .column) (void (w .ledger .entries + 1)) ≡ given (compositions ms r) (w .ledger .entries + 1)
+      ↔ ((g : List ℕ) → Composition (p .bounds) (p .total) g → Once blank (cellsOf g) (answeredCompositions (writers (w .trace))))
+  -- afterwards, while there is room, a claim of the next serial for a good order that stands in no line is accepted, and so is a void of that serial
+  pub next-claim : (e : Entry) → w .ledger .entries < capacity p → GoodOrder e
+      → ((i : ℕ) → i < length (lines w) → getD (lines w) i voidEntry ≢ e)
+      → answered (w .ledger) (w .column) (claim (serialAt p (w .ledger .entries)) e) ≡ given p (serialAt p (w .ledger .entries))
+  pub next-void : w .ledger .entries < capacity p
+      → answered (w .ledger) (w .column) (void (serialAt p (w .ledger .entries))) ≡ given p (serialAt p (w .ledger .entries))
   -- every answer has its reason in the calls before it and their answers, and no other answer has one
   pub reasons : (before rest : List Event) (x : Event) → w .trace ≡ before ++ (x ∷ rest)
-      → (a : Answer) → Reason (compositions ms r) before (x .call) a ↔ (a ≡ x .reply)
+      → (a : Answer) → Reason p before (x .call) a ↔ (a ≡ x .reply)
   -- "A take that no check before 18 refuses is refused 18 exactly when an earlier accepted call wrote that serial." A spoil too.
   pub claimed-once : (before rest : List Event) (x : Event) → w .trace ≡ before ++ (x ∷ rest)
       → writes (x .call) ≡ true
-      → firstRefusal (rowsBefore 18 (callChecks (compositions ms r) (orders (writers before)) (x .call))) .number ≡ 0
+      → firstRefusal (rowsBefore 18 (callChecks p (entriesBy (writers before)) (x .call))) .number ≡ 0
       → (x .reply .number ≡ 18) ↔ List·Memᴰ (named (x .call)) (serials (writers before))

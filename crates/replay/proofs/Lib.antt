@@ -1,4 +1,3 @@
-pub mod Scripts
-pub mod Traces
+pub mod Rows
 pub mod Steps
 pub mod Promise

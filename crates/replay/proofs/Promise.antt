@@ -1,45 +1,33 @@
 -- What the code left behind is the run of the list, and the statement about the whole list holds of it.
-use mathlib.Core.Path.{_≡_, refl, sym, ap, _∙_, subst⁻¹}
+use mathlib.Core.Path.{_≡_, refl, sym, ap, _∙_, subst, subst⁻¹}
 use mathlib.Core.Logic.{_≢_}
 use mathlib.Core.Bool.{true, false, not}
-use mathlib.Core.List.{List, [], map}
-use Prim.Native.Nat.{ℕ}
+use mathlib.Core.List.{List, []}
 use native.Mathlib.Omega.{arith}
-use lib.ListN.{length}
 use Rattle.bounds.specs.Refusal.{Check, refused, firstRefusal}
 use Rattle.bounds.specs.declared.Refusal.{Refusal}
 use Rattle.bounds.proofs.Refusals.{refusal-here, refusal-first, refusal-later}
 use Rattle.bounds.proofs.Chains.{Accepts}
-use Rattle.model.specs.Basics.{over, all}
+use Rattle.model.specs.Basics.{all}
+use Rattle.model.specs.Entry.{Lent, room}
+use Rattle.model.specs.Printing.{Printing}
 use Rattle.model.specs.Model.{Call}
-use Rattle.model.specs.Record.{openingChecks, opening, opened, blankLedger, Run, run}
+use Rattle.model.specs.Record.{openingChecks, opening, opened, blankLedger, Run}
 use Rattle.model.specs.Whole.{ran, secondList, Whole}
 use Rattle.model.specs.declared.Ledger.{Ledger}
 use Rattle.model.specs.declared.Opened.{Opened}
 use Rattle.model.proofs.Opening.{opens, opening-refused, opening-accepted}
 use Rattle.model.proofs.Whole.{whole}
-use Rattle.replay.specs.Replay.{Script, Buffers, callsOf, shown, seen, sizes, sizeChecks, replayChecks, Replayed, Replays}
-use Rattle.replay.specs.Progress.{Ran}
-use Rattle.replay.proofs.Traces.{cellsIn, read-back, run-calls}
+use Rattle.replay.specs.Replay.{Script, Buffers, callsOf, seen, sizes, sizeChecks, replayChecks, Ran, Replayed, Replays}
 
-observed : (r : Ledger) (cs : List Call) (b b′ : Buffers) (l : Ledger) → Ran r cs b b′ l → seen cs l b′ ≡ run r (b .column) cs
-observed r cs b b′ l w =
-    let t = run r (b .column) cs .trace in
-    let p : shown cs (b′ .numbers) (b′ .details) (b′ .granted) (b′ .compositions) ≡ t =
-    rw (w .numbers, w .details, w .granted, w .compositions)
-    (ap (λ (c : List Call). shown c (over (b .numbers) (map (λ x. x .reply .number) t)) (over (b .details) (map (λ x. x .reply .detail) t))
-    (over (b .granted) (map (λ x. x .reply .serial) t)) (over (b .compositions) (cellsIn t))) (sym (run-calls r (b .column) cs))
-    ∙ read-back t _ _ _ _ (w .full)) in
-    λ i. record { trace = p i; ledger = w .ledger i; column = w .column i }
-
-module _ (ms : List ℕ) (r : ℕ) (x : Script) (b : Buffers) (o : Opened) (e : o ≡ opening ms r (b .column)) where
+module _ (p : Printing) (x : Script) (b : Buffers) (o : Opened) (e : o ≡ opening p (b .column)) where
   abbrev table : List Check
-  table = openingChecks ms r (length (b .column))
+  table = openingChecks p (room (b .column))
 
   -- the opening's own refusal
-  pub replay-unopened : o .number ≢ 0 → Replays ms r x b b o
+  pub replay-unopened : o .number ≢ 0 → Replays p x b b o
   replay-unopened n =
-      let v = opening-refused ms r (b .column) o e (omega (arith, n)) in
+      let v = opening-refused p (b .column) o e (omega (arith, n)) in
       let first = refusal-first table (sizeChecks x b) (λ z. n (ap (λ (y : Refusal). y .number) (sym (v .0)) ∙ z)) ∙ v .0 in
       record {
         number = ap (λ (y : Refusal). y .number) (sym first);
@@ -49,14 +37,14 @@ module _ (ms : List ℕ) (r : ℕ) (x : Script) (b : Buffers) (o : Opened) (e : 
       }
 
   module _ (z : o .number ≡ 0) where
-    accepted-opening : Accepts table × (o .ledger ≡ opened ms r)
-    accepted-opening = opening-accepted ms r (b .column) o e z
+    accepted-opening : Accepts table × (o .ledger ≡ opened p)
+    accepted-opening = opening-accepted p (b .column) o e z
 
-    fitting : firstRefusal (replayChecks ms r x b) ≡ firstRefusal (sizeChecks x b)
+    fitting : firstRefusal (replayChecks p x b) ≡ firstRefusal (sizeChecks x b)
     fitting = refusal-later table (sizeChecks x b) refl (accepted-opening .0)
 
-    -- slices that do not fit together
-    pub replay-unfit : all (sizes x b) ≡ false → (o′ : Opened) → o′ ≡ record { number = 13; detail = 0; ledger = blankLedger } → Replays ms r x b b o′
+    -- lengths that do not fit together
+    pub replay-unfit : all (sizes x b) ≡ false → (o′ : Opened) → o′ ≡ record { number = 13; detail = 0; ledger = blankLedger } → Replays p x b b o′
     replay-unfit f o′ is =
         let first = fitting ∙ refusal-here _ [] (ap not f) in
         rw is
@@ -68,31 +56,30 @@ module _ (ms : List ℕ) (r : ℕ) (x : Script) (b : Buffers) (o : Opened) (e : 
         })
 
     pub replay-done : (b′ : Buffers) (l : Ledger) → all (sizes x b) ≡ true → Ran (o .ledger) (callsOf x) b b′ l
-        → Replays ms r x b b′ (record { number = 0; detail = 0; ledger = l })
+        → Replays p x b b′ (record { number = 0; detail = 0; ledger = l })
     unfolding firstRefusal
     replay-done b′ l t w =
-        let first : firstRefusal (replayChecks ms r x b) ≡ refused 0 0 = fitting ∙ rw t in
-        let p : seen (callsOf x) l b′ ≡ ran ms r (b .column) (callsOf x) =
-        observed (o .ledger) (callsOf x) b b′ l w ∙ ap (λ (y : Ledger). run y (b .column) (callsOf x)) (accepted-opening .1) in
+        let first : firstRefusal (replayChecks p x b) ≡ refused 0 0 = fitting ∙ rw t in
+        let done = subst (λ (y : Ledger). Ran y (callsOf x) b b′ l) (accepted-opening .1) w in
         record {
           number = ap (λ (y : Refusal). y .number) (sym first);
           detail = ap (λ (y : Refusal). y .detail) (sym first);
           refused = λ n. absurd (n refl);
           accepted = λ _.
               record {
-                run = p;
+                done = done;
                 whole =
-                    subst⁻¹ (λ (y : Run). Whole ms r (b .column) (callsOf x) y (ran ms r (b .column) (secondList y))) p
-                    (whole ms r (b .column) (opens ms r (b .column) (accepted-opening .0)) (callsOf x));
+                    subst⁻¹ (λ (y : Run). Whole p (b .column) (callsOf x) y (ran p (b .column) (secondList y))) (done .same-run)
+                    (whole p (b .column) (opens p (b .column) (accepted-opening .0)) (callsOf x));
               };
         }
 
 -- two runs of the code, of a list and of its second list over a column of the same values
-pub two-runs : (ms : List ℕ) (r : ℕ) (cs : List Call) (b b₁ b₂ b₃ : Buffers) (l₁ l₂ : Ledger)
+pub two-runs : (p : Printing) (cs : List Call) (b b₁ b₂ b₃ : Buffers) (l₁ l₂ : Ledger)
     → b₂ .column ≡ b .column
-    → Replayed ms r cs b b₁ l₁
-    → Replayed ms r (secondList (seen cs l₁ b₁)) b₂ b₃ l₂
-    → Whole ms r (b .column) cs (seen cs l₁ b₁) (seen (secondList (seen cs l₁ b₁)) l₂ b₃)
-two-runs ms r cs b b₁ b₂ b₃ l₁ l₂ e p q =
-    subst⁻¹ (λ (v : Run). Whole ms r (b .column) cs (seen cs l₁ b₁) v)
-    (q .run ∙ ap (λ (col : List ℕ). ran ms r col (secondList (seen cs l₁ b₁))) e) (p .whole)
+    → Replayed p cs b b₁ l₁
+    → Replayed p (secondList (seen cs l₁ b₁)) b₂ b₃ l₂
+    → Whole p (b .column) cs (seen cs l₁ b₁) (seen (secondList (seen cs l₁ b₁)) l₂ b₃)
+two-runs p cs b b₁ b₂ b₃ l₁ l₂ e x y =
+    subst⁻¹ (λ (v : Run). Whole p (b .column) cs (seen cs l₁ b₁) v)
+    (y .done .same-run ∙ ap (λ (col : Lent). ran p col (secondList (seen cs l₁ b₁))) e) (x .whole)

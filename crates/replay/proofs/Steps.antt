@@ -1,137 +1,158 @@
 -- The replay after each call: what the loop keeps.
 use mathlib.Core.Path.{_≡_, refl, sym, ap, _∙_}
-use mathlib.Core.List.{List, [], _∷_, _++_, map}
-use Prim.Native.Nat.{ℕ, _+_, _*_, _≤_, _<_}
-use native.Mathlib.Numerals.{add-one}
+use mathlib.Core.Bool.{true}
+use mathlib.Core.List.{List, [], _∷_, _++_, map, append-nil}
+use Prim.Native.Nat.{ℕ, _+_, _-_, _*_, _/_, _%_, _≤_, _<_}
 use native.Mathlib.Omega.{arith}
-use lib.ListN.{length, getD, take, set, length-set}
-use lib.Seq.{take-suc, length-take-le, length-paste}
-use Rattle.model.specs.Basics.{over}
-use Rattle.model.specs.Model.{Call, peek, Event}
-use Rattle.model.specs.Record.{answered, recordAfter, columnAfter, calling, run}
-use Rattle.model.specs.declared.Answer.{Answer}
+use lib.ListN.{length, getD, take, drop, length-drop, drop-of-length-le}
+use lib.Seq.{length-take-le}
+use borrow.Author.Tests.{eqb-true}
+use Rattle.model.specs.Basics.{replaced, all}
+use Rattle.model.specs.Entry.{Lent}
+use Rattle.model.specs.Model.{Call, Event, event}
+use Rattle.model.specs.Record.{answered, recordAfter, columnAfter, calling, Run, run}
 use Rattle.model.specs.declared.Claimed.{Claimed}
 use Rattle.model.specs.declared.Ledger.{Ledger}
-use Rattle.replay.specs.Replay.{Script, Buffers, callsOf}
-use Rattle.replay.specs.Progress.{Put, Ran}
-use Rattle.replay.proofs.Scripts.{Fit}
-use Rattle.replay.proofs.Traces.{snoc, numbers-snoc, cells-more, full-snoc}
+use Rattle.model.proofs.Lists.{length-snoc, snoc-append, length-replaced}
+use Rattle.model.proofs.Records.{each}
+use Rattle.replay.specs.Rows.{callWidth, callOf, uses, callsIn, rowWidth, rowOf, rowsOf, shown}
+use Rattle.replay.specs.Replay.{Script, Buffers, callsOf, sizes, Ran}
+use Rattle.replay.proofs.Rows.{uses-few, calls-count, calls-next, Full, full-snoc, rows-length, rows-more, read-back}
 
--- what a call leaves, part by part
-pub record Did (r : Ledger) (col : List ℕ) (c : Call) (t : Claimed) (col′ : List ℕ) : Type 0 where
-  pub answer : t .answer ≡ answered r col c
-  pub ledger : t .ledger ≡ recordAfter r col c
-  pub column : col′ ≡ columnAfter r col c
+-- whole rows, as many of the answers as of the calls
+pub record Fit (x : Script) (b : Buffers) : Type 0 where
+  pub whole : length (x .rows) % callWidth ≡ 0
+  pub room : length (b .answers) ≡ length (x .rows) / callWidth * rowWidth
 
-pub did : (r : Ledger) (col : List ℕ) (c : Call) (t : Claimed) (col′ : List ℕ)
-    → _≡_ {A = Claimed × List ℕ} (t, col′) (calling r col c)
-    → Did r col c t col′
-unfolding calling
-did r col c t col′ e =
+pub fit-of : (x : Script) (b : Buffers) → all (sizes x b) ≡ true → Fit x b
+fit-of x b t =
+    let p = each (sizes x b) t in
     record {
-      answer = ap (λ (p : Claimed × List ℕ). p .0 .answer) e;
-      ledger = ap (λ (p : Claimed × List ℕ). p .0 .ledger) e;
-      column = ap (λ (p : Claimed × List ℕ). p .1) e;
+      whole = eqb-true (length (x .rows) % callWidth) 0 (p .0);
+      room =
+          eqb-true (length (b .answers)) (length (callsOf x) * rowWidth) (p .1 .0)
+          ∙ ap (λ (n : ℕ). n * rowWidth) (calls-count (x .rows) (x .orders));
     }
 
--- an answer at place i of the buffers b, which then are b′
-abbrev pub PutIn : Answer → ℕ → Buffers → Buffers → Type 0
-PutIn a i b b′ =
-    Put a i (b .numbers) (b′ .numbers) (b .details) (b′ .details) (b .granted) (b′ .granted) (b .compositions) (b′ .compositions)
+-- a run that comes after the calls of a trace
+abbrev pub behind : List Event → Run → Run
+behind t w = record { trace = t ++ w .trace; ledger = w .ledger; column = w .column }
 
--- one call more, of which the code did a step and put the answer into the buffers
-module _ (r : Ledger) (cs : List Call) (c : Call) (b b′ b″ : Buffers) (l : Ledger) (t : Claimed) where
-  abbrev before : List Event
-  before = run r (b .column) cs .trace
-
-  abbrev last : Event
-  last = record { call = c; reply = t .answer }
-
-  module _ (w : Ran r cs b b′ l) (g : Did l (b′ .column) c t (b″ .column)) where
-    trace-grown : run r (b .column) (cs ++ (c ∷ [])) .trace ≡ before ++ (last ∷ [])
-    trace-grown = snoc r (b .column) cs c .trace ∙ rw (g .answer, w .ledger, w .column)
-
-    grown : (f : Answer → ℕ) (d d′ d″ : List ℕ)
-        → length cs < length d
-        → d′ ≡ over d (map (λ x. f (x .reply)) before)
-        → d″ ≡ set d′ (length cs) (f (t .answer))
-        → d″ ≡ over d (map (λ x. f (x .reply)) (run r (b .column) (cs ++ (c ∷ [])) .trace))
-    grown f d d′ d″ h is p =
-        let k = snoc r (b .column) cs c .size in
-        p
-        ∙ rw (is, ← k) (numbers-snoc d (λ x. f (x .reply)) before last (omega arith))
-        ∙ ap (λ (y : List Event). over d (map (λ x. f (x .reply)) y)) (sym trace-grown)
-
-    pub one-more :
-        PutIn (t .answer) (length cs) b′ b″
-        → length cs < length (b .numbers)
-        → length cs < length (b .details)
-        → length cs < length (b .granted)
-        → Ran r (cs ++ (c ∷ [])) b b″ (t .ledger)
-    one-more p hn hd hs =
-        let q = snoc r (b .column) cs c in
-        let k = q .size in
-        record {
-          ledger = g .ledger ∙ rw (w .ledger, w .column) (sym (q .ledger));
-          column = g .column ∙ rw (w .ledger, w .column) (sym (q .column));
-          numbers = grown (λ a. a .number) (b .numbers) (b′ .numbers) (b″ .numbers) hn (w .numbers) (p .number);
-          details = grown (λ a. a .detail) (b .details) (b′ .details) (b″ .details) hd (w .details) (p .detail);
-          granted = grown (λ a. a .serial) (b .granted) (b′ .granted) (b″ .granted) hs (w .granted) (p .serial);
-          compositions = p .composition ∙ rw (w .compositions, ← k, trace-grown) (cells-more (b .compositions) before last (w .full) (p .cells));
-          full = rw trace-grown (full-snoc before last (w .full) (p .cells));
-        }
-
--- after the first i calls
-pub record Progress (r : Ledger) (cs : List Call) (b b′ : Buffers) (l : Ledger) (i : ℕ) : Type 0 where
-  pub at-most : i ≤ length cs
-  pub so-far : Ran r (take i cs) b b′ l
-  pub for-column : length (b′ .column) ≡ length (b .column)
-  pub for-numbers : length (b′ .numbers) ≡ length (b .numbers)
-  pub for-details : length (b′ .details) ≡ length (b .details)
-  pub for-granted : length (b′ .granted) ≡ length (b .granted)
-  pub for-compositions : length (b′ .compositions) ≡ length (b .compositions)
-
-pub start : (r : Ledger) (cs : List Call) (b : Buffers) → Progress r cs b b r 0
+behind-next : (t : List Event) (l : Ledger) (col : Lent) (c : Call) (cs : List Call)
+    → behind t (run l col (c ∷ cs))
+    ≡ behind (t ++ (event c (answered l col c) ∷ [])) (run (recordAfter l col c) (columnAfter l col c) cs)
 unfolding run
-start r cs b =
+behind-next t l col c cs =
+    let w = run (recordAfter l col c) (columnAfter l col c) cs in
+    let e = sym (snoc-append t (event c (answered l col c)) (w .trace)) in
+    λ i. record { trace = e i; ledger = w .ledger; column = w .column }
+
+run-calls : (r : Ledger) (col : Lent) (cs : List Call) → map (λ x. x .call) (run r col cs .trace) ≡ cs
+unfolding run
+run-calls r col [] = refl
+run-calls r col (c ∷ cs) = ap {B = List Call} (λ l. c ∷ l) (run-calls (recordAfter r col c) (columnAfter r col c) cs)
+
+-- i calls are made, and so many orders of the pool used up: the run is that of the calls so far and of those to come
+pub record Progress (r : Ledger) (x : Script) (b b′ : Buffers) (l : Ledger) (used i : ℕ) : Type 0 where
+  pub trace : List Event
+  pub so-far : run r (b .column) (callsOf x)
+      ≡ behind trace (run l (b′ .column) (callsIn (drop (i * callWidth) (x .rows)) (drop used (x .orders))))
+  pub rows : b′ .answers ≡ replaced (b .answers) (rowsOf trace)
+  pub full : Full trace
+  pub count : length trace ≡ i
+  pub few : used ≤ i
+  pub for-column : length (b′ .column) ≡ length (b .column)
+  pub for-answers : length (b′ .answers) ≡ length (b .answers)
+
+pub start : (r : Ledger) (x : Script) (b : Buffers) → Progress r x b b r 0 0
+start r x b =
     record {
-      at-most = omega arith;
-      so-far = record { ledger = refl; column = refl; numbers = refl; details = refl; granted = refl; compositions = refl; full = tt };
+      trace = [];
+      so-far = refl;
+      rows = refl;
+      full = tt;
+      count = refl;
+      few = omega arith;
       for-column = refl;
-      for-numbers = refl;
-      for-details = refl;
-      for-granted = refl;
-      for-compositions = refl;
+      for-answers = refl;
     }
 
-pub onward : (r : Ledger) (x : Script) (b b′ b″ : Buffers) (l : Ledger) (i : ℕ) (t : Claimed)
-    → Fit x b
-    → i < length (x .calls)
-    → Progress r (callsOf x) b b′ l i
-    → Did l (b′ .column) (getD (callsOf x) i peek) t (b″ .column)
-    → length (b″ .column) ≡ length (b′ .column)
-    → PutIn (t .answer) i b′ b″
-    → Progress r (callsOf x) b b″ (t .ledger) (i + 1)
-onward r x b b′ b″ l i t fit h w g k p =
+-- a call more, of which the code did a step and put the answer into its row
+module _ (r : Ledger) (x : Script) (b b′ b″ : Buffers) (l : Ledger) (used i : ℕ) (t : Claimed) (o used′ : ℕ) (row : List ℕ) where
+  abbrev which : ℕ
+  which = getD (x .rows) (i * callWidth) 0
+
+  abbrev made : Call
+  made = callOf which (getD (x .rows) (i * callWidth + 1) 0) o
+
+  -- how long the part for the row is, as the code has it
+  abbrev long : ℕ
+  long = i * rowWidth + rowWidth - i * rowWidth
+
+  pub onward :
+      Fit x b
+      → Progress r x b b′ l used i
+      → i < length (x .rows) / callWidth
+      → o ≡ getD (x .orders) used 0
+      → used′ ≡ used + uses which
+      → _≡_ {A = Claimed × Lent} (t, b″ .column) (calling l (b′ .column) made)
+      → row ≡ rowOf (t .answer)
+      → length row ≡ length (take long (drop (i * rowWidth) (b′ .answers)))
+      → b″ .answers ≡ take (i * rowWidth) (b′ .answers) ++ (row ++ drop long (drop (i * rowWidth) (b′ .answers)))
+      → length (b″ .column) ≡ length (b′ .column)
+      → Progress r x b b″ (t .ledger) used′ (i + 1)
+  unfolding calling
+  onward f w h of up g is wide put kept =
+      let col = b′ .column in
+      let cs = callsIn (drop ((i + 1) * callWidth) (x .rows)) (drop used′ (x .orders)) in
+      let ahead : callsIn (drop (i * callWidth) (x .rows)) (drop used (x .orders)) ≡ made ∷ cs =
+      rw (of, up) (calls-next (x .rows) (x .orders) i used (omega arith)) in
+      let answer : t .answer ≡ answered l col made = ap (λ (p : Claimed × Lent). p .0 .answer) g in
+      let ledger : t .ledger ≡ recordAfter l col made = ap (λ (p : Claimed × Lent). p .0 .ledger) g in
+      let column : b″ .column ≡ columnAfter l col made = ap (λ (p : Claimed × Lent). p .1) g in
+      let last = event made (t .answer) in
+      let lent : length (take long (drop (i * rowWidth) (b′ .answers))) ≡ rowWidth =
+      length-take-le long _ (omega (arith, length-drop (i * rowWidth) (b′ .answers), w .for-answers, f .room)) ∙ omega arith in
+      let whole : length (rowOf (t .answer)) ≡ rowWidth = ap length (sym is) ∙ wide ∙ lent in
+      let trace = w .trace ++ (last ∷ []) in
+      let full = full-snoc (w .trace) last (w .full) whole in
+      let count : length trace ≡ i + 1 = length-snoc (w .trace) last ∙ omega arith in
+      let rows : b″ .answers ≡ replaced (b .answers) (rowsOf trace) =
+      put ∙ rw (is, w .rows) (rows-more (b .answers) (w .trace) last (i * rowWidth) (w .full) whole (omega arith)) in
+      record {
+        trace = trace;
+        so-far =
+            w .so-far
+            ∙ ap (λ (y : List Call). behind (w .trace) (run l col y)) ahead
+            ∙ behind-next (w .trace) l col made cs
+            ∙ rw (answer, ledger, column);
+        rows = rows;
+        full = full;
+        count = count;
+        few = omega (arith, uses-few which);
+        for-column = kept ∙ w .for-column;
+        for-answers = ap length rows ∙ length-replaced (b .answers) (rowsOf trace) (omega (arith, rows-length trace full, f .room));
+      }
+
+-- after the last call
+pub finished : (r : Ledger) (x : Script) (b b′ : Buffers) (l : Ledger) (used i : ℕ) → Fit x b → Progress r x b b′ l used i
+    → length (x .rows) / callWidth ≤ i
+    → Ran r (callsOf x) b b′ l
+unfolding run
+finished r x b b′ l used i f w h =
+    let t = w .trace in
     let cs = callsOf x in
-    let c = getD cs i peek in
-    let n = fit .count in
-    let q : length (take i cs) ≡ i = length-take-le i cs (omega arith) in
-    let more : take (i + 1) cs ≡ take i cs ++ (c ∷ []) = rw (add-one i) (take-suc cs i peek (omega arith)) in
-    let p′ : PutIn (t .answer) (length (take i cs)) b′ b″ = rw q p in
+    let over : length (x .rows) ≤ i * callWidth = omega (arith, f .whole) in
+    let none : drop (i * callWidth) (x .rows) ≡ [] = drop-of-length-le (x .rows) over in
+    let all-made : run r (b .column) cs ≡ record { trace = t; ledger = l; column = b′ .column } = w .so-far ∙ rw (none, append-nil t) in
+    let size : length (rowsOf t) ≡ i * rowWidth = rows-length t (w .full) ∙ omega arith in
+    let filled : length (b .answers) ≤ length (rowsOf t) = omega (arith, f .room) in
+    let no-more : drop (length (rowsOf t)) (b .answers) ≡ [] = drop-of-length-le (b .answers) filled in
+    let rows : b′ .answers ≡ rowsOf t = w .rows ∙ rw (no-more, append-nil (rowsOf t)) in
+    let calls : map (λ y. y .call) t ≡ cs = ap (λ (y : Run). map (λ z. z .call) (y .trace)) (sym all-made) ∙ run-calls r (b .column) cs in
+    let seen : shown cs (b′ .answers) ≡ t =
+    rw (rows, ← calls, ← append-nil (rowsOf t)) (read-back t [] (w .full)) in
     record {
-      at-most = omega arith;
-      so-far =
-          rw more
-          (one-more r (take i cs) c b b′ b″ l t (w .so-far) g p′ (omega (arith, fit .for-numbers)) (omega (arith, fit .for-details))
-          (omega (arith, fit .for-granted)));
-      for-column = k ∙ w .for-column;
-      for-numbers = ap length (p .number) ∙ simp length-set (w .for-numbers);
-      for-details = ap length (p .detail) ∙ simp length-set (w .for-details);
-      for-granted = ap length (p .serial) ∙ simp length-set (w .for-granted);
-      for-compositions =
-          ap length (p .composition)
-          ∙ length-paste (b′ .compositions) (i * 24) (t .answer .composition) 24 (omega (arith, w .for-compositions, fit .for-compositions))
-          (omega (arith, p .cells))
-          ∙ w .for-compositions;
+      rows = rows ∙ ap (λ (y : Run). rowsOf (y .trace)) (sym all-made);
+      same-run = ap (λ (y : List Event). record { trace = y; ledger = l; column = b′ .column }) seen ∙ sym all-made;
     }

@@ -2,102 +2,79 @@
 -- statement about the list as a whole (crate `model`, specs/Whole.antt), of what stands in the slices afterwards.
 use mathlib.Core.Path.{_≡_}
 use mathlib.Core.Logic.{_≢_}
-use mathlib.Core.Bool.{Bool, cond, not}
+use mathlib.Core.Bool.{Bool, not}
 use mathlib.Core.List.{List, [], _∷_, _++_}
-use Prim.Native.Nat.{ℕ, _*_}
+use Prim.Native.Nat.{ℕ, _*_, _%_}
 use lib.Dec.{eqb}
-use lib.ListN.{length, getD, take, drop}
+use lib.ListN.{length}
 use Rattle.bounds.specs.Refusal.{Check, check, firstRefusal}
 use Rattle.model.specs.Basics.{all}
-use Rattle.model.specs.Model.{Call, peek, claim, void, Event}
-use Rattle.model.specs.Record.{blankLedger, openingChecks, Run}
+use Rattle.model.specs.Entry.{Lent, room}
+use Rattle.model.specs.Printing.{Printing}
+use Rattle.model.specs.Model.{Call}
+use Rattle.model.specs.Record.{opened, blankLedger, openingChecks, Run, run}
 use Rattle.model.specs.Whole.{ran, secondList, Whole}
 use Rattle.model.specs.declared.Ledger.{Ledger}
 use Rattle.model.specs.declared.Opened.{Opened}
+use Rattle.replay.specs.Rows.{callWidth, callsIn, rowWidth, rowsOf, shown}
 
--- ---- the slices
+-- ---- what is lent
 
--- the calls, written down in three lists
+-- the rows of the calls, and the pool of orders
 pub record Script : Type 0 where
-  pub calls : List ℕ
-  pub serials : List ℕ
+  pub rows : List ℕ
   pub orders : List ℕ
 
-abbrev pub script : (calls serials orders : List ℕ) → Script
-script calls serials orders = record { calls = calls; serials = serials; orders = orders }
-
--- the column, and the buffers for the answers: numbers, details, the serials granted, and compositions, 24 cells each
-pub record Buffers : Type 0 where
-  pub column : List ℕ
-  pub numbers : List ℕ
-  pub details : List ℕ
-  pub granted : List ℕ
-  pub compositions : List ℕ
-
-abbrev pub buffers : (column numbers details granted compositions : List ℕ) → Buffers
-buffers column numbers details granted compositions =
-    record { column = column; numbers = numbers; details = details; granted = granted; compositions = compositions }
-
--- a call as three numbers: 0 is a peek, 1 a claim, any other a void
-abbrev pub callOf : ℕ → ℕ → ℕ → Call
-callOf k s o = cond (eqb k 0) peek (cond (eqb k 1) (claim s o) (void s))
-
-abbrev pub callsIn : List ℕ → List ℕ → List ℕ → List Call
-callsIn [] ss os = []
-callsIn (k ∷ ks) [] os = []
-callsIn (k ∷ ks) (s ∷ ss) [] = []
-callsIn (k ∷ ks) (s ∷ ss) (o ∷ os) = callOf k s o ∷ callsIn ks ss os
+abbrev pub scripted : (rows orders : List ℕ) → Script
+scripted rows orders = record { rows = rows; orders = orders }
 
 abbrev pub callsOf : Script → List Call
-callsOf x = callsIn (x .calls) (x .serials) (x .orders)
+callsOf x = callsIn (x .rows) (x .orders)
 
--- the answers that the buffers hold for the calls of a list, in turn
-abbrev pub shown : List Call → (n d s m : List ℕ) → List Event
-shown [] n d s m = []
-shown (c ∷ cs) n d s m =
-    let t = shown cs (drop 1 n) (drop 1 d) (drop 1 s) (drop 24 m) in
-    record { call = c; reply = record { number = getD n 0 0; detail = getD d 0 0; serial = getD s 0 0; composition = take 24 m } } ∷ t
+-- the column, and the rows of the answers
+pub record Buffers : Type 0 where
+  pub column : Lent
+  pub answers : List ℕ
 
--- a run as the record, the column and the buffers show it
+abbrev pub buffers : (column : Lent) (answers : List ℕ) → Buffers
+buffers column answers = record { column = column; answers = answers }
+
+-- a run as the record, the column and the rows show it
 abbrev pub seen : List Call → Ledger → Buffers → Run
-seen cs l b = record { trace = shown cs (b .numbers) (b .details) (b .granted) (b .compositions); ledger = l; column = b .column }
+seen cs l b = record { trace = shown cs (b .answers); ledger = l; column = b .column }
 
 -- ---- refusals: those of the opening, then the place 'lent part'
 
--- slices of these lengths have one entry for each of k calls; the last has 24
-abbrev pub sizesOf : (k serials orders numbers details granted compositions : ℕ) → List Bool
-sizesOf k serials orders numbers details granted compositions =
-    eqb serials k
-    ∷ eqb orders k
-    ∷ eqb numbers k
-    ∷ eqb details k
-    ∷ eqb granted k
-    ∷ eqb compositions (k * 24)
-    ∷ []
+-- a script of so many numbers has whole rows, and a buffer of so many a row for each call
+abbrev pub sizesOf : (rows calls answers : ℕ) → List Bool
+sizesOf rows calls answers = eqb (rows % callWidth) 0 ∷ eqb answers (calls * rowWidth) ∷ []
 
 abbrev pub sizes : Script → Buffers → List Bool
-sizes x b =
-    sizesOf (length (x .calls)) (length (x .serials)) (length (x .orders)) (length (b .numbers)) (length (b .details)) (length (b .granted))
-    (length (b .compositions))
+sizes x b = sizesOf (length (x .rows)) (length (callsOf x)) (length (b .answers))
 
 abbrev pub sizeChecks : Script → Buffers → List Check
 sizeChecks x b = check 13 (not (all (sizes x b))) 0 ∷ []
 
-abbrev pub replayChecks : List ℕ → ℕ → Script → Buffers → List Check
-replayChecks ms r x b = openingChecks ms r (length (b .column)) ++ sizeChecks x b
+abbrev pub replayChecks : Printing → Script → Buffers → List Check
+replayChecks p x b = openingChecks p (room (b .column)) ++ sizeChecks x b
 
 -- ---- the promise: with b lent, o is answered and b′ left
 
--- What is seen is the run of the list, with all that is said of the list as a whole. The buffers have exactly the entries of the answers, so the run
--- says all that stands in them; what the column holds besides the entries is in `Whole .column`.
-pub record Replayed (ms : List ℕ) (r : ℕ) (cs : List Call) (b b′ : Buffers) (l : Ledger) : Type 0 where
-  pub run : seen cs l b′ ≡ ran ms r (b .column) cs
-  pub whole : Whole ms r (b .column) cs (seen cs l b′) (ran ms r (b .column) (secondList (seen cs l b′)))
+-- The calls cs from the record r: the answers' rows and nothing else stand in the buffer, and what is seen is the run.
+pub record Ran (r : Ledger) (cs : List Call) (b b′ : Buffers) (l : Ledger) : Type 0 where
+  pub rows : b′ .answers ≡ rowsOf (run r (b .column) cs .trace)
+  pub same-run : seen cs l b′ ≡ run r (b .column) cs
+
+-- They are run from the opened record, with all that is said of the list as a whole, of what is seen. What the column holds besides the entries is
+-- in `Whole .column`.
+pub record Replayed (p : Printing) (cs : List Call) (b b′ : Buffers) (l : Ledger) : Type 0 where
+  pub done : Ran (opened p) cs b b′ l
+  pub whole : Whole p (b .column) cs (seen cs l b′) (ran p (b .column) (secondList (seen cs l b′)))
 
 -- "A refusal answers its number and a detail [..] and changes no lent byte"; "a refused opening, a record all zeros", also where the lengths do
 -- not fit
-pub record Replays (ms : List ℕ) (r : ℕ) (x : Script) (b b′ : Buffers) (o : Opened) : Type 0 where
-  pub number : o .number ≡ firstRefusal (replayChecks ms r x b) .number
-  pub detail : o .detail ≡ firstRefusal (replayChecks ms r x b) .detail
+pub record Replays (p : Printing) (x : Script) (b b′ : Buffers) (o : Opened) : Type 0 where
+  pub number : o .number ≡ firstRefusal (replayChecks p x b) .number
+  pub detail : o .detail ≡ firstRefusal (replayChecks p x b) .detail
   pub refused : o .number ≢ 0 → (o .ledger ≡ blankLedger) × (b′ ≡ b)
-  pub accepted : o .number ≡ 0 → Replayed ms r (callsOf x) b b′ (o .ledger)
+  pub accepted : o .number ≡ 0 → Replayed p (callsOf x) b b′ (o .ledger)

@@ -6,15 +6,22 @@ use model::Ledger;
 use model::Opened;
 ghost use mathlib.Core.Path.{_≡_};
 ghost use mathlib.Core.Bool.{true};
-ghost use Prim.Native.Nat.{_+_, _*_, _≤_, _<_};
-ghost use lib.ListN.{length};
+ghost use Prim.Native.Nat.{_/_};
+ghost use lib.ListN.{length, getD};
+ghost use Rattle.bounds.specs.Places.{copied};
 ghost use Rattle.model.specs.Basics.{all};
 ghost use Rattle.model.specs.Record.{calling};
-ghost use Rattle.replay.specs.Replay.{script, buffers, callOf, callsOf, sizesOf, sizes, Replays};
-ghost use Rattle.replay.specs.Progress.{Put, Ran};
+ghost use Rattle.replay.specs.Rows.{callWidth, callOf, uses, rowWidth, rowOf};
+ghost use Rattle.replay.specs.Replay.{scripted, buffers, callsOf, sizesOf, sizes, Ran, Replays};
+
+// The columns of a call in the script: which call, serial.
+const CALL: usize = 2;
+
+// The columns of an answer: number, detail, serial, and the 24 cells of the composition.
+const ROW: usize = 27;
 
 // One call: 0 is a peek, 1 a claim, any other a void.
-fn call(ledger: Ledger, column: &mut [u32], which: u8, serial: u64, order: u32) -> Claimed
+fn call(ledger: Ledger, column: &mut [u32], which: u64, serial: u64, order: u32) -> Claimed
     ensures { λ r. ⌜ (r, now (column .exit)) ≡ calling ledger (now (column .entry)) (callOf which serial order) ⌝ }
 {
     if which == 0 {
@@ -27,143 +34,115 @@ fn call(ledger: Ledger, column: &mut [u32], which: u8, serial: u64, order: u32) 
     ledger::void(ledger, column, serial)
 }
 
-// An answer, written at place i of the buffers.
-fn put(
-    answer: Answer,
-    i: usize,
-    numbers: &mut [u32],
-    details: &mut [u64],
-    granted: &mut [u64],
-    compositions: &mut [u8],
-)
-    requires { ⌜ (i < length (now numbers)) × (i < length (now details)) × (i < length (now granted)) × (i * 24 + 24 ≤ length (now compositions)) ⌝ }
-    ensures { λ _.
-        ⌜ Put answer i (now (numbers .entry)) (now (numbers .exit)) (now (details .entry)) (now (details .exit)) (now (granted .entry))
-        (now (granted .exit)) (now (compositions .entry)) (now (compositions .exit)) ⌝ }
+// How many orders of the pool a call uses up.
+fn uses(kind: u64) -> usize
+    ensures { λ r. ⌜ r ≡ uses kind ⌝ }
 {
-    numbers[i] = answer.number;
-    details[i] = answer.detail;
-    granted[i] = answer.serial;
+    if kind == 1 { 1 } else { 0 }
+}
+
+// The order at a place of the pool; 0 past its end.
+fn order_at(orders: &[u32], at: usize) -> u32
+    ensures { λ r. ⌜ r ≡ getD (now (orders .entry)) at 0 ⌝ }
+{
+    if orders.len() <= at {
+        return 0;
+    }
+    orders[at]
+}
+
+// Copies the beginning of `cells` over the beginning of `out`, as many numbers as both have.
+fn widen(cells: &[u8], out: &mut [u64])
+    ensures { λ _. ⌜ now (out .exit) ≡ copied (now (cells .entry)) (now (out .entry)) ⌝ }
+{
+    let n = walsh::lesser(cells.len(), out.len());
+    let mut i = 0;
+    while i < n {
+        out[i] = walsh::wide(cells[i]) as u64;
+        i += 1;
+    }
+}
+
+// The row of an answer.
+fn put(answer: Answer, row: &mut [u64])
+    requires { ⌜ length (now row) ≡ rowWidth ⌝ }
+    ensures { λ _. ⌜ now (row .exit) ≡ rowOf answer ⌝ }
+{
+    row[0] = answer.number as u64;
+    row[1] = answer.detail;
+    row[2] = answer.serial;
     let cells = answer.composition;
-    let at = i * 24;
-    let end = at + 24;
-    bounds::copy(&cells, &mut compositions[at..end]);
+    widen(&cells, &mut row[3..]);
 }
 
 // The calls in turn, each on the record and the column as the one before it left them.
 fn run(
     ledger: Ledger,
-    calls: &[u8],
-    serials: &[u64],
+    script: &[u64],
     orders: &[u32],
     column: &mut [u32],
-    numbers: &mut [u32],
-    details: &mut [u64],
-    granted: &mut [u64],
-    compositions: &mut [u8],
+    answers: &mut [u64],
 ) -> Ledger
-    requires { ⌜ all (sizes (script (now calls) (now serials) (now orders))
-        (buffers (now column) (now numbers) (now details) (now granted) (now compositions))) ≡ true ⌝ }
+    requires { ⌜ all (sizes (scripted (now script) (now orders)) (buffers (now column) (now answers))) ≡ true ⌝ }
     ensures { λ l.
-        ⌜ Ran ledger
-        (callsOf (script (now (calls .entry)) (now (serials .entry)) (now (orders .entry))))
-        (buffers (now (column .entry)) (now (numbers .entry)) (now (details .entry)) (now (granted .entry)) (now (compositions .entry)))
-        (buffers (now (column .exit)) (now (numbers .exit)) (now (details .exit)) (now (granted .exit)) (now (compositions .exit)))
-        l ⌝ }
+        ⌜ Ran ledger (callsOf (scripted (now (script .entry)) (now (orders .entry))))
+        (buffers (now (column .entry)) (now (answers .entry))) (buffers (now (column .exit)) (now (answers .exit))) l ⌝ }
 {
     let mut l = ledger;
+    let mut next: usize = 0;
     let mut i: usize = 0;
-    while i < calls.len() {
-        let done = call(l, column, calls[i], serials[i], orders[i]);
+    while i < script.len() / CALL {
+        let from = i * CALL;
+        let which = script[from];
+        let order = order_at(orders, next);
+        let done = call(l, column, which, script[from + 1], order);
         let answer = done.answer;
-        put(answer, i, numbers, details, granted, compositions);
+        let at = i * ROW;
+        let end = at + ROW;
+        put(answer, &mut answers[at..end]);
         l = done.ledger;
+        next += uses(which);
         i += 1;
     }
     l
 }
 
-// Whether slices of these lengths have one entry for each call; the last has 24.
-fn fits(
-    calls: usize,
-    serials: usize,
-    orders: usize,
-    numbers: usize,
-    details: usize,
-    granted: usize,
-    compositions: usize,
-) -> bool
-    ensures { λ r. ⌜ r ≡ all (sizesOf calls serials orders numbers details granted compositions) ⌝ }
+// Whether a script of so many numbers has whole rows, and a buffer of so many a row for each call.
+fn fits(rows: usize, answers: usize) -> bool
+    ensures { λ r. ⌜ r ≡ all (sizesOf rows (rows / callWidth) answers) ⌝ }
 {
-    if serials != calls {
+    if rows % CALL != 0 {
         return false;
     }
-    if orders != calls {
+    if answers % ROW != 0 {
         return false;
     }
-    if numbers != calls {
-        return false;
-    }
-    if details != calls {
-        return false;
-    }
-    if granted != calls {
-        return false;
-    }
-    if compositions % 24 != 0 {
-        return false;
-    }
-    compositions / 24 == calls
+    answers / ROW == rows / CALL
 }
 
-// A list of calls on a newly opened ledger over `column`: which call, its serial and its order. The answers go into the lent buffers, which have
-// one entry for each call; the last buffer has 24. A refusal writes nothing.
+// A list of calls on a newly opened ledger over `column`. The script has a row of two numbers for each call, and each claim is for the next order of
+// the pool `orders`, for order 0 where that is used up. The answers go into the lent buffer, a row of 27 numbers each. A refusal writes nothing.
 pub fn replay(
     upper: &[u8],
     total: u32,
-    calls: &[u8],
-    serials: &[u64],
+    script: &[u64],
     orders: &[u32],
     column: &mut [u32],
-    numbers: &mut [u32],
-    details: &mut [u64],
-    granted: &mut [u64],
-    compositions: &mut [u8],
+    answers: &mut [u64],
 ) -> Opened
     ensures { λ r.
-        ⌜ Replays (now (upper .entry)) total
-        (script (now (calls .entry)) (now (serials .entry)) (now (orders .entry)))
-        (buffers (now (column .entry)) (now (numbers .entry)) (now (details .entry)) (now (granted .entry)) (now (compositions .entry)))
-        (buffers (now (column .exit)) (now (numbers .exit)) (now (details .exit)) (now (granted .exit)) (now (compositions .exit)))
-        r ⌝ }
+        ⌜ Replays (record { bounds = now (upper .entry); total = total }) (scripted (now (script .entry)) (now (orders .entry)))
+        (buffers (now (column .entry)) (now (answers .entry))) (buffers (now (column .exit)) (now (answers .exit))) r ⌝ }
 {
     let opened = ledger::open(upper, total, column);
     if opened.number != 0 {
         return opened;
     }
-    if !fits(
-        calls.len(),
-        serials.len(),
-        orders.len(),
-        numbers.len(),
-        details.len(),
-        granted.len(),
-        compositions.len(),
-    ) {
+    if !fits(script.len(), answers.len()) {
         return ledger::unopened(13, 0);
     }
     let first = opened.ledger;
-    let last = run(
-        first,
-        calls,
-        serials,
-        orders,
-        column,
-        numbers,
-        details,
-        granted,
-        compositions,
-    );
+    let last = run(first, script, orders, column, answers);
     Opened {
         number: 0,
         detail: 0,

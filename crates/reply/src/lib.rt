@@ -4,12 +4,11 @@ use model::Answer;
 use model::Ledger;
 ghost use mathlib.Core.Path.{_≡_};
 ghost use mathlib.Core.Bool.{true};
-ghost use Prim.Native.Nat.{_+_, _≤_, _<_};
-ghost use lib.ListN.{length, take};
+ghost use Prim.Native.Nat.{_+_, _<_};
 ghost use Rattle.bounds.specs.Places.{mostEntries};
-ghost use Rattle.model.specs.Basics.{indexOf};
-ghost use Rattle.model.specs.Model.{Call, blank, answer};
-ghost use Rattle.model.specs.Record.{compositionsOf, written, consistent, answered};
+ghost use Rattle.model.specs.Printing.{blank, size};
+ghost use Rattle.model.specs.Model.{Call, answer};
+ghost use Rattle.model.specs.Record.{printingOf, written, consistent, answered};
 
 fn refused(number: u32, detail: u64) -> Answer
     ensures { λ r. ⌜ r ≡ record { number = number; detail = detail; serial = 0; composition = blank } ⌝ }
@@ -40,7 +39,7 @@ fn accepted(ledger: Ledger) -> Answer
 pub fn peek(ledger: Ledger, orders: &[u32]) -> Answer
     ensures { λ r. ⌜ r ≡ answered ledger (now (orders .entry)) Call.peek ⌝ }
 {
-    let seen = integrity::examine(ledger, orders, 0);
+    let seen = integrity::examine(ledger, orders);
     if !seen.fits {
         return refused(16, 0);
     }
@@ -59,8 +58,8 @@ fn wide(x: u32) -> u64
 
 // The checks of a serial, 6, 18 and 19, which are those of a void.
 fn place(ledger: Ledger, orders: &[u32], count: u64, serial: u64) -> Answer
-    requires { ⌜ (consistent ledger (now orders) ≡ true) × (count ≡ length (compositionsOf (ledger .bounds))) ⌝ }
-    ensures { λ r. ⌜ r ≡ answer (compositionsOf (ledger .bounds)) (written ledger (now (orders .entry))) (Call.void serial) ⌝ }
+    requires { ⌜ (consistent ledger (now orders) ≡ true) × (count ≡ size (printingOf ledger)) ⌝ }
+    ensures { λ r. ⌜ r ≡ answer (printingOf ledger) (written ledger (now (orders .entry))) (Call.void serial) ⌝ }
 {
     if serial == 0 {
         return refused(6, 0);
@@ -79,40 +78,23 @@ fn place(ledger: Ledger, orders: &[u32], count: u64, serial: u64) -> Answer
     accepted(ledger)
 }
 
-// The lowest place among the first n entries at which the order stands; n where it does not.
-fn find(orders: &[u32], n: usize, order: u32) -> usize
-    requires { ⌜ n ≤ length (now orders) ⌝ }
-    ensures { λ r. ⌜ r ≡ indexOf order (take n (now (orders .entry))) ⌝ }
-{
-    let mut at = n;
-    let mut i: usize = 0;
-    while i < at {
-        if orders[i] == order {
-            at = i;
-        }
-        i += 1;
-    }
-    at
-}
-
 // document 01: take. The places in their order: 16, 17, those of the serial, 20.
 pub fn claim(ledger: Ledger, orders: &[u32], serial: u64, order: u32) -> Answer
     ensures { λ r. ⌜ r ≡ answered ledger (now (orders .entry)) (Call.claim serial order) ⌝ }
 {
-    let seen = integrity::examine(ledger, orders, order);
-    if !seen.fits {
+    let found = integrity::examine_for(ledger, orders, order);
+    if !found.fits {
         return refused(16, 0);
     }
     if order == 0 {
         return refused(17, 0);
     }
-    let placed = place(ledger, orders, seen.count, serial);
+    let placed = place(ledger, orders, found.count, serial);
     if placed.number != 0 {
         return placed;
     }
-    if 0 < seen.hits {
-        let at = find(orders, ledger.entries as usize, order);
-        return refused(20, at as u64 + 1);
+    if found.place < ledger.entries {
+        return refused(20, found.place + 1);
     }
     placed
 }
@@ -121,7 +103,7 @@ pub fn claim(ledger: Ledger, orders: &[u32], serial: u64, order: u32) -> Answer
 pub fn void(ledger: Ledger, orders: &[u32], serial: u64) -> Answer
     ensures { λ r. ⌜ r ≡ answered ledger (now (orders .entry)) (Call.void serial) ⌝ }
 {
-    let seen = integrity::examine(ledger, orders, 0);
+    let seen = integrity::examine(ledger, orders);
     if !seen.fits {
         return refused(16, 0);
     }

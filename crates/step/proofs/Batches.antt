@@ -4,9 +4,9 @@ use mathlib.Core.Bool.{true, false}
 use mathlib.Core.List.{List, [], _∷_, _++_}
 use Prim.Native.Nat.{ℕ, _+_, _-_, _*_, _≤_, _<_}
 use native.Mathlib.Omega.{arith}
-use lib.Dec.{eqb, ltb}
+use lib.Dec.{ltb}
 use lib.ListN.{length}
-use borrow.Author.Tests.{eqb-true, eqb-false, ltb-false, not-false}
+use borrow.Author.Tests.{eqb-true, ltb-false, not-false}
 use Rattle.walsh.specs.Order.{countOf}
 use Rattle.walsh.proofs.Cases.{on-test}
 use Rattle.bounds.specs.Refusal.{Check, firstRefusal}
@@ -28,8 +28,8 @@ module _ (all s : ℕ) {v : Refusal} (e : v ≡ firstRefusal (noSerial all s ∷
   pub serial-some : v .number ≡ 0 → (isNoSerial all s ≡ false) × (0 < s) × (s ≤ all)
   serial-some z =
       let none = passed (noSerial all s) [] refl (same-number (sym e) ∙ z) .0 in
-      let inside = neither (eqb s 0) (ltb all s) none in
-      let least = eqb-false s 0 (inside .0) in
+      let inside = neither (ltb s 1) (ltb all s) none in
+      let least = ltb-false s 1 (inside .0) in
       (none, omega arith, ltb-false all s (inside .1))
 
 -- what an accepted range of serials, and an accepted lent part of `have` bytes, are
@@ -45,8 +45,8 @@ ranged all n s c have e z =
     let p6 = passed _ _ refl (ap (λ (w : Refusal). w .number) (sym e) ∙ z) in
     let p13 = passed _ _ refl (p6 .2) in
     let far = neither (isNoSerial all s) (ltb (all - s + 1) c) (p6 .0) in
-    let inside = neither (eqb s 0) (ltb all s) (far .0) in
-    let least = eqb-false s 0 (inside .0) in
+    let inside = neither (ltb s 1) (ltb all s) (far .0) in
+    let least = ltb-false s 1 (inside .0) in
     let most = ltb-false all s (inside .1) in
     let last = ltb-false (all - s + 1) c (far .1) in
     record { some = omega arith; within = most; few = omega arith; room = eqb-true have (c * n) (not-false _ (p13 .0)) }

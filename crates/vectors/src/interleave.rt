@@ -1,83 +1,27 @@
 // A list of calls on a newly opened ledger, as several workers make them in turn. The command has the bounds and the total, the column as it is
-// before, which call each is (0 peek, 1 claim, 2 void), the serials, the orders, and the lengths of the four buffers for the answers. It is answered
-// by number and detail, a line for the record after the last call, and a line for each lent part: the column, the numbers, the details, the serials,
-// the cells of the compositions.
+// before, the script, the pool of orders, and the length of the buffer for the answers. It is answered by number and detail, a line for the record
+// after the last call, a line for the column and a line for the rows.
 use crate::read;
 use crate::room;
 use crate::show;
 ghost use Prim.Native.Nat.{_≤_};
 
-// How many entries the buffers have, and where these numbers end.
-struct Sizes {
-    numbers: u64,
-    details: u64,
-    granted: u64,
-    compositions: u64,
-    at: usize,
-}
-
-fn lengths(s: &[u8], from: usize) -> Sizes
-    ensures { λ r. ⌜ from ≤ r .at ⌝ }
-{
-    let numbers = read::number(s, from);
-    let details = read::number(s, numbers.at);
-    let granted = read::number(s, details.at);
-    let compositions = read::number(s, granted.at);
-    Sizes {
-        numbers: numbers.value,
-        details: details.value,
-        granted: granted.value,
-        compositions: compositions.value,
-        at: compositions.at,
-    }
-}
-
-// What a list answers and leaves.
-fn replayed(
-    upper: &[u8],
-    total: u32,
-    column: &mut [u32],
-    calls: &[u8],
-    serials: &[u64],
-    orders: &[u32],
-    size: Sizes,
-) {
-    let mut numbers = room::words();
-    let mut details = room::longs();
-    let mut granted = room::longs();
-    let mut compositions = room::cells();
-    let ns = room::lent_32(&mut numbers, size.numbers);
-    let ds = room::lent_64(&mut details, size.details);
-    let gs = room::lent_64(&mut granted, size.granted);
-    let cs = read::lent(&mut compositions, size.compositions);
-    show::opened(replay::replay(upper, total, calls, serials, orders, column, ns, ds, gs, cs));
-    show::words(column);
-    show::words(ns);
-    show::longs(ds);
-    show::longs(gs);
-    show::cells(cs);
-}
-
-// The calls and the lengths of the buffers, from a place in the commands on; where they end.
-fn with_calls(s: &[u8], from: usize, upper: &[u8], total: u32, column: &mut [u32]) -> usize
+// What the script answers and leaves that is read from a place in the commands on; where what is read ends.
+fn scripted(s: &[u8], from: usize, upper: &[u8], total: u32, column: &mut [u32]) -> usize
     ensures { λ r. ⌜ from ≤ r ⌝ }
 {
-    let mut calls = io::buffer();
-    let mut serials = room::longs();
-    let mut orders = room::words();
-    let k = read::list(s, from, &mut calls);
-    let n = read::longs(s, k.at, &mut serials);
-    let o = read::words(s, n.at, &mut orders);
-    let size = lengths(s, o.at);
-    replayed(
-        upper,
-        total,
-        column,
-        read::part(&calls, k.len),
-        room::part_64(&serials, n.len),
-        room::part_32(&orders, o.len),
-        size,
-    );
+    let mut space = room::longs();
+    let mut pool = room::words();
+    let mut answers = room::longs();
+    let k = read::longs(s, from, &mut space);
+    let o = read::words(s, k.at, &mut pool);
+    let size = read::number(s, o.at);
+    let script = room::part_64(&space, k.len);
+    let orders = room::part_32(&pool, o.len);
+    let rows = room::lent_64(&mut answers, size.value);
+    show::opened(replay::replay(upper, total, script, orders, column, rows));
+    show::words(column);
+    show::longs(rows);
     size.at
 }
 
@@ -88,7 +32,7 @@ pub(crate) fn list(s: &[u8], from: usize) -> usize
     let mut column = room::words();
     let e = read::bounded_by(s, from, &mut upper);
     let c = read::words(s, e.at, &mut column);
-    with_calls(
+    scripted(
         s,
         c.at,
         read::part(&upper, e.parts),

@@ -11,16 +11,11 @@ pub(crate) fn words() -> [u32; 2048]
     [FILL; 2048]
 }
 
-pub(crate) fn longs() -> [u64; 2048]
-    ensures { λ r. ⌜ 2048 ≡ length r ⌝ }
+// For 2,048 rows of answers, and for a script.
+pub(crate) fn longs() -> [u64; 55296]
+    ensures { λ r. ⌜ 55296 ≡ length r ⌝ }
 {
-    [7; 2048]
-}
-
-pub(crate) fn cells() -> [u8; 49152]
-    ensures { λ r. ⌜ 49152 ≡ length r ⌝ }
-{
-    [7; 49152]
+    [7; 55296]
 }
 
 // The first n entries, or all.

@@ -54,12 +54,6 @@ pub(crate) fn stepped(answer: step::Stepped) {
 
 // ---- lines of a list: its length, and each entry
 
-pub(crate) fn cells(list: &[u8]) {
-    first(list.len() as u64);
-    bytes(list);
-    end();
-}
-
 pub(crate) fn words(list: &[u32]) {
     first(list.len() as u64);
     let mut i = 0;

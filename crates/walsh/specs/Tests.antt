@@ -16,7 +16,7 @@ every f zero = true
 every f (suc n) = both (f n) (every f n)
 
 -- how many entries of a list pass a test
-abbrev pub howMany : (ℕ → Bool) → List ℕ → ℕ
+abbrev pub howMany : {A : Type 0} → (A → Bool) → List A → ℕ
 howMany test [] = 0
 howMany test (x ∷ l) = cond (test x) 1 0 + howMany test l
 

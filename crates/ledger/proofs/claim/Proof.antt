@@ -1,13 +1,12 @@
 -- `ledger::claim` meets its contract.
-use mathlib.Core.Path.{_≡_, refl, ap, _∙_}
-use Prim.Native.Nat.{ℕ, _-_}
+use mathlib.Core.Path.{sym, _∙_}
 use native.Mathlib.Omega.{arith}
-use lib.ListN.{set}
 use denote.Ref.{now}
 use borrow.Author.Needs.{needs}
 use Rattle.model.specs.Model.{Call}
 use Rattle.model.proofs.Records.{parts, calling-refused, calling-accepted}
-use Rattle.model.proofs.Replies.{Writing, writing}
+use Rattle.model.proofs.Replies.{Writing, writing, entered-next}
+use Rattle.ledger.proofs.Counts.{counts-claim}
 use Rattle.ledger.proofs.claim.Statement.{statement}
 use Rattle.ledger.proofs.claim.Tie as tie
 
@@ -17,15 +16,17 @@ returns c = calling-refused _ _ _ _ (c .before .before .claim .ensures) (c .if1 
 wrote : (c : tie.Else1)
     → let a = c .before .before .before .before .before .args in
     Writing (a .ledger) (now (a .orders)) (Call.claim (a .serial) (a .order))
-wrote c = writing _ _ _ _ (c .before .before .claim .ensures) (c .if1 .left) refl
+wrote c = writing _ _ _ _ (c .before .before .claim .ensures) (c .if1 .left)
+
+following-requires : tie.Need-following-requires
+following-requires c κs = let w = wrote c in let p = parts _ _ (w .belongs) in (p .few, p .next, omega (arith, w .inside))
 
 returns-2 : tie.Need-returns-2
 returns-2 c =
-    let e = c .before .before .before .before .before in
-    let a = c .before .before .before .before .before .before .before .before .before .before .args in
-    let place : a .serial - 1 ≡ a .ledger .entries = omega (arith, wrote e .serial) in
+    let e = c .before .before .before .before .before .before in
     c .before .before .enter .ensures
-    ∙ calling-accepted _ _ _ _ (e .before .before .claim .ensures) _ _ (e .if1 .left) refl (ap (λ (i : ℕ). set (now (a .orders)) i (a .order)) place)
+    ∙ calling-accepted _ _ _ _ (e .before .before .claim .ensures) _ _ (e .if1 .left)
+    (counts-claim _ _ _ _ _ (e .before .before .claim .ensures) (e .if1 .left) (wrote e)) (sym (entered-next _ _ _ (wrote e)))
 
 pub claim-spec : {M : Type 1} → statement M
 claim-spec =
@@ -34,7 +35,8 @@ claim-spec =
     (λ c κs. search needs)
     (λ c. search needs)
     returns
-    (λ c. omega (arith, parts _ _ (wrote (c .before .before) .belongs) .few-sold))
-    (λ c κs. let w = wrote (c .before .before) in (w .belongs, w .room))
+    following-requires
+    (λ c. omega (arith, parts _ _ (wrote (c .before .before .before) .belongs) .few-sold))
+    (λ c κs. let w = wrote (c .before .before .before) in (w .belongs, omega (arith, w .inside), c .before .before .following .ensures))
     (λ c. search needs)
     returns-2)

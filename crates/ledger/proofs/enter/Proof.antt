@@ -9,19 +9,15 @@ use Rattle.ledger.proofs.enter.Tie as tie
 full : (c : tie.Start) → Consistent (c .args .ledger) (now (c .args .orders))
 full c = parts _ _ (c .pre .0)
 
-following-requires : tie.Need-following-requires
-following-requires c κs = let s = c .before .before in (full s .few, full s .next, s .pre .1)
-
 returns : tie.Need-returns
-returns c = rw (c .before .following .ensures)
+returns c = rw (c .before .before .pre .2)
 
 pub enter-spec : {M : Type 1} → statement M
 enter-spec =
     tie.close
     (tie.spec
-    (λ c. omega (arith, full (c .before) .room, c .before .pre .1, c .before .good .1 .0 .1))
-    (λ c. omega (arith, full (c .before) .room, c .before .pre .1))
-    following-requires
-    (λ c. let s = c .before .before .before .before in omega (arith, full s .small, s .pre .1))
+    (λ c. omega (arith, full c .fits, c .pre .1, c .good .1 .0 .1))
+    (λ c. omega (arith, full c .fits, c .pre .1))
+    (λ c. let s = c .before .before in omega (arith, full s .small, s .pre .1))
     (λ c. search needs)
     returns)

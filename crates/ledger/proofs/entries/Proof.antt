@@ -6,14 +6,15 @@ use borrow.Author.Needs.{needs}
 use borrow.Author.Tests.{not-true, not-false}
 use Rattle.model.specs.Record.{consistent}
 use Rattle.model.proofs.Records.{parts, entries-none, entries-some}
+use Rattle.integrity.proofs.Checks.{seen-fits}
 use Rattle.ledger.proofs.entries.Statement.{statement}
 use Rattle.ledger.proofs.entries.Tie as tie
 
 fits : (c : tie.Else1) → let s = c .before .before .before .before in consistent (s .args .ledger) (now (s .args .orders)) ≡ true
-fits c = sym (c .before .before .examine .ensures .fits) ∙ not-false _ (c .if1 .left)
+fits c = sym (seen-fits _ (c .before .before .examine .ensures)) ∙ not-false _ (c .if1 .left)
 
 returns : tie.Need-returns
-returns c = (entries-none _ _ (sym (c .before .before .before .examine .ensures .fits) ∙ not-true _ (c .before .if1 .taken)), refl)
+returns c = (entries-none _ _ (sym (seen-fits _ (c .before .before .before .examine .ensures)) ∙ not-true _ (c .before .if1 .taken)), refl)
 
 returns-2 : tie.Need-returns-2
 returns-2 c = (entries-some _ _ (fits (c .before)), refl)

@@ -26,7 +26,7 @@ returns c =
     let s = c .before .before .before .before .before .before .before in
     let b = s .args .ledger .bounds in
     let n = length-take-le (b .parts) (b .upper) (few s) in
-    forward _ _ _ _ _ _ _ (sym n) (omega (arith, s .pre .0)) (s .pre .1) (s .pre .2) (c .before .advance .ensures)
+    forward _ _ _ _ _ _ (sym n) (omega (arith, s .pre .0)) (s .pre .1) (s .pre .2) (c .before .advance .ensures)
 
 pub following-spec : {M : Type 1} → statement M
 following-spec =

@@ -1,13 +1,12 @@
 -- `ledger::void` meets its contract.
-use mathlib.Core.Path.{_≡_, refl, ap, _∙_}
-use Prim.Native.Nat.{ℕ, _-_}
+use mathlib.Core.Path.{sym, _∙_}
 use native.Mathlib.Omega.{arith}
-use lib.ListN.{set}
 use denote.Ref.{now}
 use borrow.Author.Needs.{needs}
 use Rattle.model.specs.Model.{Call}
 use Rattle.model.proofs.Records.{parts, calling-refused, calling-accepted}
-use Rattle.model.proofs.Replies.{Writing, writing}
+use Rattle.model.proofs.Replies.{Writing, writing, entered-next}
+use Rattle.ledger.proofs.Counts.{counts-void}
 use Rattle.ledger.proofs.void.Statement.{statement}
 use Rattle.ledger.proofs.void.Tie as tie
 
@@ -17,15 +16,18 @@ returns c = calling-refused _ _ _ _ (c .before .before .void .ensures) (c .if1 .
 wrote : (c : tie.Else1)
     → let a = c .before .before .before .before .before .args in
     Writing (a .ledger) (now (a .orders)) (Call.void (a .serial))
-wrote c = writing _ _ _ _ (c .before .before .void .ensures) (c .if1 .left) refl
+wrote c = writing _ _ _ _ (c .before .before .void .ensures) (c .if1 .left)
+
+following-requires : tie.Need-following-requires
+following-requires c κs = let w = wrote c in let p = parts _ _ (w .belongs) in (p .few, p .next, omega (arith, w .inside))
 
 returns-2 : tie.Need-returns-2
 returns-2 c =
-    let e = c .before .before .before .before .before in
-    let a = c .before .before .before .before .before .before .before .before .before .before .args in
-    let place : a .serial - 1 ≡ a .ledger .entries = omega (arith, wrote e .serial) in
+    let e = c .before .before .before .before .before .before in
+    let a = e .before .before .before .before .before .args in
     c .before .before .enter .ensures
-    ∙ calling-accepted _ _ _ _ (e .before .before .void .ensures) _ _ (e .if1 .left) refl (ap (λ (i : ℕ). set (now (a .orders)) i 0) place)
+    ∙ calling-accepted _ _ _ _ (e .before .before .void .ensures) _ _ (e .if1 .left)
+    (counts-void (a .ledger) (a .serial)) (sym (entered-next _ _ _ (wrote e)))
 
 pub void-spec : {M : Type 1} → statement M
 void-spec =
@@ -34,7 +36,8 @@ void-spec =
     (λ c κs. search needs)
     (λ c. search needs)
     returns
-    (λ c. omega (arith, parts _ _ (wrote (c .before .before) .belongs) .few-voided))
-    (λ c κs. let w = wrote (c .before .before) in (w .belongs, w .room))
+    following-requires
+    (λ c. omega (arith, parts _ _ (wrote (c .before .before .before) .belongs) .few-voided))
+    (λ c κs. let w = wrote (c .before .before .before) in (w .belongs, omega (arith, w .inside), c .before .before .following .ensures))
     (λ c. search needs)
     returns-2)

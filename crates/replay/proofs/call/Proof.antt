@@ -2,7 +2,7 @@
 use denote.Ref.{now}
 use borrow.Author.Needs.{needs}
 use Rattle.model.proofs.Records.{calling-peek}
-use Rattle.replay.proofs.Scripts.{call-peek, call-claim, call-void}
+use Rattle.replay.proofs.Rows.{call-peek, call-claim, call-void}
 use Rattle.replay.proofs.call.Statement.{statement}
 use Rattle.replay.proofs.call.Tie as tie
 

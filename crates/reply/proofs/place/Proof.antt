@@ -5,9 +5,9 @@ use native.Mathlib.Omega.{arith}
 use lib.ListN.{length}
 use denote.Ref.{now}
 use borrow.Author.Needs.{needs}
-use Rattle.model.specs.Model.{refusedWith}
 use Rattle.model.proofs.Records.{Consistent, parts}
-use Rattle.model.proofs.Replies.{serial-zero, serial-over, serial-below, serial-above, serial-next}
+use Rattle.model.specs.Model.{refusedWith}
+use Rattle.model.proofs.Replies.{serial-low, serial-over, serial-below, serial-above, serial-next}
 use Rattle.reply.proofs.place.Statement.{statement}
 use Rattle.reply.proofs.place.Tie as tie
 
@@ -15,7 +15,8 @@ full : (c : tie.Start) → Consistent (c .args .ledger) (now (c .args .orders))
 full c = parts _ _ (c .pre .0)
 
 returns : tie.Need-returns
-returns c = c .refused .ensures ∙ sym (serial-zero _ _ (c .before .before .before .pre .0) _ (c .before .if1 .taken))
+returns c =
+    c .refused .ensures ∙ sym (serial-low _ _ (c .before .before .before .pre .0) _ (omega (arith, c .before .if1 .taken)))
 
 returns-2 : tie.Need-returns-2
 returns-2 c =
@@ -25,7 +26,7 @@ returns-2 c =
 within : (c : tie.Then3) → let s = c .before .before .before .before in s .args .serial ≤ length (now (s .args .orders))
 within c =
     let s = c .before .before .before .before in
-    omega (arith, c .if3 .taken, full s .entries, full s .room)
+    omega (arith, c .if3 .taken, full s .entries, full s .fits)
 
 returns-3 : tie.Need-returns-3
 returns-3 c =
@@ -33,21 +34,23 @@ returns-3 c =
     let t = c .before .before .before in
     c .refused3 .ensures
     ∙ ap (refusedWith 18) (c .before .wide .ensures)
-    ∙ sym (serial-below _ _ (s .pre .0) _ (omega (arith, t .before .before .if1 .left)) (t .if3 .taken))
+    ∙ sym (serial-below _ _ (s .pre .0) _ (omega (arith, t .before .before .if1 .left)) (omega (arith, t .before .if2 .left, s .pre .1))
+    (omega (arith, t .if3 .taken)))
 
 returns-4 : tie.Need-returns-4
 returns-4 c =
     let s = c .before .before .before .before .before .before in
     let inside = c .before .before .before .if2 .left in
-    c .refused4 .ensures ∙ sym (serial-above _ _ (s .pre .0) _ (omega (arith, s .pre .1, inside)) (c .before .if4 .taken))
+    let above = c .before .if4 .taken in
+    c .refused4 .ensures ∙ sym (serial-above _ _ (s .pre .0) _ (omega (arith, above)) (omega (arith, s .pre .1, inside)) above)
 
 returns-5 : tie.Need-returns-5
 returns-5 c =
     let s = c .before .before .before .before .before .before in
     let e = c .before in
     c .accepted .ensures
-    ∙ sym (serial-next _ _ (s .pre .0) _ (omega (arith, s .pre .1, e .before .before .if2 .left))
-    (omega (arith, e .before .if3 .left)) (omega (arith, e .if4 .left)))
+    ∙ sym (serial-next _ _ (s .pre .0) _ (omega (arith, e .before .if3 .left)) (omega (arith, s .pre .1, e .before .before .if2 .left))
+    (omega (arith, e .before .if3 .left, e .if4 .left)))
 
 accepted-requires : tie.Need-accepted-requires
 accepted-requires c κs =

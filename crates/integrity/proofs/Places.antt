@@ -1,0 +1,154 @@
+-- How many entries of a list pass a test, and the first place of one: what the loops of the pass keep.
+use mathlib.Core.Path.{_≡_, refl, sym, ap, _∙_}
+use mathlib.Core.Bool.{Bool, true, false, cond}
+use mathlib.Core.List.{List, [], _∷_, _++_}
+use Prim.Native.Nat.{ℕ, suc, _+_, _-_, _≤_, _<_}
+use native.Mathlib.Numerals.{add-one}
+use native.Mathlib.Omega.{arith}
+use lib.ListN.{length, getD, take, drop, length-take, length-drop}
+use lib.Seq.{length-take-le, take-suc, take-add, split-at, take-all, getD-drop}
+use Rattle.walsh.proofs.Cases.{on-test, on-less}
+use Rattle.model.specs.Basics.{howMany, firstPlace}
+use Rattle.model.proofs.Lists.{many-append}
+
+module _ {A : Type 0} (test : A → Bool) where
+  -- ---- counts
+
+  many-most : (l : List A) → howMany test l ≤ length l
+  many-most [] = omega arith
+  many-most (x ∷ l) = let h = many-most l in on-test (test x) (λ t. rw t (omega arith)) (λ t. rw t (omega arith))
+
+  many-snoc : (l : List A) (x : A) → howMany test (l ++ (x ∷ [])) ≡ howMany test l + cond (test x) 1 0
+  many-snoc l x = many-append test l (x ∷ []) ∙ omega arith
+
+  -- one entry more
+  pub many-more : (l : List A) (i n a : ℕ) (d : A) → i < length l → n ≡ howMany test (take i l)
+      → a ≡ cond (test (getD l i d)) 1 0
+      → n + a ≡ howMany test (take (i + 1) l)
+  many-more l i n a d h e f = rw (add-one i, take-suc l i d h, many-snoc (take i l) (getD l i d), e, f)
+
+  -- one entry more behind the first k
+  pub many-behind : (l : List A) (k i n a : ℕ) (d : A) → k + i < length l → n ≡ howMany test (take i (drop k l))
+      → a ≡ cond (test (getD l (k + i) d)) 1 0
+      → n + a ≡ howMany test (take (i + 1) (drop k l))
+  many-behind l k i n a d h e f =
+      many-more (drop k l) i n a d (omega (arith, length-drop k l)) e (f ∙ ap (λ (x : A). cond (test x) 1 0) (sym (getD-drop k l i d)))
+
+  -- the first k and as many behind them
+  pub many-halves : (l : List A) (k i n a : ℕ) → i ≡ k → n ≡ howMany test (take i l) → a ≡ howMany test (take i (drop k l))
+      → n + a ≡ howMany test (take (k + k) l)
+  many-halves l k i n a q e f =
+      let low : n ≡ howMany test (take k l) = e ∙ ap (λ (j : ℕ). howMany test (take j l)) q in
+      let high : a ≡ howMany test (take k (drop k l)) = f ∙ ap (λ (j : ℕ). howMany test (take j (drop k l))) q in
+      rw (take-add k k l, many-append test (take k l) (take k (drop k l)), low, high)
+
+  -- a block more, up to place j
+  pub many-block : (l : List A) (i j n a : ℕ) → i ≤ j → n ≡ howMany test (take i l) → a ≡ howMany test (take (j - i) (drop i l))
+      → n + a ≡ howMany test (take j l)
+  many-block l i j n a h e f =
+      let all : i + (j - i) ≡ j = omega arith in
+      rw (e, f) (sym (many-append test (take i l) (take (j - i) (drop i l))) ∙ ap (howMany test) (sym (take-add i (j - i) l)))
+      ∙ ap (λ (k : ℕ). howMany test (take k l)) all
+
+  pub many-few : (l : List A) (j n : ℕ) → n ≡ howMany test (take j l) → n ≤ j
+  many-few l j n e = omega (arith, e, many-most (take j l), length-take j l)
+
+  -- all are counted
+  pub many-all : (l : List A) (i n : ℕ) → length l ≤ i → n ≡ howMany test (take i l) → n ≡ howMany test l
+  many-all l i n h e = e ∙ ap (howMany test) (take-all i l h)
+
+  -- ---- places
+
+  none-passes : (l : List A) → howMany test l ≡ 0 → firstPlace test l ≡ length l
+  none-passes [] e = refl
+  none-passes (x ∷ l) e =
+      on-test (test x)
+      (λ t. let one : 1 + howMany test l ≡ 0 = rw t at e in absurd (omega arith))
+      (λ t. let rest : 0 + howMany test l ≡ 0 = rw t at e in rw t (ap suc (none-passes l (omega arith))))
+
+  -- none of the first list passes, so the place is in the second
+  behind : (l m : List A) → firstPlace test l ≡ length l → firstPlace test (l ++ m) ≡ length l + firstPlace test m
+  behind [] m e = omega arith
+  behind (x ∷ l) m e =
+      on-test (test x)
+      (λ t. let none : 0 ≡ suc (length l) = rw t at e in absurd (omega arith))
+      (λ t.
+      let rest : suc (firstPlace test l) ≡ suc (length l) = rw t at e in
+      let h = behind l m (omega arith) in
+      rw t (omega arith))
+
+  -- none of the first n passes
+  pub record Clear (l : List A) (n : ℕ) : Type 0 where
+    pub inside : n ≤ length l
+    pub none : firstPlace test (take n l) ≡ n
+
+  pub clear-none : (l : List A) → Clear l 0
+  clear-none l = record { inside = omega arith; none = refl }
+
+  pub clear-same : (l : List A) {k i : ℕ} → k ≡ i → Clear l k → Clear l i
+  clear-same l e c = record { inside = omega (arith, e, c .inside); none = ap (λ (j : ℕ). firstPlace test (take j l)) (sym e) ∙ c .none ∙ e }
+
+  module _ (l : List A) {i : ℕ} (c : Clear l i) where
+    long : length (take i l) ≡ i
+    long = length-take-le i l (c .inside)
+
+    rest : (m : List A) → firstPlace test (take i l ++ m) ≡ i + firstPlace test m
+    rest m = let q = behind (take i l) m (c .none ∙ sym long) in omega (arith, q, long)
+
+    -- nor of a block more, up to place j
+    pub clear-block : (j : ℕ) → i ≤ j → j ≤ length l → howMany test (take (j - i) (drop i l)) ≡ 0 → Clear l j
+    clear-block j h m e =
+        let all : i + (j - i) ≡ j = omega arith in
+        let n = length-take-le (j - i) (drop i l) (omega (arith, length-drop i l)) in
+        let q = rest (take (j - i) (drop i l)) in
+        let z = none-passes (take (j - i) (drop i l)) e in
+        record {
+          inside = m;
+          none = ap (λ (k : ℕ). firstPlace test (take k l)) (sym all) ∙ ap (firstPlace test) (take-add i (j - i) l) ∙ omega (arith, q, z, n);
+        }
+
+    module _ (d : A) (h : i < length l) where
+      pub clear-here : test (getD l i d) ≡ true → firstPlace test l ≡ i
+      clear-here t =
+          let z : firstPlace test (getD l i d ∷ drop (suc i) l) ≡ 0 = rw t in
+          ap (firstPlace test) (split-at l i d h) ∙ omega (arith, rest (getD l i d ∷ drop (suc i) l), z)
+
+      pub clear-more : test (getD l i d) ≡ false → Clear l (i + 1)
+      clear-more f =
+          let z : firstPlace test (getD l i d ∷ []) ≡ 1 = rw f in
+          record {
+            inside = omega arith;
+            none = ap (λ (k : ℕ). firstPlace test (take k l)) (add-one i) ∙ ap (firstPlace test) (take-suc l i d h)
+                ∙ omega (arith, rest (getD l i d ∷ []), z);
+          }
+
+    pub clear-all : length l ≤ i → firstPlace test l ≡ i
+    clear-all h = ap (firstPlace test) (sym (take-all i l h)) ∙ c .none
+
+  -- the search has passed i entries: the first that passes stands at place `at`, or is none of them
+  pub record Seeking (l : List A) (at i : ℕ) : Type 0 where
+    pub within : at ≤ length l
+    pub none : i ≤ at → (at ≡ length l) × Clear l i
+    pub found : at < i → at ≡ firstPlace test l
+
+  module _ (l : List A) {at i : ℕ} (s : Seeking l at i) where
+    pub seeking-hit : (d : A) {at′ : ℕ} → i < at → test (getD l i d) ≡ true → at′ ≡ i → Seeking l at′ (i + 1)
+    seeking-hit d h t q =
+        let w = s .within in
+        let here = clear-here l (s .none (omega arith) .1) d (omega arith) t in
+        record { within = omega arith; none = λ z. absurd (omega arith); found = λ z. q ∙ sym here }
+
+    pub seeking-miss : (d : A) {at′ : ℕ} → i < at → test (getD l i d) ≡ false → at′ ≡ at → Seeking l at′ (i + 1)
+    seeking-miss d h f q =
+        let w = s .within in
+        let p = s .none (omega arith) in
+        record { within = omega arith; none = λ z. (q ∙ p .0, clear-more l (p .1) d (omega arith) f); found = λ z. absurd (omega arith) }
+
+    pub seeking-done : at ≤ i → at ≡ firstPlace test l
+    seeking-done h =
+        on-less at i
+        (λ z t. s .found z)
+        (λ z t.
+        let p = s .none z in
+        let e = clear-all l (p .1) (omega (arith, p .0)) in
+        omega (arith, p .0, e, h, z))

@@ -1,0 +1,143 @@
+-- Laws of the rows: which calls a script has, and an answer read back from its row.
+use mathlib.Core.Path.{_≡_, refl, sym, ap, _∙_}
+use mathlib.Core.Logic.{_≢_}
+use mathlib.Core.List.{List, [], _∷_, _++_, map, append-assoc, append-nil}
+use Prim.Native.Nat.{ℕ, suc, _+_, _-_, _*_, _/_, _≤_}
+use native.Mathlib.Nat.{add-zero}
+use native.Mathlib.Omega.{arith}
+use lib.ListN.{length, getD, take, drop, set, length-append}
+use lib.Seq.{drop-cons, drop-drop, getD-drop, take-length, drop-length, take-at, drop-at}
+use lib.Dec.{eqb}
+use borrow.Author.Tests.{eq-eqb, ne-eqb}
+use Rattle.walsh.proofs.Cases.{on-test}
+use Rattle.bounds.specs.Places.{copied}
+use Rattle.bounds.proofs.Cells.{copied-same}
+use Rattle.model.specs.Basics.{replaced}
+use Rattle.model.specs.Model.{Call, peek, claim, void, Event}
+use Rattle.replay.specs.Rows.{callWidth, callOf, uses, callsIn, rowWidth, rowOf, rowsOf, shown}
+
+-- ---- the script
+
+-- the call of each number
+module _ (k s o : ℕ) where
+  pub call-peek : k ≡ 0 → callOf k s o ≡ Call.peek
+  call-peek p = rw (eq-eqb k 0 p)
+
+  pub call-claim : k ≢ 0 → k ≡ 1 → callOf k s o ≡ Call.claim s o
+  call-claim n p = rw (ne-eqb k 0 n, eq-eqb k 1 p)
+
+  pub call-void : k ≢ 0 → k ≢ 1 → callOf k s o ≡ Call.void s
+  call-void n n′ = rw (ne-eqb k 0 n, ne-eqb k 1 n′)
+
+pub uses-few : (k : ℕ) → uses k ≤ 1
+uses-few k = on-test (eqb k 1) (λ t. rw t (omega arith)) (λ t. rw t (omega arith))
+
+pub calls-count : (rows os : List ℕ) → length (callsIn rows os) ≡ length rows / callWidth
+calls-count [] os = refl
+calls-count (k ∷ []) os = refl
+calls-count (k ∷ s ∷ rows) os = omega (arith, calls-count rows (drop (uses k) os))
+
+-- the call at a place, and those after it
+pub calls-next : (rows os : List ℕ) (i used : ℕ) → i * callWidth + callWidth ≤ length rows
+    → callsIn (drop (i * callWidth) rows) (drop used os)
+    ≡ callOf (getD rows (i * callWidth) 0) (getD rows (i * callWidth + 1) 0) (getD os used 0)
+    ∷ callsIn (drop ((i + 1) * callWidth) rows) (drop (used + uses (getD rows (i * callWidth) 0)) os)
+calls-next rows os i used h =
+    let n = i * callWidth in
+    let k = getD rows n 0 in
+    let second : n + 1 ≡ suc n = omega arith in
+    let third : (i + 1) * callWidth ≡ suc (suc n) = omega arith in
+    rw (
+      second,
+      third,
+      drop-cons rows n 0 (omega arith),
+      drop-cons rows (suc n) 0 (omega arith),
+      getD-drop used os 0 0,
+      drop-drop (uses k) used os,
+      add-zero used,
+    )
+
+-- every list of calls can be lent so, its second list too
+abbrev pub rowsFor : List Call → List ℕ
+rowsFor [] = []
+rowsFor (peek ∷ cs) = 0 ∷ 0 ∷ rowsFor cs
+rowsFor (claim s o ∷ cs) = 1 ∷ s ∷ rowsFor cs
+rowsFor (void s ∷ cs) = 2 ∷ s ∷ rowsFor cs
+
+abbrev pub ordersFor : List Call → List ℕ
+ordersFor [] = []
+ordersFor (peek ∷ cs) = ordersFor cs
+ordersFor (claim s o ∷ cs) = o ∷ ordersFor cs
+ordersFor (void s ∷ cs) = ordersFor cs
+
+pub every-list : (cs : List Call) → callsIn (rowsFor cs) (ordersFor cs) ≡ cs
+every-list [] = refl
+every-list (peek ∷ cs) = ap (λ (l : List Call). Call.peek ∷ l) (every-list cs)
+every-list (claim s o ∷ cs) = ap (λ (l : List Call). Call.claim s o ∷ l) (every-list cs)
+every-list (void s ∷ cs) = ap (λ (l : List Call). Call.void s ∷ l) (every-list cs)
+
+-- ---- the answers
+
+-- each answer of a trace has a row of that width
+abbrev pub Full : List Event → Type 0
+Full [] = Unit
+Full (x ∷ t) = (length (rowOf (x .reply)) ≡ rowWidth) × Full t
+
+pub full-snoc : (t : List Event) (x : Event) → Full t → length (rowOf (x .reply)) ≡ rowWidth → Full (t ++ (x ∷ []))
+full-snoc [] x f h = (h, tt)
+full-snoc (y ∷ t) x f h = (f .0, full-snoc t x (f .1) h)
+
+pub rows-length : (t : List Event) → Full t → length (rowsOf t) ≡ length t * rowWidth
+rows-length [] f = refl
+rows-length (x ∷ t) f = length-append (rowOf (x .reply)) (rowsOf t) ∙ omega (arith, f .0, rows-length t (f .1))
+
+rows-snoc : (t : List Event) (x : Event) → rowsOf (t ++ (x ∷ [])) ≡ rowsOf t ++ rowOf (x .reply)
+rows-snoc [] x = append-nil (rowOf (x .reply))
+rows-snoc (y ∷ t) x =
+    ap (λ (l : List ℕ). rowOf (y .reply) ++ l) (rows-snoc t x) ∙ sym (append-assoc (rowOf (y .reply)) (rowsOf t) (rowOf (x .reply)))
+
+-- a row filled: three numbers, and the cells copied over the rest
+abbrev pub begun : List ℕ → (n e s : ℕ) → List ℕ
+begun d n e s = set (set (set d 0 n) 1 e) 2 s
+
+pub row-filled : (d : List ℕ) (n e s : ℕ) (m part : List ℕ) → length d ≡ rowWidth → length m ≡ 24
+    → part ≡ copied m (take (length (begun d n e s) - 3) (drop 3 (begun d n e s)))
+    → take 3 (begun d n e s) ++ (part ++ drop (length (begun d n e s) - 3) (drop 3 (begun d n e s))) ≡ n ∷ e ∷ s ∷ m
+row-filled [] n e s m part h k p = absurd (omega (arith, h))
+row-filled (x ∷ []) n e s m part h k p = absurd (omega (arith, h))
+row-filled (x ∷ y ∷ []) n e s m part h k p = absurd (omega (arith, h))
+row-filled (x ∷ y ∷ z ∷ d) n e s m part h k p =
+    let size : suc (suc (suc (length d))) - 3 ≡ length d = omega arith in
+    rw (p, size, take-length d, copied-same m d (omega arith), drop-length d, append-nil m)
+
+-- a row behind those of a trace
+pub rows-more : (d : List ℕ) (t : List Event) (x : Event) (at : ℕ) → Full t → length (rowOf (x .reply)) ≡ rowWidth → at ≡ length t * rowWidth
+    → take at (replaced d (rowsOf t)) ++ (rowOf (x .reply) ++ drop (at + rowWidth - at) (drop at (replaced d (rowsOf t))))
+    ≡ replaced d (rowsOf (t ++ (x ∷ [])))
+rows-more d t x at f h e =
+    let l = rowsOf t in
+    let m = rowOf (x .reply) in
+    let size : length l ≡ at = rows-length t f ∙ sym e in
+    let wide : at + rowWidth - at ≡ length m = omega arith in
+    rw (
+      wide,
+      take-at l (drop (length l) d) at size,
+      drop-at l (drop (length l) d) at size,
+      drop-drop (length m) (length l) d,
+      rows-snoc t x,
+      length-append l m,
+      append-assoc l m (drop (length l + length m) d),
+    )
+
+-- rows show the trace
+pub read-back : (t : List Event) (rest : List ℕ) → Full t → shown (map (λ x. x .call) t) (rowsOf t ++ rest) ≡ t
+read-back [] rest f = refl
+read-back (x ∷ t) rest f =
+    let m = x .reply .composition in
+    let size : length m ≡ 24 = omega (arith, f .0) in
+    rw (
+      append-assoc m (rowsOf t) rest,
+      take-at m (rowsOf t ++ rest) 24 size,
+      drop-at m (rowsOf t ++ rest) 24 size,
+      read-back t rest (f .1),
+    )
