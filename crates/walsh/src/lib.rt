@@ -5,6 +5,12 @@ ghost use Prim.Native.Nat.{_-_, _≤_, min};
 ghost use Rattle.walsh.specs.Order.{isOdd};
 ghost use Rattle.walsh.specs.Step.{firstValue, nextValue};
 
+// Document 02, request (i): the kind that gains a unit and the kind that loses one, counted from 1; 0 and 0 where there is no step.
+pub struct Transition {
+    pub gain: u32,
+    pub loss: u32,
+}
+
 pub fn wide(x: u8) -> usize
     ensures { λ r. ⌜ (r ≡ x) × (r ≤ 255) ⌝ }
 {
