@@ -1,7 +1,8 @@
 -- Document 01, "Serial and mix": "Forward and backward step give the mix one serial on or back." Here the forward step over lent bytes, for the
--- calls that go from one composition to the next without checking them anew: what it makes of a composition, and what of any bytes.
+-- calls that go from one composition to the next without checking them anew: what it makes of a composition, and what of any bytes. Document 02,
+-- (i): the pair of a composition, for the calls that have one and need that of its serial.
 use mathlib.Core.Path.{_≡_, refl}
-use mathlib.Core.Bool.{Bool, true, false, cond}
+use mathlib.Core.Bool.{Bool, cond}
 use mathlib.Core.List.{List, [], _∷_}
 use Prim.Native.Nat.{ℕ, zero, suc, _+_, _-_, _≤_}
 use lib.Dec.{eqb, ltb, leb}
@@ -11,12 +12,14 @@ use Rattle.walsh.specs.Sums.{sumTo}
 use Rattle.walsh.specs.Order.{Composition, isOdd, least, most, countOf, threeTwos}
 use Rattle.walsh.specs.Serial.{serialOf, compositionOf}
 use Rattle.walsh.specs.Step.{nextValue, firstOf, stepAt}
+use Rattle.walsh.specs.Transition.{transition, transitionAt}
+use Rattle.walsh.specs.declared.Transition.{Transition}
 
 -- ---- of a composition
 
--- the answer and the bytes: true and the next composition, or false and g itself where it is the last
-unfoldable pub advanceOf : List ℕ → ℕ → List ℕ → Bool × List ℕ
-advanceOf ms r g = cond (eqb (serialOf ms r g) (countOf ms r)) (false, g) (true, compositionOf ms r (serialOf ms r g + 1))
+-- the bytes then: the next composition, or g itself where it is the last
+unfoldable pub advanceOf : List ℕ → ℕ → List ℕ → List ℕ
+advanceOf ms r g = cond (eqb (serialOf ms r g) (countOf ms r)) g (compositionOf ms r (serialOf ms r g + 1))
 
 -- ---- of any bytes g. Sums to the right are counted from w: forward that is the total, backward one more.
 
@@ -44,29 +47,40 @@ restAt w g i = sumTo g (suc i) - nextValue (isOdd (w - sumTo g (suc i))) (getD g
 abbrev pub hasRoom : List ℕ → ℕ → List ℕ → ℕ → Bool
 hasRoom ms w g i = both (ltb i (length ms)) (leb (restAt w g i) (sumTo ms i))
 
--- part i takes its next value, and the parts before it are filled again with their first; false and g itself where that cannot be
-unfoldable pub turnAt : List ℕ → ℕ → List ℕ → ℕ → Bool × List ℕ
-turnAt ms w g i = cond (hasRoom ms w g i) (true, stepAt ms w g i) (false, g)
+-- part i takes its next value, and the parts before it are filled again with their first; g itself where that cannot be
+unfoldable pub turnAt : List ℕ → ℕ → List ℕ → ℕ → List ℕ
+turnAt ms w g i = cond (hasRoom ms w g i) (stepAt ms w g i) g
 
-abbrev pub turnOf : List ℕ → ℕ → List ℕ → Bool × List ℕ
+abbrev pub turnOf : List ℕ → ℕ → List ℕ → List ℕ
 turnOf ms w g = turnAt ms w g (pivotOf ms w g)
 
--- the answer and the bytes: false and g itself for more than 24 bounds or another number of parts; or else the first part that can move does
-unfoldable pub advanceAny : List ℕ → ℕ → List ℕ → Bool × List ℕ
-advanceAny ms r g = cond (both (leb (length ms) 24) (eqb (length g) (length ms))) (turnOf ms r g) (false, g)
+-- there are 1 to 24 bounds and as many parts
+abbrev pub sized : List ℕ → List ℕ → Bool
+sized ms g = both (ltb 0 (length ms)) (both (leb (length ms) 24) (eqb (length g) (length ms)))
 
--- ---- the promise: with g lent, the answer is b and the bytes are then h
+-- the first part that can move does, and g stays as it is where it is not so sized
+unfoldable pub turnAny : List ℕ → ℕ → List ℕ → List ℕ
+turnAny ms w g = cond (sized ms g) (turnOf ms w g) g
 
-pub record Advances (ms : List ℕ) (r : ℕ) (g : List ℕ) (b : Bool) (h : List ℕ) : Type 0 where
-  pub always : _≡_ {A = Bool × List ℕ} (b, h) (advanceAny ms r g)
-  pub next : length ms ≤ 24 → Composition ms r g → _≡_ {A = Bool × List ℕ} (b, h) (advanceOf ms r g)
+-- ---- the promises
+
+-- with g lent, the bytes are then h and the answer is x, the pair from g to h
+pub record Advances (ms : List ℕ) (r : ℕ) (g : List ℕ) (x : Transition) (h : List ℕ) : Type 0 where
+  pub always : h ≡ turnAny ms r g
+  pub next : length ms ≤ 24 → Composition ms r g → h ≡ advanceOf ms r g
+  pub pair : x ≡ transition g h
+
+-- x is the pair that leads to g: of a composition that of its serial, of any bytes that from where the step back leads
+pub record Leads (ms : List ℕ) (r : ℕ) (g : List ℕ) (x : Transition) : Type 0 where
+  pub always : x ≡ transition (turnAny ms (r + 1) g) g
+  pub pair : length ms ≤ 24 → Composition ms r g → x ≡ transitionAt ms r (serialOf ms r g)
 
 -- ---- computed: parts with another sum move, and those whose rest has no room do not
 
-another-sum : advanceAny threeTwos 3 (1 ∷ 1 ∷ 0 ∷ []) ≡ (true, 2 ∷ 0 ∷ 0 ∷ [])
-unfolding advanceAny turnAt movingFrom stepAt firstOf
+another-sum : turnAny threeTwos 3 (1 ∷ 1 ∷ 0 ∷ []) ≡ 2 ∷ 0 ∷ 0 ∷ []
+unfolding turnAny turnAt movingFrom stepAt firstOf
 another-sum = refl
 
-no-room : advanceAny (1 ∷ 1 ∷ []) 3 (3 ∷ 0 ∷ []) ≡ (false, 3 ∷ 0 ∷ [])
-unfolding advanceAny turnAt movingFrom
+no-room : turnAny (1 ∷ 1 ∷ []) 3 (3 ∷ 0 ∷ []) ≡ 3 ∷ 0 ∷ []
+unfolding turnAny turnAt movingFrom
 no-room = refl

@@ -1,10 +1,15 @@
 -- What the functions inside the step promise, of any bytes g. The sums to the right are counted from a total w: r forward, r + 1 backward.
 use mathlib.Core.Path.{_≡_}
 use mathlib.Core.Bool.{Bool, cond}
-use mathlib.Core.List.{List}
-use Prim.Native.Nat.{ℕ, suc, _-_, _*_, _≤_, _<_}
-use lib.ListN.{length}
+use mathlib.Core.List.{List, _∷_, _++_}
+use Prim.Native.Nat.{ℕ, suc, _+_, _-_, _*_, _≤_, _<_}
+use lib.Dec.{eqb}
+use lib.ListN.{length, drop}
+use Rattle.walsh.specs.Tests.{both}
 use Rattle.walsh.specs.Sums.{sumTo}
+use Rattle.walsh.specs.Step.{firstOf}
+use Rattle.walsh.specs.Transition.{gainFrom, transition}
+use Rattle.walsh.specs.declared.Transition.{Transition}
 use Rattle.bounds.specs.Refusal.{refused}
 use Rattle.step.specs.Advance.{movingFrom, pivotOf}
 use Rattle.step.specs.Steps.{steppedBy}
@@ -28,6 +33,33 @@ pub record PivotAt (ms : List ℕ) (w : ℕ) (g : List ℕ) (f : PivotSums) : Ty
   pub sum : f .at < length ms → f .sum ≡ sumTo g (suc (f .at))
   pub right : f .at < length ms → f .right ≡ w - sumTo g (suc (f .at))
 
--- the answer of a step from what its turn in place answers and leaves: 9 where there is none
-abbrev pub shiftedBy : Bool × List ℕ → Stepped
-shiftedBy x = steppedBy (cond (x .0) (refused 0 0) (refused 9 0)) (x .1)
+-- part f .at of g takes the value u, and the parts before it are filled with the first composition of what it leaves to them
+abbrev pub refilled : List ℕ → List ℕ → PivotSums → ℕ → List ℕ
+refilled ms g f u = firstOf ms (f .at) (f .sum - u) (f .right + u) ++ (u ∷ drop (suc (f .at)) g)
+
+-- they have room for it, and all stays within bytes
+pub record Refills (ms g : List ℕ) (f : PivotSums) (u : ℕ) : Type 0 where
+  pub some : 0 < f .at
+  pub inside : (f .at < length g) × (f .at ≤ length ms) × (f .at < 24)
+  pub left : (f .left ≡ sumTo ms (f .at)) × (f .left < 65536)
+  pub value : (u ≤ 255) × (u ≤ f .sum)
+  pub room : f .sum - u ≤ f .left
+  pub right : f .right ≤ 4294967296
+
+-- ---- the pair, part by part from the last to the first
+
+-- what changes from part i on, between g and h
+abbrev pub transitionFrom : ℕ → List ℕ → List ℕ → Transition
+transitionFrom i g h = record { gain = gainFrom (i + 1) (drop i g) (drop i h); loss = gainFrom (i + 1) (drop i h) (drop i g) }
+
+-- the same, where part i goes from u to v, and x is what changes behind it
+abbrev pub noting : Transition → ℕ → ℕ → ℕ → Transition
+noting x i u v = record { gain = cond (eqb v (u + 1)) (i + 1) (x .gain); loss = cond (eqb u (v + 1)) (i + 1) (x .loss) }
+
+-- ---- the answer of a step that finds g and leaves h: 9 where nothing changes
+
+abbrev pub isNone : Transition → Bool
+isNone x = both (eqb (x .gain) 0) (eqb (x .loss) 0)
+
+abbrev pub shiftedBy : List ℕ → List ℕ → Stepped
+shiftedBy g h = steppedBy (cond (isNone (transition g h)) (refused 9 0) (refused 0 0)) g h

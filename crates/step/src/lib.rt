@@ -1,10 +1,11 @@
 // Forward and backward step (document 01, "Serial and mix"). The first part that is not at its last value takes its next value, and the parts
 // to its left start anew (source document 000, section 2). Backward is the same with one more than the total: every sum to the right is then
-// one more, so every part runs the other way.
+// one more, so every part runs the other way. The kinds that gain and lose (document 02, (i)) are noted as the parts get their new values.
 pub mod batch;
 
 use count::bounds_refusal;
 use places::composition_refusal;
+use walsh::Transition;
 use walsh::first_value;
 use walsh::is_odd;
 use walsh::lesser;
@@ -12,24 +13,24 @@ use walsh::next_value;
 use walsh::over;
 use walsh::wide;
 ghost use mathlib.Core.Path.{_≡_};
-ghost use mathlib.Core.Bool.{Bool, cond};
-ghost use mathlib.Core.List.{List, _++_};
-ghost use Prim.Native.Nat.{ℕ, _+_, _≤_, _<_};
+ghost use mathlib.Core.Bool.{cond};
+ghost use Prim.Native.Nat.{_+_, _≤_, _<_};
 ghost use lib.Dec.{ltb};
-ghost use lib.ListN.{length, drop};
-ghost use Rattle.walsh.specs.Sums.{sumTo};
-ghost use Rattle.walsh.specs.Step.{firstOf};
+ghost use lib.ListN.{length};
+ghost use Rattle.walsh.specs.Transition.{transition, none};
 ghost use Rattle.bounds.specs.Edition.{blank};
 ghost use Rattle.step.specs.Steps.{stepOf, successorOf, predecessorOf};
-ghost use Rattle.step.specs.Advance.{turnOf, Advances};
-ghost use Rattle.step.specs.Turn.{Begins, PivotAt, shiftedBy};
+ghost use Rattle.step.specs.Advance.{turnOf, sized, Advances, Leads};
+ghost use Rattle.step.specs.Turn.{Begins, PivotAt, Refills, refilled, noting, isNone, shiftedBy};
 
-// A composition in 24 cells, or a refusal's number and detail with all else 0.
+// A composition in 24 cells and the kinds that gained and lost a unit on the way to it, or a refusal's number and detail with all else 0.
 #[repr(C)]
 pub struct Stepped {
     pub number: u32,
     pub detail: u64,
     pub composition: [u8; 24],
+    pub gain: u32,
+    pub loss: u32,
 }
 
 // Part `at`, the sum of the bounds to its left, that of the parts up to it, itself included, and that of the parts to its right.
@@ -80,54 +81,87 @@ fn pivot(upper: &[u8], total: usize, start: PivotSums, parts: &[u8]) -> PivotSum
     }
 }
 
-// Fills the first k parts with the first composition of `rest`; the parts to the right sum to `right`, the k bounds to `left`.
-fn refill(upper: &[u8], k: usize, left: usize, rest: usize, right: usize, parts: &mut [u8])
-    requires { ⌜ (0 < k) × (k ≤ length (now upper)) × (k ≤ length (now parts)) × (left ≡ sumTo (now upper) k)
-        × (rest ≤ left) × (left < 65536) × (right < 8589934592) ⌝ }
-    ensures { λ _. ⌜ now (parts .exit) ≡ firstOf (now (upper .entry)) k rest right ++ drop k (now (parts .entry)) ⌝ }
+// `yes` where the test holds, `no` where it does not.
+fn chosen(test: bool, yes: u32, no: u32) -> u32
+    ensures { λ r. ⌜ r ≡ cond test yes no ⌝ }
 {
-    let mut under = left;
-    let mut rem = rest;
-    let mut t = right;
-    let mut i = k;
+    if test { yes } else { no }
+}
+
+// What changes from part i on, where that goes from `old` to `new`, and `behind` is what changes behind it.
+fn note(behind: Transition, i: usize, old: usize, new: usize) -> Transition
+    requires { ⌜ (i < 24) × (old ≤ 255) × (new ≤ 255) ⌝ }
+    ensures { λ r. ⌜ r ≡ noting behind i old new ⌝ }
+{
+    let kind = (i + 1) as u32;
+    let gain = chosen(new == old + 1, kind, behind.gain);
+    let loss = chosen(old == new + 1, kind, behind.loss);
+    Transition { gain, loss }
+}
+
+// No part gains, and none loses.
+fn still() -> Transition
+    ensures { λ r. ⌜ r ≡ none ⌝ }
+{
+    Transition { gain: 0, loss: 0 }
+}
+
+// Part `found.at` takes the value u, and the parts before it are filled with the first composition of what it leaves to them.
+fn refill(upper: &[u8], found: PivotSums, u: usize, parts: &mut [u8]) -> Transition
+    requires { ⌜ Refills (now upper) (now parts) found u ⌝ }
+    ensures { λ r.
+        ⌜ (now (parts .exit) ≡ refilled (now (upper .entry)) (now (parts .entry)) found u)
+        × (r ≡ transition (now (parts .entry)) (now (parts .exit))) ⌝ }
+{
+    let mut i = found.at;
+    let mut changed = note(still(), i, wide(parts[i]), u);
+    parts[i] = u as u8;
+    let mut under = found.left;
+    let mut rem = found.sum - u;
+    let mut t = found.right + u;
     while 1 < i {
         i -= 1;
         let m = wide(upper[i]);
         under -= m;
         let v = first_value(over(rem, under), lesser(m, rem), is_odd(t));
+        changed = note(changed, i, wide(parts[i]), v);
         parts[i] = v as u8;
         rem -= v;
         t += v;
     }
+    changed = note(changed, 0, wide(parts[0]), rem);
     parts[0] = rem as u8;
+    changed
 }
 
-// Makes the step in place and answers true, or answers false and changes nothing where no part can move. It goes forward where `total` is the
-// total, backward where it is one more. Where the parts are no composition, the rest may not fit: then false too. No part before `start` can move.
-fn turn_from(upper: &[u8], total: usize, start: PivotSums, parts: &mut [u8]) -> bool
+// Makes the step in place and answers its pair, or answers 0 and 0 and changes nothing where no part can move. It goes forward where `total` is
+// the total, backward where it is one more. Where the parts are no composition, the rest may not fit: then nothing changes either. No part
+// before `start` can move.
+fn turn_from(upper: &[u8], total: usize, start: PivotSums, parts: &mut [u8]) -> Transition
     requires { ⌜ (length (now upper) ≤ 24) × (length (now parts) ≡ length (now upper)) × (total ≤ 4294967296)
         × Begins (now upper) total (now parts) start ⌝ }
-    ensures { λ r. ⌜ _≡_ {A = Bool × List ℕ} (r, now (parts .exit)) (turnOf (now (upper .entry)) total (now (parts .entry))) ⌝ }
+    ensures { λ r.
+        ⌜ (now (parts .exit) ≡ turnOf (now (upper .entry)) total (now (parts .entry)))
+        × (r ≡ transition (now (parts .entry)) (now (parts .exit))) ⌝ }
 {
     let found = pivot(upper, total, start, parts);
     let i = found.at;
     if i == parts.len() {
-        return false;
+        return still();
     }
     let u = next_value(parts[i], is_odd(found.right));
-    let rest = found.sum - u;
-    if found.left < rest {
-        return false;
+    if found.left < found.sum - u {
+        return still();
     }
-    parts[i] = u as u8;
-    refill(upper, i, found.left, rest, found.right + u, parts);
-    true
+    refill(upper, found, u, parts)
 }
 
 // The same, where of no part it is known that it cannot move.
-fn turn(upper: &[u8], total: usize, parts: &mut [u8]) -> bool
+fn turn(upper: &[u8], total: usize, parts: &mut [u8]) -> Transition
     requires { ⌜ (0 < length (now upper)) × (length (now upper) ≤ 24) × (length (now parts) ≡ length (now upper)) × (total ≤ 4294967296) ⌝ }
-    ensures { λ r. ⌜ _≡_ {A = Bool × List ℕ} (r, now (parts .exit)) (turnOf (now (upper .entry)) total (now (parts .entry))) ⌝ }
+    ensures { λ r.
+        ⌜ (now (parts .exit) ≡ turnOf (now (upper .entry)) total (now (parts .entry)))
+        × (r ≡ transition (now (parts .entry)) (now (parts .exit))) ⌝ }
 {
     let start = PivotSums {
         at: 1,
@@ -138,10 +172,9 @@ fn turn(upper: &[u8], total: usize, parts: &mut [u8]) -> bool
     turn_from(upper, total, start, parts)
 }
 
-// The forward step in place, for callers that hold a composition and need not have it checked: true and the next composition, or false and
-// nothing changed where there is none. What becomes of any other bytes is said too (specs/Advance).
-pub fn advance(upper: &[u8], total: u32, parts: &mut [u8]) -> bool
-    ensures { λ r. ⌜ Advances (now (upper .entry)) total (now (parts .entry)) r (now (parts .exit)) ⌝ }
+// There are 1 to 24 bounds and as many parts.
+fn is_sized(upper: &[u8], parts: &[u8]) -> bool
+    ensures { λ r. ⌜ r ≡ sized (now (upper .entry)) (now (parts .entry)) ⌝ }
 {
     let n = upper.len();
     if n == 0 {
@@ -150,20 +183,30 @@ pub fn advance(upper: &[u8], total: u32, parts: &mut [u8]) -> bool
     if 24 < n {
         return false;
     }
-    if parts.len() != n {
-        return false;
+    parts.len() == n
+}
+
+// The forward step in place, for callers that hold a composition and need not have it checked: it becomes the next one, and the answer is the pair
+// from the one to the other; or nothing changes, with 0 and 0, where there is none. What becomes of any other bytes is said too (specs/Advance).
+pub fn advance(upper: &[u8], total: u32, parts: &mut [u8]) -> Transition
+    ensures { λ r. ⌜ Advances (now (upper .entry)) total (now (parts .entry)) r (now (parts .exit)) ⌝ }
+{
+    if !is_sized(upper, parts) {
+        return still();
     }
     turn(upper, total as usize, parts)
 }
 
 // The answer of a refused step.
 fn stopped(number: u32, detail: u64) -> Stepped
-    ensures { λ r. ⌜ r ≡ record { number = number; detail = detail; composition = blank } ⌝ }
+    ensures { λ r. ⌜ r ≡ record { number = number; detail = detail; composition = blank; gain = 0; loss = 0 } ⌝ }
 {
     Stepped {
         number,
         detail,
         composition: [0; 24],
+        gain: 0,
+        loss: 0,
     }
 }
 
@@ -178,21 +221,49 @@ fn side(total: u32, back: bool) -> usize
     }
 }
 
-// The step over a copy of the parts, in 24 cells; 9 where there is none.
+// No part gains, and none loses.
+fn is_still(x: Transition) -> bool
+    ensures { λ r. ⌜ r ≡ isNone x ⌝ }
+{
+    if x.gain != 0 {
+        return false;
+    }
+    x.loss == 0
+}
+
+// The step over a copy of the parts, in 24 cells, with its pair; 9 where there is none.
 fn shift(upper: &[u8], total: usize, parts: &[u8]) -> Stepped
     requires { ⌜ (0 < length (now upper)) × (length (now upper) ≤ 24) × (length (now parts) ≡ length (now upper)) × (total ≤ 4294967296) ⌝ }
-    ensures { λ r. ⌜ r ≡ shiftedBy (turnOf (now (upper .entry)) total (now (parts .entry))) ⌝ }
+    ensures { λ r. ⌜ r ≡ shiftedBy (now (parts .entry)) (turnOf (now (upper .entry)) total (now (parts .entry))) ⌝ }
 {
     let n = upper.len();
     let mut cells = bounds::pack(parts);
-    if turn(upper, total, &mut cells[..n]) {
-        return Stepped {
-            number: 0,
-            detail: 0,
-            composition: cells,
-        };
+    let x = turn(upper, total, &mut cells[..n]);
+    if is_still(x) {
+        return stopped(9, 0);
     }
-    stopped(9, 0)
+    Stepped {
+        number: 0,
+        detail: 0,
+        composition: cells,
+        gain: x.gain,
+        loss: x.loss,
+    }
+}
+
+// The pair of a composition, measured from the one before it; 0 and 0 for the first. It is that of the step back with its kinds exchanged. Like
+// `advance` for callers that hold a composition; what the pair of any other bytes is, is said too.
+pub fn transition_to(upper: &[u8], total: u32, parts: &[u8]) -> Transition
+    ensures { λ r. ⌜ Leads (now (upper .entry)) total (now (parts .entry)) r ⌝ }
+{
+    if !is_sized(upper, parts) {
+        return still();
+    }
+    let back = shift(upper, side(total, true), parts);
+    Transition {
+        gain: back.loss,
+        loss: back.gain,
+    }
 }
 
 // The step with its checks, forward or backward.
