@@ -3,7 +3,7 @@ use mathlib.Core.Path.{_≡_}
 use mathlib.Core.Bool.{Bool, cond}
 use mathlib.Core.List.{List, _∷_, _++_}
 use Prim.Native.Nat.{ℕ, suc, _+_, _-_, _*_, _≤_, _<_}
-use lib.Dec.{eqb}
+use lib.Dec.{eqb, ltb}
 use lib.ListN.{length, drop}
 use Rattle.walsh.specs.Tests.{both}
 use Rattle.walsh.specs.Sums.{sumTo}
@@ -54,7 +54,7 @@ transitionFrom i g h = record { gain = gainFrom (i + 1) (drop i g) (drop i h); l
 
 -- the same, where part i goes from u to v, and x is what changes behind it
 abbrev pub noting : Transition → ℕ → ℕ → ℕ → Transition
-noting x i u v = record { gain = cond (eqb v (u + 1)) (i + 1) (x .gain); loss = cond (eqb u (v + 1)) (i + 1) (x .loss) }
+noting x i u v = record { gain = cond (ltb u v) (i + 1) (x .gain); loss = cond (ltb v u) (i + 1) (x .loss) }
 
 -- ---- the answer of a step that finds g and leaves h: 9 where nothing changes
 

@@ -97,8 +97,8 @@ fn change(parts: &mut [u8], i: usize, v: usize, behind: Transition) -> Transitio
 {
     let old = wide(parts[i]);
     let kind = (i + 1) as u32;
-    let gain = chosen(v == old + 1, kind, behind.gain);
-    let loss = chosen(old == v + 1, kind, behind.loss);
+    let gain = chosen(old < v, kind, behind.gain);
+    let loss = chosen(v < old, kind, behind.loss);
     parts[i] = v as u8;
     Transition { gain, loss }
 }
