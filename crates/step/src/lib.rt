@@ -9,14 +9,14 @@ use walsh::Transition;
 use walsh::first_value;
 use walsh::is_odd;
 use walsh::lesser;
-use walsh::next_value;
 use walsh::over;
 use walsh::wide;
 ghost use mathlib.Core.Path.{_≡_};
-ghost use mathlib.Core.Bool.{cond};
+ghost use mathlib.Core.Bool.{true, cond};
 ghost use Prim.Native.Nat.{_+_, _≤_, _<_};
 ghost use lib.Dec.{ltb};
 ghost use lib.ListN.{length, getD, set};
+ghost use Rattle.walsh.specs.Step.{nextValue};
 ghost use Rattle.walsh.specs.Transition.{transition, none};
 ghost use Rattle.bounds.specs.Edition.{blank};
 ghost use Rattle.step.specs.Steps.{stepOf, successorOf, predecessorOf};
@@ -110,6 +110,14 @@ fn still() -> Transition
     Transition { gain: 0, loss: 0 }
 }
 
+// The value after v.
+fn next_value(v: usize, falling: bool) -> usize
+    requires { ⌜ (v ≤ 255) × (falling ≡ true → 0 < v) ⌝ }
+    ensures { λ r. ⌜ r ≡ nextValue falling v ⌝ }
+{
+    if falling { v - 1 } else { v + 1 }
+}
+
 // What changes from part i on, where only part i moves.
 fn moved(i: usize, falling: bool) -> Transition
     requires { ⌜ i < 24 ⌝ }
@@ -169,7 +177,7 @@ fn turn_from(upper: &[u8], total: usize, start: PivotSums, parts: &mut [u8]) -> 
         return still();
     }
     let falling = is_odd(found.right);
-    let u = next_value(parts[i], falling);
+    let u = next_value(wide(parts[i]), falling);
     if found.left < found.sum - u {
         return still();
     }
