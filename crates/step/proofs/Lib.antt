@@ -1,4 +1,5 @@
-pub mod Refills
+pub mod Others
+pub mod Trades
 pub mod Notes
 pub mod Pivots
 pub mod Turns

@@ -2,8 +2,8 @@
 use mathlib.Core.Path.{_≡_, refl, sym, ap, _∙_}
 use mathlib.Core.Bool.{Bool, true, false}
 use mathlib.Core.List.{List}
-use Prim.Native.Nat.{ℕ, suc, _+_, _-_, _≤_, _<_}
-use native.Mathlib.Numerals.{add-one}
+use Prim.Native.Nat.{ℕ, zero, suc, _+_, _-_, _≤_, _<_}
+use native.Mathlib.Nat.{add-zero}
 use native.Mathlib.Omega.{arith}
 use lib.Dec.{eqb}
 use lib.ListN.{length, getD, set, drop, length-set}
@@ -43,26 +43,49 @@ noted-next {g} {h} {x} i v l n =
           (rw (n .is)));
     }
 
--- the same in the code's words: part i is the first to change, and then the one before part i does
-pub noted-first : {g h : List ℕ} {x : Transition} (i v : ℕ) (falling : Bool) → i < length g
-    → (falling ≡ true → v < getD g i 0) × (falling ≡ false → getD g i 0 < v)
-    → h ≡ set g i v → x ≡ movedBy falling i → Noted g h i x
-noted-first {g} {h} {x} i v falling l way eh ex = rw (eh, ex, go falling way) (noted-next i v l (noted-none g (i + 1)))
-  where
-    go : (b : Bool) → (b ≡ true → v < getD g i 0) × (b ≡ false → getD g i 0 < v) → movedBy b i ≡ noting none (i + 1) (getD g i 0) v
-    go true w = let l = w .0 refl in rw (lt-ltb v (getD g i 0) l, le-ltb (getD g i 0) v (omega arith))
-    go false w = let l = w .1 refl in rw (lt-ltb (getD g i 0) v l, le-ltb v (getD g i 0) (omega arith))
+-- part i stays
+noted-skip : {g h : List ℕ} {x : Transition} (i : ℕ) → i < length h → Noted g h (i + 1) x → Noted g h i x
+noted-skip {g} {h} {x} i l n =
+    let inside : i < length g = omega (arith, n .size) in
+    let stays : getD h i 0 ≡ getD g i 0 = n .front i (omega arith) in
+    record {
+      size = n .size;
+      front = λ j b. n .front j (omega arith);
+      is =
+          n .is
+          ∙ sym (rw (gain-next g h i inside l, gain-next h g i l inside, stays, le-ltb (getD g i 0) (getD g i 0) (omega arith)));
+    }
 
-pub noted-before : {g h after : List ℕ} {x y : Transition} (i v : ℕ) → 0 < i → i ≤ length h → Noted g h i y
-    → after ≡ set h (i - 1) v → x ≡ noting y i (getD h (i - 1) 0) v → Noted g after (i - 1) x
-noted-before {g} {h} {after} {x} {y} i v some l n ea ex =
-    let back : i - 1 + 1 ≡ i = omega arith in
-    rw (ea, ex) (rw back at (noted-next {g = g} {h = h} {x = y} (i - 1) v (omega arith) (rw back n)))
+-- so do d parts from part j on
+noted-down : {g h : List ℕ} {x : Transition} (j d : ℕ) → j + d ≤ length h → Noted g h (j + d) x → Noted g h j x
+noted-down {g} {h} {x} j zero l n = rw (add-zero j) at n
+noted-down {g} {h} {x} j (suc d) l n =
+    let next : j + suc d ≡ j + d + 1 = omega arith in
+    noted-down j d (omega arith) (noted-skip (j + d) (omega arith) (rw next at n))
 
--- when part 0 has changed, x is the pair
-pub noted-last : {g h after : List ℕ} {x y : Transition} {i : ℕ} (v : ℕ) → i ≡ 1 → 0 < length h → Noted g h i y
-    → after ≡ set h 0 v → x ≡ noting y 1 (getD h 0 0) v → x ≡ transition g after
-noted-last {g} {h} {after} {x} {y} {i} v e l n ea ex = rw (ea, ex) (noted-next {g = g} {h = h} {x = y} 0 v l (rw e at n) .is)
+noted-to : {g h : List ℕ} {x : Transition} (i j : ℕ) → j ≤ i → i ≤ length h → Noted g h i x → Noted g h j x
+noted-to i j b l n =
+    let whole : j + (i - j) ≡ i = omega arith in
+    noted-down j (i - j) (omega arith) (rw whole n)
+
+-- part i moves to u, and then the part of a kind before it gets the value v
+module _ (g : List ℕ) (i u kind v : ℕ) (falling : Bool) (inside : i < length g) (before : (0 < kind) × (kind ≤ i))
+    (way : (falling ≡ true → u < getD g i 0) × (falling ≡ false → getD g i 0 < u)) where
+  first : movedBy falling i ≡ noting none (i + 1) (getD g i 0) u
+  first = go falling way
+    where
+      go : (b : Bool) → (b ≡ true → u < getD g i 0) × (b ≡ false → getD g i 0 < u) → movedBy b i ≡ noting none (i + 1) (getD g i 0) u
+      go true w = let l = w .0 refl in rw (lt-ltb u (getD g i 0) l, le-ltb (getD g i 0) u (omega arith))
+      go false w = let l = w .1 refl in rw (lt-ltb (getD g i 0) u l, le-ltb u (getD g i 0) (omega arith))
+
+  pub traded : noting (movedBy falling i) kind (getD (set g i u) (kind - 1) 0) v ≡ transition g (set (set g i u) (kind - 1) v)
+  traded =
+      let size = length-set g i u in
+      let back : kind - 1 + 1 ≡ kind = omega arith in
+      let moved : Noted g (set g i u) i (movedBy falling i) = rw first (noted-next i u inside (noted-none g (i + 1))) in
+      let there : Noted g (set g i u) (kind - 1 + 1) (movedBy falling i) = rw back (noted-to i kind (before .1) (omega (arith, size)) moved) in
+      let both = rw back at (noted-next (kind - 1) v (omega (arith, size)) there) in
+      noted-to (kind - 1) 0 (omega arith) (omega (arith, size, length-set (set g i u) (kind - 1) v)) both .is
 
 -- ---- the answer of a step over a copy
 

@@ -24,7 +24,7 @@ use Rattle.step.specs.Batch.{copiesOf}
 use Rattle.step.specs.Turn.{Begins}
 use Rattle.step.specs.declared.PivotSums.{PivotSums}
 use Rattle.step.specs.declared.batch.Run.{Run}
-use Rattle.step.proofs.Refills.{sum-one, refill-end}
+use Rattle.step.proofs.Others.{sum-one, refill-end}
 use Rattle.step.proofs.Pivots.{can-here, moving-on}
 use Rattle.step.proofs.Turns.{first-stays, part-moves, upTo}
 use Rattle.step.proofs.Ways.{moving}

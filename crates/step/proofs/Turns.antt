@@ -6,18 +6,21 @@ use mathlib.Core.List.{List}
 use Prim.Native.Nat.{ℕ, zero, suc, _+_, _-_, _≤_, _<_}
 use native.Mathlib.Omega.{arith}
 use lib.Dec.{ltb}
-use lib.ListN.{length, getD}
+use lib.ListN.{length, getD, set}
 use borrow.Author.Tests.{ltb-true, ltb-false, lt-ltb, le-ltb, le-leb, lt-leb}
 use Rattle.walsh.specs.Sums.{sumTo}
 use Rattle.walsh.specs.Order.{CompositionTo, isOdd, least, most}
 use Rattle.walsh.specs.Step.{lastValue, nextValue, firstOf, AtLast, Pivot, stepAt}
 use Rattle.walsh.proofs.Cases.{on-less}
+use Rattle.walsh.proofs.Lists.{sumTo-mono}
 use Rattle.walsh.proofs.Complete.{composition-low, composition-high}
 use Rattle.walsh.proofs.Ends.{next-low, rest-fits}
-use Rattle.step.specs.Advance.{canMove, pivotOf, restAt, turnAt, turnOf}
-use Rattle.step.specs.Turn.{PivotAt, refilled}
+use Rattle.step.specs.Advance.{canMove, pivotOf, restAt, tradeAt, turnAt, turnOf}
+use Rattle.step.specs.Turn.{PivotAt, OtherAt}
+use Rattle.step.specs.declared.Other.{Other}
 use Rattle.step.specs.declared.PivotSums.{PivotSums}
 use Rattle.step.proofs.Pivots.{pivot-first}
+use Rattle.step.proofs.Trades.{trade-is}
 
 -- ---- a value v among lo..hi
 
@@ -97,20 +100,22 @@ module _ (ms : List ℕ) (w : ℕ) (g : List ℕ) (f : PivotSums) (found : Pivot
     turn-over l =
         rw (← (found .first), lt-ltb (f .at) (length ms) inside, ← rest-is, ← (found .left), lt-leb (f .sum - u) (f .left) l)
 
-    step-is : refilled ms g f u ≡ stepAt ms w g (f .at)
-    unfolding stepAt
-    step-is = rw (found .sum inside, found .right inside, value)
+    -- the part against it is changed too
+    trade-on : (o : Other) → OtherAt ms (set g (f .at) u) f u o → set (set g (f .at) u) (o .kind - 1) (o .value) ≡ tradeAt ms w g (f .at)
+    trade-on o other = rw (other .is, found .sum inside, found .right inside, value)
 
-    pub turn-on : f .sum - u ≤ f .left → (h : List ℕ) → h ≡ refilled ms g f u → h ≡ turnOf ms w g
+    pub turn-on : f .sum - u ≤ f .left → (o : Other) → OtherAt ms (set g (f .at) u) f u o
+        → set (set g (f .at) u) (o .kind - 1) (o .value) ≡ turnOf ms w g
     unfolding turnAt
-    turn-on l h eh =
-        eh
-        ∙ step-is
-        ∙ rw (← (found .first), lt-ltb (f .at) (length ms) inside, ← rest-is, ← (found .left), le-leb (f .sum - u) (f .left) l)
+    turn-on l o other =
+        let fits : restAt w g (f .at) ≤ sumTo ms (f .at) = omega (arith, sym rest-is, found .left) in
+        trade-on o other
+        ∙ rw (← (found .first), lt-ltb (f .at) (length ms) inside, le-leb (restAt w g (f .at)) (sumTo ms (f .at)) fits)
 
 -- ---- parts that are within their bounds and sum to at most w, as those of a composition do
 
 pub record Moving (ms : List ℕ) (w : ℕ) (g : List ℕ) : Type 0 where
+  pub size : length g ≡ length ms
   pub fits : (i : ℕ) → i < length ms → getD g i 0 ≤ getD ms i 0
   pub reached : sumTo g (length ms) ≤ w
 
@@ -155,13 +160,19 @@ module _ (ms : List ℕ) (w : ℕ) (g : List ℕ) where
         (λ a _. first-stays (omega arith) m j a)
         (λ a _. part-stays j l (pivot-first ms w g .passed j a b) m)
 
-    at-on : at < length ms → (canMove ms w g at ≡ true) × (turnOf ms w g ≡ stepAt ms w g at)
+    pivot-at : at < length ms → Pivot ms w g at
+    pivot-at l =
+        record { done = λ j b. passed-last j (omega arith) b; moves = part-moves at (pivot-first ms w g .can (omega arith)) }
+
+    at-on : at < length ms → turnOf ms w g ≡ stepAt ms w g at
     unfolding turnAt
     at-on l =
-        let can = pivot-first ms w g .can (omega arith) in
         let rem : ℕ = sumTo g (suc at) in
-        let low = next-low (least ms at rem) (most ms at rem) (isOdd (w - rem)) (getD g at 0) (composition-low (upTo m at l)) (part-moves at can) in
-        (can, rw (lt-ltb at (length ms) l, le-leb (restAt w g at) (sumTo ms at) (rest-fits ms at rem _ low)))
+        let low = next-low (least ms at rem) (most ms at rem) (isOdd (w - rem)) (getD g at 0) (composition-low (upTo m at l)) (pivot-at l .moves) in
+        let fits : restAt w g at ≤ sumTo ms at = rest-fits ms at rem _ low in
+        rw (lt-ltb at (length ms) l, le-leb (restAt w g at) (sumTo ms at) fits)
+        (trade-is ms w g at (pivot-first ms w g .low) (omega (arith, m .size)) (upTo m at l)
+        (omega (arith, sumTo-mono g (suc at) (length ms) l, m .reached)) (pivot-at l) fits)
 
     at-off : length ms ≤ at → turnOf ms w g ≡ g
     unfolding turnAt
@@ -170,5 +181,5 @@ module _ (ms : List ℕ) (w : ℕ) (g : List ℕ) where
     pub turned : AtPivot ms w g (turnOf ms w g) ⊎ AtEnd ms w g (turnOf ms w g)
     turned =
         on-less at (length ms)
-        (λ l _. inl (at, l, record { done = λ j b. passed-last j (omega arith) b; moves = part-moves at (at-on l .0) }, at-on l .1))
+        (λ l _. inl (at, l, pivot-at l, at-on l))
         (λ l _. inr (λ j b. passed-last j b (omega arith), at-off l))

@@ -37,7 +37,7 @@ module _ (ms : List ℕ) (r : ℕ) (g : List ℕ) (valid : Composition ms r g) w
 
   -- forward with r, backward with r + 1
   pub moving : (w : ℕ) → r ≤ w → Moving ms w g
-  moving w l = record { fits = valid .parts .fits; reached = omega (arith, valid .parts .sums) }
+  moving w l = record { size = valid .size; fits = valid .parts .fits; reached = omega (arith, valid .parts .sums) }
 
   pub way-on : (back : Bool) (h : List ℕ) → AtPivot ms (cond back (r + 1) r) g h
       → (eqb (serialOf ms r g) (cond back 1 (countOf ms r)) ≡ false) × (h ≡ compositionOf ms r (nextSerial back (serialOf ms r g)))

@@ -6,14 +6,15 @@ use mathlib.Core.Bool.{Bool, cond}
 use mathlib.Core.List.{List, [], _∷_}
 use Prim.Native.Nat.{ℕ, zero, suc, _+_, _-_, _≤_}
 use lib.Dec.{eqb, ltb, leb}
-use lib.ListN.{length, getD}
+use lib.ListN.{length, getD, set}
 use Rattle.walsh.specs.Tests.{both}
 use Rattle.walsh.specs.Sums.{sumTo}
 use Rattle.walsh.specs.Order.{Composition, isOdd, least, most, countOf, threeTwos}
 use Rattle.walsh.specs.Serial.{serialOf, compositionOf}
-use Rattle.walsh.specs.Step.{nextValue, firstOf, stepAt}
+use Rattle.walsh.specs.Step.{nextValue, partFirst}
 use Rattle.walsh.specs.Transition.{transition, transitionAt}
 use Rattle.walsh.specs.declared.Transition.{Transition}
+use Rattle.step.specs.declared.Other.{Other}
 
 -- ---- of a composition
 
@@ -39,17 +40,35 @@ movingFrom ms w g i (suc n) = cond (canMove ms w g i) i (movingFrom ms w g (suc 
 abbrev pub pivotOf : List ℕ → ℕ → List ℕ → ℕ
 pivotOf ms w g = movingFrom ms w g 1 (length ms - 1)
 
--- what part i leaves to the parts before it when it takes its next value
+-- the next value of part i, and what that leaves to the parts before it
+abbrev pub nextAt : ℕ → List ℕ → ℕ → ℕ
+nextAt w g i = nextValue (isOdd (w - sumTo g (suc i))) (getD g i 0)
+
 abbrev pub restAt : ℕ → List ℕ → ℕ → ℕ
-restAt w g i = sumTo g (suc i) - nextValue (isOdd (w - sumTo g (suc i))) (getD g i 0)
+restAt w g i = sumTo g (suc i) - nextAt w g i
 
 -- there is a part i, and the bounds before it hold what it leaves (those of a composition do)
 abbrev pub hasRoom : List ℕ → ℕ → List ℕ → ℕ → Bool
 hasRoom ms w g i = both (ltb i (length ms)) (leb (restAt w g i) (sumTo ms i))
 
--- part i takes its next value, and the parts before it are filled again with their first; g itself where that cannot be
+-- the part that changes against it, with its kind and its new value: of the parts k, .. , 1 the first that is not at its first value, which it gets;
+-- where there is none, part 0, which gets what is left. `rem` is left to the parts up to k, and those behind them sum to t.
+unfoldable pub otherOf : List ℕ → List ℕ → ℕ → ℕ → ℕ → Other
+otherOf ms g zero rem t = record { kind = 1; value = rem }
+otherOf ms g (suc k) rem t =
+    let v = partFirst ms (suc k) rem t in
+    cond (eqb v (getD g (suc k) 0)) (otherOf ms g k (rem - v) (t + v)) (record { kind = suc (suc k); value = v })
+
+-- both parts change
+abbrev pub tradeAt : List ℕ → ℕ → List ℕ → ℕ → List ℕ
+tradeAt ms w g i =
+    let moved = set g i (nextAt w g i) in
+    let other = otherOf ms moved (i - 1) (restAt w g i) (w - sumTo g (suc i) + nextAt w g i) in
+    set moved (other .kind - 1) (other .value)
+
+-- part i moves on; g itself where it cannot
 unfoldable pub turnAt : List ℕ → ℕ → List ℕ → ℕ → List ℕ
-turnAt ms w g i = cond (hasRoom ms w g i) (stepAt ms w g i) g
+turnAt ms w g i = cond (hasRoom ms w g i) (tradeAt ms w g i) g
 
 abbrev pub turnOf : List ℕ → ℕ → List ℕ → List ℕ
 turnOf ms w g = turnAt ms w g (pivotOf ms w g)
@@ -78,7 +97,7 @@ pub record Leads (ms : List ℕ) (r : ℕ) (g : List ℕ) (x : Transition) : Typ
 -- ---- computed: parts with another sum move, and those whose rest has no room do not
 
 another-sum : turnAny threeTwos 3 (1 ∷ 1 ∷ 0 ∷ []) ≡ 2 ∷ 0 ∷ 0 ∷ []
-unfolding turnAny turnAt movingFrom stepAt firstOf
+unfolding turnAny turnAt movingFrom otherOf
 another-sum = refl
 
 no-room : turnAny (1 ∷ 1 ∷ []) 3 (3 ∷ 0 ∷ []) ≡ 3 ∷ 0 ∷ []

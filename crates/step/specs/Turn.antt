@@ -1,18 +1,18 @@
 -- What the functions inside the step promise, of any bytes g. The sums to the right are counted from a total w: r forward, r + 1 backward.
 use mathlib.Core.Path.{_≡_}
-use mathlib.Core.Bool.{Bool, true, false, cond}
-use mathlib.Core.List.{List, _∷_, _++_}
+use mathlib.Core.Bool.{Bool, cond}
+use mathlib.Core.List.{List}
 use Prim.Native.Nat.{ℕ, suc, _+_, _-_, _*_, _≤_, _<_}
 use lib.Dec.{eqb, ltb}
-use lib.ListN.{length, getD, drop}
+use lib.ListN.{length, drop}
 use Rattle.walsh.specs.Tests.{both}
 use Rattle.walsh.specs.Sums.{sumTo}
-use Rattle.walsh.specs.Step.{firstOf}
 use Rattle.walsh.specs.Transition.{gainFrom, transition}
 use Rattle.walsh.specs.declared.Transition.{Transition}
 use Rattle.bounds.specs.Refusal.{refused}
-use Rattle.step.specs.Advance.{movingFrom, pivotOf}
+use Rattle.step.specs.Advance.{movingFrom, pivotOf, otherOf}
 use Rattle.step.specs.Steps.{steppedBy}
+use Rattle.step.specs.declared.Other.{Other}
 use Rattle.step.specs.declared.PivotSums.{PivotSums}
 use Rattle.step.specs.declared.Stepped.{Stepped}
 
@@ -33,19 +33,20 @@ pub record PivotAt (ms : List ℕ) (w : ℕ) (g : List ℕ) (f : PivotSums) : Ty
   pub sum : f .at < length ms → f .sum ≡ sumTo g (suc (f .at))
   pub right : f .at < length ms → f .right ≡ w - sumTo g (suc (f .at))
 
--- part f .at of g takes the value u, and the parts before it are filled with the first composition of what it leaves to them
-abbrev pub refilled : List ℕ → List ℕ → PivotSums → ℕ → List ℕ
-refilled ms g f u = firstOf ms (f .at) (f .sum - u) (f .right + u) ++ (u ∷ drop (suc (f .at)) g)
-
--- they have room for it, all stays within bytes, and u is on the way that part goes
-pub record Refills (ms g : List ℕ) (f : PivotSums) (u : ℕ) (falling : Bool) : Type 0 where
+-- the parts before part f .at have room for what the value u leaves to them, and all stays within bytes
+pub record Leaves (ms g : List ℕ) (f : PivotSums) (u : ℕ) : Type 0 where
   pub some : 0 < f .at
-  pub inside : (f .at < length g) × (f .at ≤ length ms) × (f .at < 24)
+  pub inside : (f .at ≤ length g) × (f .at ≤ length ms)
   pub left : (f .left ≡ sumTo ms (f .at)) × (f .left < 65536)
   pub value : (u ≤ 255) × (u ≤ f .sum)
   pub room : f .sum - u ≤ f .left
   pub right : f .right ≤ 4294967296
-  pub way : (falling ≡ true → u < getD g (f .at) 0) × (falling ≡ false → getD g (f .at) 0 < u)
+
+-- o is the part that changes against it: one before it, and its value is a byte
+pub record OtherAt (ms g : List ℕ) (f : PivotSums) (u : ℕ) (o : Other) : Type 0 where
+  pub is : o ≡ otherOf ms g (f .at - 1) (f .sum - u) (f .right + u)
+  pub kind : (0 < o .kind) × (o .kind ≤ f .at)
+  pub value : o .value ≤ 255
 
 -- ---- the pair, part by part from the last to the first
 

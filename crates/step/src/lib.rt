@@ -1,6 +1,7 @@
 // Forward and backward step (document 01, "Serial and mix"). The first part that is not at its last value takes its next value, and the parts
-// to its left start anew (source document 000, section 2). Backward is the same with one more than the total: every sum to the right is then
-// one more, so every part runs the other way. The kinds that gain and lose (document 02, (i)) are noted as the parts get their new values.
+// to its left start anew (source document 000, section 2): of these just one changes, the others stand at their first values already. These two
+// are the kinds that gain and lose (document 02, (i)). Backward is the same with one more than the total: every sum to the right is then one
+// more, so every part runs the other way.
 pub mod batch;
 
 use count::bounds_refusal;
@@ -21,7 +22,7 @@ ghost use Rattle.walsh.specs.Transition.{transition, none};
 ghost use Rattle.bounds.specs.Edition.{blank};
 ghost use Rattle.step.specs.Steps.{stepOf, successorOf, predecessorOf};
 ghost use Rattle.step.specs.Advance.{turnOf, sized, Advances, Leads};
-ghost use Rattle.step.specs.Turn.{Begins, PivotAt, Refills, refilled, noting, movedBy, isNone, shiftedBy};
+ghost use Rattle.step.specs.Turn.{Begins, PivotAt, Leaves, OtherAt, noting, movedBy, isNone, shiftedBy};
 
 // A composition in 24 cells and the kinds that gained and lost a unit on the way to it, or a refusal's number and detail with all else 0.
 #[repr(C)]
@@ -39,6 +40,12 @@ struct PivotSums {
     left: usize,
     sum: usize,
     right: usize,
+}
+
+// The part that changes against the one that moves: its kind, counted from 1, and its new value.
+struct Other {
+    kind: usize,
+    value: usize,
 }
 
 // v can move on: it is above lo where it falls, below hi where it rises.
@@ -136,29 +143,30 @@ fn moved(i: usize, falling: bool) -> Transition
     }
 }
 
-// Part `found.at` moves to the value u, and the parts before it are filled with the first composition of what it leaves to them.
-fn refill(upper: &[u8], found: PivotSums, u: usize, falling: bool, parts: &mut [u8]) -> Transition
-    requires { ⌜ Refills (now upper) (now parts) found u falling ⌝ }
-    ensures { λ r.
-        ⌜ (now (parts .exit) ≡ refilled (now (upper .entry)) (now (parts .entry)) found u)
-        × (r ≡ transition (now (parts .entry)) (now (parts .exit))) ⌝ }
+// The part that changes against part `found.at`, which has got the value u: from there to the left the first that is not at its first value.
+fn other_part(upper: &[u8], found: PivotSums, u: usize, parts: &[u8]) -> Other
+    requires { ⌜ Leaves (now upper) (now parts) found u ⌝ }
+    ensures { λ r. ⌜ OtherAt (now (upper .entry)) (now (parts .entry)) found u r ⌝ }
 {
-    let mut i = found.at;
-    let mut changed = moved(i, falling);
-    parts[i] = u as u8;
     let mut under = found.left;
     let mut rem = found.sum - u;
     let mut t = found.right + u;
+    let mut i = found.at;
     while 1 < i {
         let m = wide(upper[i - 1]);
         under -= m;
         let v = first_value(over(rem, under), lesser(m, rem), is_odd(t));
-        changed = change(parts, i, v, changed);
+        if v != wide(parts[i - 1]) {
+            return Other { kind: i, value: v };
+        }
         rem -= v;
         t += v;
         i -= 1;
     }
-    change(parts, 1, rem, changed)
+    Other {
+        kind: 1,
+        value: rem,
+    }
 }
 
 // Makes the step in place and answers its pair, or answers 0 and 0 and changes nothing where no part can move. It goes forward where `total` is
@@ -181,7 +189,9 @@ fn turn_from(upper: &[u8], total: usize, start: PivotSums, parts: &mut [u8]) -> 
     if found.left < found.sum - u {
         return still();
     }
-    refill(upper, found, u, falling, parts)
+    parts[i] = u as u8;
+    let other = other_part(upper, found, u, parts);
+    change(parts, other.kind, other.value, moved(i, falling))
 }
 
 // The same, where of no part it is known that it cannot move.

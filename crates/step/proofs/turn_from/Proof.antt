@@ -1,13 +1,15 @@
 -- `step::turn_from` meets its contract: the laws of proofs/Turns at each return.
 use Prim.Native.Nat.{_≤_, _<_}
-use mathlib.Core.Path.{_≡_, sym, _∙_}
+use mathlib.Core.Path.{_≡_, refl, sym, ap, _∙_}
 use native.Mathlib.Omega.{arith}
-use lib.ListN.{length, getD}
+use lib.ListN.{length, getD, set, length-set}
 use borrow.Author.Needs.{needs}
 use Rattle.walsh.specs.Order.{isOdd}
 use Rattle.walsh.specs.Step.{nextValue}
 use Rattle.walsh.proofs.Transitions.{transition-same}
 use Rattle.step.proofs.Turns.{found-some, found-within, found-small, found-above, found-way, turn-last, turn-over, turn-on}
+use Rattle.step.specs.Turn.{Leaves}
+use Rattle.step.proofs.Notes.{traded}
 use Rattle.step.proofs.turn_from.Statement.{statement}
 use Rattle.step.proofs.turn_from.Tie as tie
 
@@ -61,31 +63,47 @@ returns-2 c =
       c .still2 .ensures ∙ sym (transition-same _),
     )
 
-refill-requires : tie.Need-refill-requires
-refill-requires c κs =
-    let next = c .before .before .before .before in
-    let odd = next .before .before .before in
-    let at = odd .before .before in
+-- what the part that moves leaves to those before it
+leaves : (c : tie.Else2) →
+    let next = c .before .before .before in
+    let start = next .before .before .before .before .before .before .before .before .before in
+    let f = next .before .before .before .before .before .pivot .result in
+    Leaves (start .args .upper .now) (set (start .args .parts .now) (f .at) (next .next-value .result)) f (next .next-value .result)
+leaves c =
+    let next = c .before .before .before in
+    let at = next .before .before .before .before .before in
     let start = at .before .before .before .before in
     let found = at .pivot .ensures in
     let bytes = small next in
-    let within = inside (odd .before) in
+    let within = inside (next .before .before .before .before) in
+    let size = length-set (start .args .parts .now) (at .pivot .result .at) (next .next-value .result) in
     record {
       some = found-some _ _ _ _ found;
-      inside = (omega (arith, within, start .pre .1), omega (arith, within), omega (arith, within, start .pre .0));
+      inside = (omega (arith, within, size, start .pre .1), omega (arith, within));
       left = (found .left, omega (arith, within, found .small, start .pre .0));
       value = (bytes .0, bytes .1);
       room = omega arith;
       right = omega (arith, bytes, start .pre .2);
-      way = found-way _ _ _ _ found within _ (value next) _ (odd .is-odd .ensures);
     }
 
 returns-3 : tie.Need-returns-3
 returns-3 c =
-    let next = c .before .before .before .before .before .before .before in
-    let found = next .before .before .before .before in
-    let done = c .before .before .refill .ensures in
-    (turn-on _ _ _ _ (found .before .pivot .ensures) (inside found) _ (value next) (omega arith) _ (done .0), done .1)
+    let room = c .before .before .before .before .before .before .before in
+    let next = room .before .before .before in
+    let odd = next .before .before .before in
+    let found = odd .before in
+    let at = found .before .pivot in
+    let start = found .before .before .before .before .before in
+    let other = c .before .before .before .before .before .other-part in
+    let within = inside found in
+    let done = c .before .before .change .ensures in
+    let u = next .next-value .result in
+    let way = found-way _ _ _ _ (at .ensures) within u (value next) _ (odd .is-odd .ensures) in (
+      done .0 ∙ turn-on _ _ _ _ (at .ensures) within u (value next) (leaves room .room) (other .result) (other .ensures),
+      rw (done .0, done .1, c .before .before .before .moved .ensures)
+          (traded (start .args .parts .now) (at .result .at) u (other .result .kind) (other .result .value) (odd .is-odd .result)
+          (omega (arith, within, start .pre .1)) (other .ensures .kind) way),
+    )
 
 pub turn-from-spec : {M : Type 1} → statement M
 turn-from-spec =
@@ -103,6 +121,22 @@ turn-from-spec =
     (λ c κs. search needs)
     (λ c. search needs)
     returns-2
-    refill-requires
-    (λ c. search needs)
+    (λ c. omega (arith, leaves c .value))
+    (λ c.
+    let found = c .before .before .before .before .before .before .before in
+    omega (arith, inside found, found .before .before .before .before .before .pre .1))
+    (λ c κs. leaves (c .before))
+    (λ c κs.
+    let found = c .before .before .before .before .before .before .before .before .before .before in
+    omega (arith, inside found, found .before .before .before .before .before .pre .0))
+    (λ c κs.
+    let room = c .before .before .before .before in
+    let other = c .before .before .other-part .ensures in
+    let within = leaves room .inside in (
+      other .kind .0,
+      omega (arith, other .kind, within),
+      omega (arith, other .kind, within, room .before .before .before .before .before .before .before .before .before .before .before .before .pre .0),
+      other .value,
+    ))
+    (λ c. ap length (c .before .before .change .ensures .0) ∙ simp length-set refl)
     returns-3)
