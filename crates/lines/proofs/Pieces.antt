@@ -9,7 +9,7 @@ use lib.ListN.{length}
 use borrow.Author.Tests.{lt-ltb, le-ltb}
 use Rattle.walsh.specs.Order.{Composition}
 use Rattle.walsh.specs.Serial.{compositionOf}
-use Rattle.walsh.specs.Transition.{transition, transitionAt}
+use Rattle.walsh.specs.Transition.{transitionAt}
 use Rattle.walsh.specs.declared.Transition.{Transition}
 use Rattle.walsh.proofs.Serials.{composition-is}
 use Rattle.walsh.proofs.Transitions.{transition-some}

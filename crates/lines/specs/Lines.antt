@@ -47,7 +47,7 @@ fitting lineOf k (suc n) room =
 -- ---- computed: the document's first line, `1 2 1 0 +0 -0`, and its sixth, `6 1 0 2 +3 -1`
 
 the-first : lineAt threeTwos 3 1 ≡ 49 ∷ 32 ∷ 50 ∷ 32 ∷ 49 ∷ 32 ∷ 48 ∷ 32 ∷ 43 ∷ 48 ∷ 32 ∷ 45 ∷ 48 ∷ 10 ∷ []
-unfolding lineAt copyLine countsThen pairEnd transitionAt compositionOf order listing decimal digitsOf
+unfolding lineAt copyLine countsThen pairEnd transitionAt gainFrom compositionOf order listing decimal digitsOf
 the-first = refl
 
 the-sixth : lineAt threeTwos 3 6 ≡ 54 ∷ 32 ∷ 49 ∷ 32 ∷ 48 ∷ 32 ∷ 50 ∷ 32 ∷ 43 ∷ 51 ∷ 32 ∷ 45 ∷ 49 ∷ 10 ∷ []

@@ -1,7 +1,7 @@
 // The lines that the listing program prints (document 01, "Listing program"; document 02, (i)).
 use walsh::Transition;
 ghost use mathlib.Core.Path.{_≡_};
-ghost use Prim.Native.Nat.{_+_, _*_, _≤_, _<_};
+ghost use Prim.Native.Nat.{_+_, _≤_, _<_};
 ghost use lib.Dec.{leb};
 ghost use lib.ListN.{length};
 ghost use Rattle.request.specs.Text.{decimal};
