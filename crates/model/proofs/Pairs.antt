@@ -1,13 +1,15 @@
 -- Laws of the pair that a look answers.
-use mathlib.Core.Path.{_≡_, refl, ap}
+use mathlib.Core.Path.{_≡_, refl, ap, _∙_}
 use mathlib.Core.Logic.{_≢_, _⊎_, inl, inr}
+use mathlib.Core.Bool.{true}
 use mathlib.Core.List.{List}
-use Prim.Native.Nat.{ℕ, _-_, _≤_, _<_}
+use Prim.Native.Nat.{ℕ, _+_, _-_, _≤_, _<_, min}
 use native.Mathlib.Omega.{arith}
 use lib.ListN.{length, take}
 use Rattle.walsh.specs.Order.{Composition}
 use Rattle.walsh.specs.Serial.{serialOf, compositionOf}
-use Rattle.walsh.specs.Transition.{none, Carries}
+use Rattle.walsh.specs.Transition.{none, transitionAt, Carries}
+use Rattle.walsh.specs.declared.Transition.{Transition}
 use Rattle.walsh.proofs.Cases.{on-less}
 use Rattle.walsh.proofs.Serials.{composition-is, serial-composition}
 use Rattle.walsh.proofs.Transitions.{transition-none, serial-carries}
@@ -17,10 +19,12 @@ use Rattle.model.specs.declared.Ledger.{Ledger}
 use Rattle.model.specs.Entry.{Entry, Lent}
 use Rattle.model.specs.Printing.{Printing, size, compositionAt, transitionTo}
 use Rattle.model.specs.Model.{Call, peek, claim, void, next, answer, refusedWith, told}
-use Rattle.model.specs.Record.{answered, peekedBy, peeking}
+use Rattle.model.specs.Record.{upperOf, printingOf, consistent, answered, peekedBy, peeking}
 use Rattle.model.proofs.Answers.{peek-open, peek-closed}
 use Rattle.model.proofs.Cells.{cells-neighbours}
 use Rattle.model.proofs.Compositions.{compositions-at}
+use Rattle.model.proofs.Records.{parts}
+use Rattle.model.proofs.Replies.{accepts, peek-next}
 
 -- ---- of a serial
 
@@ -28,6 +32,9 @@ module _ (p : Printing) (s : ℕ) where
   pub cells-of : compositionAt p s ≡ cellsOf (compositionOf (p .bounds) (p .total) s)
   unfolding compositionOf
   cells-of = compositions-at (p .bounds) (p .total) (s - 1)
+
+cells-front : (g : List ℕ) (n : ℕ) → length g ≡ n → take n (cellsOf g) ≡ g
+cells-front g n e = rw (← e) (cells-back g)
 
 -- a serial from 2 to N
 carries-at : (p : Printing) (s : ℕ) → 2 ≤ s → s ≤ size p
@@ -57,10 +64,39 @@ module _ (p : Printing) (l : List Entry) where
       → Carries (length (p .bounds)) (compositionAt p (answer p l c .serial - 1)) (answer p l c .composition) (told p c (answer p l c))
   told-some c e = rw e peek-carries
 
--- ---- of the record
+-- ---- of a peek over the record and the column
 
--- a refused peek has none
+-- a refused one has none
 pub peeking-refused : (r : Ledger) (col : Lent) (n d : ℕ) → answered r col peek ≡ refusedWith n d
     → peeking r col ≡ peekedBy (refusedWith n d) none
 unfolding peeking
 peeking-refused r col n d e = rw (e, transition-none _ _ 0 (omega arith))
+
+-- an accepted one has that of the record's own composition
+module _ (r : Ledger) (col : Lent) (t : consistent r col ≡ true) (left : r .entries < size (printingOf r))
+    (long : length (upperOf (r .bounds)) ≡ r .bounds .parts) where
+  abbrev p : Printing
+  p = printingOf r
+
+  abbrev s : ℕ
+  s = r .entries + 1
+
+  own-parts : take (r .bounds .parts) (r .next) ≡ compositionOf (p .bounds) (p .total) s
+  own-parts =
+      let now : min s (size p) ≡ s = omega arith in
+      let cells : r .next ≡ cellsOf (compositionOf (p .bounds) (p .total) s) =
+      parts r col t .next ∙ ap (compositionAt p) now ∙ cells-of p s in
+      let n : length (compositionOf (p .bounds) (p .total) s) ≡ r .bounds .parts =
+      composition-is (p .bounds) (p .total) s (omega arith) (omega arith) .size ∙ long in
+      ap (take (r .bounds .parts)) cells ∙ cells-front _ _ n
+
+  pub own-composition : Composition (p .bounds) (p .total) (take (r .bounds .parts) (r .next))
+  own-composition = rw own-parts (composition-is (p .bounds) (p .total) s (omega arith) (omega arith))
+
+  pub peeking-next : (x : Transition) → x ≡ transitionAt (p .bounds) (p .total) (serialOf (p .bounds) (p .total) (take (r .bounds .parts) (r .next)))
+      → peeking r col ≡ peekedBy (accepts r col t) x
+  unfolding peeking
+  peeking-next x e =
+      let serial : serialOf (p .bounds) (p .total) (take (r .bounds .parts) (r .next)) ≡ s =
+      rw own-parts (serial-composition (p .bounds) (p .total) s (omega arith) (omega arith)) in
+      rw (peek-next r col t (omega arith), e, serial)
