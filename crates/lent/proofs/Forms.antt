@@ -9,8 +9,8 @@ use Rattle.model.specs.Record.{printingOf, opening, answered, peekedBy, peeking
 use Rattle.model.specs.Whole.{secondList, Whole}
 use Rattle.model.specs.declared.Answer.{Answer}
 use Rattle.model.specs.declared.Claimed.{Claimed}
-use Rattle.model.specs.declared.Peeked.{Peeked}
 use Rattle.model.proofs.Records.{calling-peek}
+use Rattle.model.proofs.Pairs.{peeking-answer, peeking-pair}
 use Rattle.model.proofs.Whole.{from-opening}
 use Rattle.lent.specs.Forms.{Invocation, peek, claim, void, claim-in, void-in, callOf, State, ByValue, Lent, Does, Runs, start}
 
@@ -24,26 +24,16 @@ by-value c x a y p = (λ i. (record { answer = p .answer i; ledger = p .kept i }
 abbrev toldAt : Call → State → Answer → Transition
 toldAt c x a = told (printingOf (x .ledger)) c a
 
--- what is answered to a peek, apart
-module _ (x : State) (a : Answer) (t : Transition) (e : peekedBy a t ≡ peeking (x .ledger) (x .column)) where
-  peek-answer : a ≡ answered (x .ledger) (x .column) Call.peek
-  unfolding peeking
-  peek-answer = ap (λ (r : Peeked). record { number = r .number; detail = r .detail; serial = r .serial; composition = r .composition }) e
-
-  peek-pair : t ≡ toldAt Call.peek x a
-  unfolding peeking
-  peek-pair = ap (λ (r : Peeked). record { gain = r .gain; loss = r .loss }) e ∙ ap (toldAt Call.peek x) (sym peek-answer)
-
 -- a call at x, in whichever form
 pub does-call : (s : Invocation) (x : State) (a : Answer) (t : Transition) (y : State) → Does s x a t y → Lent (callOf s) x a y
-does-call peek x a t y p = rw (p .kept) (calling-peek (x .ledger) (x .column) a (peek-answer x a t (p .meets)))
+does-call peek x a t y p = rw (p .kept) (calling-peek (x .ledger) (x .column) a (peeking-answer (x .ledger) (x .column) a t (p .meets)))
 does-call (claim s e) x a t y p = by-value _ x a y (p .0)
 does-call (void s) x a t y p = by-value _ x a y (p .0)
 does-call (claim-in s e) x a t y p = p .0
 does-call (void-in s) x a t y p = p .0
 
 does-pair : (s : Invocation) (x : State) (a : Answer) (t : Transition) (y : State) → Does s x a t y → t ≡ toldAt (callOf s) x a
-does-pair peek x a t y p = peek-pair x a t (p .meets)
+does-pair peek x a t y p = peeking-pair (x .ledger) (x .column) a t (p .meets)
 does-pair (claim s e) x a t y p = p .1
 does-pair (void s) x a t y p = p .1
 does-pair (claim-in s e) x a t y p = p .1

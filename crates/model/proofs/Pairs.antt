@@ -1,5 +1,5 @@
 -- Laws of the pair that a look answers.
-use mathlib.Core.Path.{_≡_, refl, ap, _∙_}
+use mathlib.Core.Path.{_≡_, refl, sym, ap, _∙_}
 use mathlib.Core.Logic.{_≢_, _⊎_, inl, inr}
 use mathlib.Core.Bool.{true}
 use mathlib.Core.List.{List}
@@ -15,7 +15,9 @@ use Rattle.walsh.proofs.Serials.{composition-is, serial-composition}
 use Rattle.walsh.proofs.Transitions.{transition-none, serial-carries}
 use Rattle.bounds.specs.Edition.{cellsOf}
 use Rattle.bounds.proofs.Cells.{cells-back}
+use Rattle.model.specs.declared.Answer.{Answer}
 use Rattle.model.specs.declared.Ledger.{Ledger}
+use Rattle.model.specs.declared.Peeked.{Peeked}
 use Rattle.model.specs.Entry.{Entry, Lent}
 use Rattle.model.specs.Printing.{Printing, size, compositionAt, transitionTo}
 use Rattle.model.specs.Model.{Call, peek, claim, void, next, answer, refusedWith, told}
@@ -65,6 +67,16 @@ module _ (p : Printing) (l : List Entry) where
   told-some c e = rw e peek-carries
 
 -- ---- of a peek over the record and the column
+
+-- its answer and its pair, apart
+module _ (r : Ledger) (col : Lent) (a : Answer) (x : Transition) (e : peekedBy a x ≡ peeking r col) where
+  pub peeking-answer : a ≡ answered r col peek
+  unfolding peeking
+  peeking-answer = ap (λ (y : Peeked). record { number = y .number; detail = y .detail; serial = y .serial; composition = y .composition }) e
+
+  pub peeking-pair : x ≡ told (printingOf r) peek a
+  unfolding peeking
+  peeking-pair = ap (λ (y : Peeked). record { gain = y .gain; loss = y .loss }) e ∙ ap (told (printingOf r) peek) (sym peeking-answer)
 
 -- a refused one has none
 pub peeking-refused : (r : Ledger) (col : Lent) (n d : ℕ) → answered r col peek ≡ refusedWith n d
