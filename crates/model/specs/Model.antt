@@ -7,7 +7,9 @@ use mathlib.Core.List.{List, [], _∷_, _++_}
 use Prim.Native.Nat.{ℕ}
 use lib.Dec.{ltb, eqb}
 use lib.ListN.{length, getD}
-use Rattle.walsh.specs.Transition.{none}
+use Rattle.walsh.specs.Order.{order, listing}
+use Rattle.walsh.specs.Serial.{compositionOf}
+use Rattle.walsh.specs.Transition.{none, transitionAt, gainFrom}
 use Rattle.walsh.specs.declared.Transition.{Transition}
 use Rattle.bounds.specs.Refusal.{Check, check, firstRefusal, decided}
 use Rattle.bounds.specs.Places.{outside}
@@ -123,6 +125,18 @@ abbrev pub told : Printing → Call → Answer → Transition
 told p peek a = transitionTo p (a .serial)
 told p (claim s e) a = none
 told p (void s) a = none
+
+-- for example, of the two copies 1 0 and 0 1 the second kind gains what the first loses
+twoOnes : Printing
+twoOnes = record { bounds = 1 ∷ 1 ∷ []; total = 1 }
+
+look-first : told twoOnes peek (given twoOnes 1) ≡ none
+unfolding twoOnes transitionAt
+look-first = refl
+
+look-second : told twoOnes peek (given twoOnes 2) ≡ record { gain = 2; loss = 1 }
+unfolding twoOnes transitionAt gainFrom compositionOf order listing
+look-second = refl
 
 -- a call with its answer and the pair
 pub record Event : Type 0 where

@@ -62,6 +62,7 @@ pub fn peek(ledger: Ledger, orders: &[u32]) -> Peeked
     if seen.count <= ledger.entries {
         return unseen(21, 0);
     }
+    let serial = ledger.entries + 1;
     let n = ledger.bounds.parts;
     let upper = ledger.bounds.upper;
     let composition = ledger.next;
@@ -69,7 +70,7 @@ pub fn peek(ledger: Ledger, orders: &[u32]) -> Peeked
     Peeked {
         number: 0,
         detail: 0,
-        serial: ledger.entries + 1,
+        serial,
         composition,
         gain: pair.gain,
         loss: pair.loss,

@@ -54,17 +54,15 @@ few-upper c = omega (arith, few c, long (c .before .before .before .before .befo
 few-next : (c : tie.Else2) → let l = c .before .before .before .before .before .before .before .args .ledger in l .bounds .parts ≤ length (l .next)
 few-next c = omega (arith, few c, long-next (c .before .before .before .before .before .before .before))
 
-add-t13 : tie.Need-add-t13
-add-t13 c =
-    let e = c .before .before .before .before .before .before in
-    omega (arith, left e, parts _ _ (fits (e .before .before .before)) .small)
+add-serial : tie.Need-add-serial
+add-serial c = omega (arith, left (c .before), parts _ _ (fits (c .before .before .before .before)) .small)
 
 returns-3 : tie.Need-returns-3
 returns-3 c =
     let e = c .before .before .before .before .before .before in
     let t = fits (e .before .before .before) in
     let n = length-take-le _ _ (few-upper e) in
-    let pair = c .before .transition-to .ensures .pair (omega (arith, few e, n)) (own-composition _ _ t (left e) n) in
+    let pair = c .transition-to .ensures .pair (omega (arith, few e, n)) (own-composition _ _ t (left e) n) in
     sym (peeking-next _ _ t (left e) n _ pair)
 
 pub peek-spec : {M : Type 1} → statement M
@@ -76,10 +74,10 @@ peek-spec =
     returns
     (λ c κs. search needs)
     returns-2
-    (λ c. few-upper (c .before .before))
-    (λ c. sym (length-take-le _ _ (few-upper (c .before .before .before))))
-    (λ c. few-next (c .before .before .before))
-    (λ c. sym (length-take-le _ _ (few-next (c .before .before .before .before))))
+    add-serial
+    (λ c. few-upper (c .before .before .before))
+    (λ c. sym (length-take-le _ _ (few-upper (c .before .before .before .before))))
+    (λ c. few-next (c .before .before .before .before))
+    (λ c. sym (length-take-le _ _ (few-next (c .before .before .before .before .before))))
     (λ c κs. search needs)
-    add-t13
     returns-3)
