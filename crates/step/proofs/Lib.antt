@@ -1,4 +1,5 @@
 pub mod Refills
+pub mod Notes
 pub mod Pivots
 pub mod Turns
 pub mod Ways

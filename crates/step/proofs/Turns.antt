@@ -1,11 +1,12 @@
 -- Moving a part: the turn of any bytes in the code's numbers, and what it is for a composition.
 use mathlib.Core.Path.{_≡_, refl, _∙_}
-use mathlib.Core.Bool.{Bool, true, false, cond, true≢false, false≢true}
-use mathlib.Core.List.{List, _++_}
+use mathlib.Core.Logic.{_⊎_, inl, inr}
+use mathlib.Core.Bool.{Bool, true, false, cond}
+use mathlib.Core.List.{List}
 use Prim.Native.Nat.{ℕ, zero, suc, _+_, _-_, _≤_, _<_}
 use native.Mathlib.Omega.{arith}
 use lib.Dec.{ltb}
-use lib.ListN.{length, getD, set, drop}
+use lib.ListN.{length, getD}
 use borrow.Author.Tests.{ltb-true, ltb-false, lt-ltb, le-ltb, le-leb, lt-leb}
 use Rattle.walsh.specs.Sums.{sumTo}
 use Rattle.walsh.specs.Order.{CompositionTo, isOdd, least, most}
@@ -14,10 +15,9 @@ use Rattle.walsh.proofs.Cases.{on-less}
 use Rattle.walsh.proofs.Complete.{composition-low, composition-high}
 use Rattle.walsh.proofs.Ends.{next-low, rest-fits}
 use Rattle.step.specs.Advance.{canMove, pivotOf, restAt, turnAt, turnOf}
-use Rattle.step.specs.Turn.{PivotAt}
+use Rattle.step.specs.Turn.{PivotAt, refilled}
 use Rattle.step.specs.declared.PivotSums.{PivotSums}
 use Rattle.step.proofs.Pivots.{pivot-first}
-use Rattle.step.proofs.Refills.{drop-set}
 
 -- ---- a value v among lo..hi
 
@@ -44,7 +44,7 @@ module _ (ms : List ℕ) (w : ℕ) (g : List ℕ) (f : PivotSums) (found : Pivot
   pub found-within : 0 < length ms → f .at ≤ length ms
   found-within some = omega (arith, found .first, pivot-first ms w g .high)
 
-  pub turn-last : length ms ≤ f .at → _≡_ {A = Bool × List ℕ} (false, g) (turnOf ms w g)
+  pub turn-last : length ms ≤ f .at → g ≡ turnOf ms w g
   unfolding turnAt
   turn-last e = rw (← (found .first), le-ltb (f .at) (length ms) e)
 
@@ -68,24 +68,21 @@ module _ (ms : List ℕ) (w : ℕ) (g : List ℕ) (f : PivotSums) (found : Pivot
     found-small bytes byte =
         (within 255 byte (omega arith), rw (found .sum inside) (within _ (omega arith) (omega arith)), rw (found .right inside) (omega arith))
 
-    pub turn-over : f .left < f .sum - u → _≡_ {A = Bool × List ℕ} (false, g) (turnOf ms w g)
+    pub turn-over : f .left < f .sum - u → g ≡ turnOf ms w g
     unfolding turnAt
     turn-over l =
         rw (← (found .first), lt-ltb (f .at) (length ms) inside, ← rest-is, ← (found .left), lt-leb (f .sum - u) (f .left) l)
 
-    step-is : length g ≡ length ms → (h : List ℕ)
-        → h ≡ firstOf ms (f .at) (f .sum - u) (f .right + u) ++ drop (f .at) (set g (f .at) u)
-        → h ≡ stepAt ms w g (f .at)
+    step-is : refilled ms g f u ≡ stepAt ms w g (f .at)
     unfolding stepAt
-    step-is size h eh = eh ∙ rw (drop-set g (f .at) u (omega arith), found .sum inside, found .right inside, value)
+    step-is = rw (found .sum inside, found .right inside, value)
 
-    pub turn-on : length g ≡ length ms → f .sum - u ≤ f .left → (h : List ℕ)
-        → h ≡ firstOf ms (f .at) (f .sum - u) (f .right + u) ++ drop (f .at) (set g (f .at) u)
-        → _≡_ {A = Bool × List ℕ} (true, h) (turnOf ms w g)
+    pub turn-on : f .sum - u ≤ f .left → (h : List ℕ) → h ≡ refilled ms g f u → h ≡ turnOf ms w g
     unfolding turnAt
-    turn-on size l h eh =
-        let is = step-is size h eh in
-        rw (← (found .first), lt-ltb (f .at) (length ms) inside, ← rest-is, ← (found .left), le-leb (f .sum - u) (f .left) l, ← is)
+    turn-on l h eh =
+        eh
+        ∙ step-is
+        ∙ rw (← (found .first), lt-ltb (f .at) (length ms) inside, ← rest-is, ← (found .left), le-leb (f .sum - u) (f .left) l)
 
 -- ---- parts that are within their bounds and sum to at most w, as those of a composition do
 
@@ -93,10 +90,12 @@ pub record Moving (ms : List ℕ) (w : ℕ) (g : List ℕ) : Type 0 where
   pub fits : (i : ℕ) → i < length ms → getD g i 0 ≤ getD ms i 0
   pub reached : sumTo g (length ms) ≤ w
 
--- the step from g, which answers b and leaves h: at its pivot, or none where every part is at its last value
-pub record Turn (ms : List ℕ) (w : ℕ) (g : List ℕ) (b : Bool) (h : List ℕ) : Type 0 where
-  pub on : b ≡ true → (i : ℕ) × (i < length ms) × Pivot ms w g i × (h ≡ stepAt ms w g i)
-  pub off : b ≡ false → ((j : ℕ) → j < length ms → AtLast ms w g j) × (h ≡ g)
+-- the step from g leaves h: by a move at its pivot, or unmoved, where every part is at its last value
+abbrev pub AtPivot : List ℕ → ℕ → List ℕ → List ℕ → Type 0
+AtPivot ms w g h = (i : ℕ) × (i < length ms) × Pivot ms w g i × (h ≡ stepAt ms w g i)
+
+abbrev pub AtEnd : List ℕ → ℕ → List ℕ → List ℕ → Type 0
+AtEnd ms w g h = ((j : ℕ) → j < length ms → AtLast ms w g j) × (h ≡ g)
 
 module _ (ms : List ℕ) (w : ℕ) (g : List ℕ) where
   -- the parts up to i
@@ -132,7 +131,7 @@ module _ (ms : List ℕ) (w : ℕ) (g : List ℕ) where
         (λ a _. first-stays (omega arith) m j a)
         (λ a _. part-stays j l (pivot-first ms w g .passed j a b) m)
 
-    at-on : at < length ms → (canMove ms w g at ≡ true) × (turnOf ms w g ≡ (true, stepAt ms w g at))
+    at-on : at < length ms → (canMove ms w g at ≡ true) × (turnOf ms w g ≡ stepAt ms w g at)
     unfolding turnAt
     at-on l =
         let can = pivot-first ms w g .can (omega arith) in
@@ -140,17 +139,12 @@ module _ (ms : List ℕ) (w : ℕ) (g : List ℕ) where
         let low = next-low (least ms at rem) (most ms at rem) (isOdd (w - rem)) (getD g at 0) (composition-low (upTo m at l)) (part-moves at can) in
         (can, rw (lt-ltb at (length ms) l, le-leb (restAt w g at) (sumTo ms at) (rest-fits ms at rem _ low)))
 
-    at-off : length ms ≤ at → turnOf ms w g ≡ (false, g)
+    at-off : length ms ≤ at → turnOf ms w g ≡ g
     unfolding turnAt
     at-off l = rw (le-ltb at (length ms) l)
 
-    pub turned : Turn ms w g (turnOf ms w g .0) (turnOf ms w g .1)
+    pub turned : AtPivot ms w g (turnOf ms w g) ⊎ AtEnd ms w g (turnOf ms w g)
     turned =
         on-less at (length ms)
-        (λ l _.
-        rw (at-on l .1)
-        (record {
-          on = λ t. (at, l, record { done = λ j b. passed-last j (omega arith) b; moves = part-moves at (at-on l .0) }, refl);
-          off = λ t. absurd (true≢false t);
-        }))
-        (λ l _. rw (at-off l) (record { on = λ t. absurd (false≢true t); off = λ t. (λ j b. passed-last j b (omega arith), refl) }))
+        (λ l _. inl (at, l, record { done = λ j b. passed-last j (omega arith) b; moves = part-moves at (at-on l .0) }, at-on l .1))
+        (λ l _. inr (λ j b. passed-last j b (omega arith), at-off l))

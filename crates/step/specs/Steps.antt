@@ -10,6 +10,7 @@ use lib.Dec.{eqb}
 use Rattle.walsh.specs.Order.{listing, order, count, countOf, threeTwos}
 use Rattle.walsh.specs.Serial.{same, placeOf, serialOf, compositionOf}
 use Rattle.walsh.specs.Transition.{gainFrom, transition}
+use Rattle.walsh.specs.declared.Transition.{Transition}
 use Rattle.bounds.specs.Refusal.{Check, check, firstRefusal, decided}
 use Rattle.bounds.specs.Edition.{firstOutside, editionChecks, cellsOf, blank}
 use Rattle.bounds.specs.Places.{compositionChecks}
@@ -43,6 +44,14 @@ successorOf ms r g = stepOf false ms r g
 
 abbrev pub predecessorOf : List ℕ → ℕ → List ℕ → Stepped
 predecessorOf ms r g = stepOf true ms r g
+
+-- the pair of a step's answer
+abbrev pub pairOf : Stepped → Transition
+pairOf x = record { gain = x .gain; loss = x .loss }
+
+-- the answer of the step back to g from what x answered: the kinds are exchanged
+abbrev pub backFrom : Stepped → List ℕ → Stepped
+backFrom x g = record { number = 0; detail = 0; composition = cellsOf g; gain = x .loss; loss = x .gain }
 
 -- ---- the seven compositions of bounds 2 2 2 with total 3: 9 after the last and before the first, computed
 

@@ -16,7 +16,7 @@ ghost use mathlib.Core.Path.{_≡_};
 ghost use mathlib.Core.Bool.{cond};
 ghost use Prim.Native.Nat.{_+_, _≤_, _<_};
 ghost use lib.Dec.{ltb};
-ghost use lib.ListN.{length};
+ghost use lib.ListN.{length, getD, set};
 ghost use Rattle.walsh.specs.Transition.{transition, none};
 ghost use Rattle.bounds.specs.Edition.{blank};
 ghost use Rattle.step.specs.Steps.{stepOf, successorOf, predecessorOf};
@@ -88,14 +88,18 @@ fn chosen(test: bool, yes: u32, no: u32) -> u32
     if test { yes } else { no }
 }
 
-// What changes from part i on, where that goes from `old` to `new`, and `behind` is what changes behind it.
-fn note(behind: Transition, i: usize, old: usize, new: usize) -> Transition
-    requires { ⌜ (i < 24) × (old ≤ 255) × (new ≤ 255) ⌝ }
-    ensures { λ r. ⌜ r ≡ noting behind i old new ⌝ }
+// Part i gets the value v. The answer is what changes from part i on, where `behind` is what changes behind it.
+fn change(parts: &mut [u8], i: usize, v: usize, behind: Transition) -> Transition
+    requires { ⌜ (i < length (now parts)) × (i < 24) × (v ≤ 255) ⌝ }
+    ensures { λ r.
+        ⌜ (now (parts .exit) ≡ set (now (parts .entry)) i v)
+        × (r ≡ noting behind i (getD (now (parts .entry)) i 0) v) ⌝ }
 {
+    let old = wide(parts[i]);
     let kind = (i + 1) as u32;
-    let gain = chosen(new == old + 1, kind, behind.gain);
-    let loss = chosen(old == new + 1, kind, behind.loss);
+    let gain = chosen(v == old + 1, kind, behind.gain);
+    let loss = chosen(old == v + 1, kind, behind.loss);
+    parts[i] = v as u8;
     Transition { gain, loss }
 }
 
@@ -114,8 +118,7 @@ fn refill(upper: &[u8], found: PivotSums, u: usize, parts: &mut [u8]) -> Transit
         × (r ≡ transition (now (parts .entry)) (now (parts .exit))) ⌝ }
 {
     let mut i = found.at;
-    let mut changed = note(still(), i, wide(parts[i]), u);
-    parts[i] = u as u8;
+    let mut changed = change(parts, i, u, still());
     let mut under = found.left;
     let mut rem = found.sum - u;
     let mut t = found.right + u;
@@ -124,14 +127,11 @@ fn refill(upper: &[u8], found: PivotSums, u: usize, parts: &mut [u8]) -> Transit
         let m = wide(upper[i]);
         under -= m;
         let v = first_value(over(rem, under), lesser(m, rem), is_odd(t));
-        changed = note(changed, i, wide(parts[i]), v);
-        parts[i] = v as u8;
+        changed = change(parts, i, v, changed);
         rem -= v;
         t += v;
     }
-    changed = note(changed, 0, wide(parts[0]), rem);
-    parts[0] = rem as u8;
-    changed
+    change(parts, 0, rem, changed)
 }
 
 // Makes the step in place and answers its pair, or answers 0 and 0 and changes nothing where no part can move. It goes forward where `total` is

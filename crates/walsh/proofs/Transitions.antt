@@ -19,7 +19,7 @@ use Rattle.walsh.proofs.Gray.{gray, gain-is, neighbours-sym}
 -- ---- of any two lists
 
 -- nothing changed
-gain-same : (k : ℕ) (g : List ℕ) → gainFrom k g g ≡ 0
+pub gain-same : (k : ℕ) (g : List ℕ) → gainFrom k g g ≡ 0
 unfolding gainFrom
 gain-same k [] = refl
 gain-same k (x ∷ g) = rw (ne-eqb x (x + 1) (λ e. omega arith)) (gain-same (k + 1) g)

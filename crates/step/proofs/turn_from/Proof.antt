@@ -1,18 +1,20 @@
 -- `step::turn_from` meets its contract: the laws of proofs/Turns at each return.
 use Prim.Native.Nat.{_≤_, _<_}
-use mathlib.Core.Path.{_≡_, _∙_}
+use mathlib.Core.Path.{_≡_, sym, _∙_}
 use native.Mathlib.Omega.{arith}
-use lib.ListN.{length, getD, length-set}
+use lib.ListN.{length, getD}
 use borrow.Author.Needs.{needs}
 use Rattle.walsh.specs.Order.{isOdd}
 use Rattle.walsh.specs.Step.{nextValue}
+use Rattle.walsh.proofs.Transitions.{transition-same}
 use Rattle.step.proofs.Turns.{found-some, found-within, found-small, turn-last, turn-over, turn-on}
 use Rattle.step.proofs.turn_from.Statement.{statement}
 use Rattle.step.proofs.turn_from.Tie as tie
 
 -- no part can move
 returns : tie.Need-returns
-returns c = turn-last _ _ _ _ (c .before .pivot .ensures) (omega (arith, c .if1 .taken))
+returns c =
+    (turn-last _ _ _ _ (c .before .before .pivot .ensures) (omega (arith, c .before .if1 .taken)), c .still .ensures ∙ sym (transition-same _))
 
 some-at : (c : tie.Start) → 0 < length (c .args .upper .now)
 some-at c = omega (arith, c .pre .3 .some, c .pre .3 .within)
@@ -47,45 +49,40 @@ small c =
 -- the rest has no room
 returns-2 : tie.Need-returns-2
 returns-2 c =
-    let next = c .before .before .before in
-    turn-over _ _ _ _ (next .before .before .before .before .pivot .ensures) (inside next) _ (value next) (omega arith)
+    let next = c .before .before .before .before in (
+      turn-over _ _ _ _ (next .before .before .before .before .pivot .ensures) (inside next) _ (value next) (omega arith),
+      c .still2 .ensures ∙ sym (transition-same _),
+    )
 
 refill-requires : tie.Need-refill-requires
 refill-requires c κs =
-    let next = c .before .before .before .before .before in
+    let next = c .before .before .before .before in
     let at = next .before .before .before .before in
     let start = at .before .before .before .before in
     let found = at .pivot .ensures in
-    let same = length-set (start .args .parts .now) (at .pivot .result .at) (next .next-value .result) in
-    let bytes = small next in (
-      found-some _ _ _ _ found,
-      omega (arith, inside next),
-      omega (arith, inside next, same, start .pre .1),
-      found .left,
-      omega arith,
-      omega (arith, inside next, found .small, start .pre .0),
-      omega arith,
-    )
-
-same-length-3 : tie.Need-same-length-3
-same-length-3 c =
-    let next = c .before .before .before .before .before .before .before .before in
-    let at = next .before .before .before .before in
-    c .before .before .refill .kept .1 .1 .1 .1 .1 .0
-    ∙ length-set (at .before .before .before .before .args .parts .now) (at .pivot .result .at) (next .next-value .result)
+    let bytes = small next in
+    let within = inside next in
+    record {
+      some = found-some _ _ _ _ found;
+      inside = (omega (arith, within, start .pre .1), omega (arith, within), omega (arith, within, start .pre .0));
+      left = (found .left, omega (arith, within, found .small, start .pre .0));
+      value = (bytes .0, bytes .1);
+      room = omega arith;
+      right = omega (arith, bytes, start .pre .2);
+    }
 
 returns-3 : tie.Need-returns-3
 returns-3 c =
-    let next = c .before .before .before .before .before .before .before .before in
+    let next = c .before .before .before .before .before .before .before in
     let at = next .before .before .before .before in
-    let w = c .before .before .refill in
-    turn-on _ _ _ _ (at .pivot .ensures) (inside next) _ (value next) (at .before .before .before .before .pre .1) (omega arith)
-    (w .last .1 .1 .1 .1 .1 .0) (w .ensures)
+    let done = c .before .before .refill .ensures in
+    (turn-on _ _ _ _ (at .pivot .ensures) (inside next) _ (value next) (omega arith) _ (done .0), done .1)
 
 pub turn-from-spec : {M : Type 1} → statement M
 turn-from-spec =
     tie.close
     (tie.spec
+    (λ c κs. search needs)
     (λ c κs. search needs)
     (λ c. search needs)
     returns
@@ -96,13 +93,9 @@ turn-from-spec =
     (λ c κs. search needs)
     (λ c κs. search needs)
     (λ c. small (c .before) .1)
+    (λ c κs. search needs)
     (λ c. search needs)
     returns-2
-    (λ c. omega (arith, small (c .before .before .before)))
-    (λ c.
-    let next = c .before .before .before in
-    omega (arith, inside next, next .before .before .before .before .before .before .before .before .pre .1))
-    (λ c. omega (arith, small (c .before .before .before .before)))
     refill-requires
-    same-length-3
+    (λ c. search needs)
     returns-3)
