@@ -1,6 +1,6 @@
 -- What changes from part i on, noted from the last part to the first.
 use mathlib.Core.Path.{_≡_, refl, sym, ap, _∙_}
-use mathlib.Core.Bool.{true, false}
+use mathlib.Core.Bool.{Bool, true, false}
 use mathlib.Core.List.{List}
 use Prim.Native.Nat.{ℕ, suc, _+_, _-_, _≤_, _<_}
 use native.Mathlib.Numerals.{add-one}
@@ -8,14 +8,14 @@ use native.Mathlib.Omega.{arith}
 use lib.Dec.{eqb}
 use lib.ListN.{length, getD, set, drop, length-set}
 use lib.Seq.{getD-set-same, getD-set-other, drop-set-lt}
-use borrow.Author.Tests.{eqb-true}
+use borrow.Author.Tests.{eqb-true, lt-ltb, le-ltb}
 use Rattle.walsh.specs.Transition.{gainFrom, transition, none}
 use Rattle.walsh.specs.declared.Transition.{Transition}
 use Rattle.walsh.proofs.Cases.{on-test}
 use Rattle.walsh.proofs.Tests.{both-left, both-right}
 use Rattle.walsh.proofs.Transitions.{gain-same, gain-next}
 use Rattle.bounds.specs.Edition.{cellsOf, blank}
-use Rattle.step.specs.Turn.{transitionFrom, noting, isNone, shiftedBy}
+use Rattle.step.specs.Turn.{transitionFrom, noting, movedBy, isNone, shiftedBy}
 
 -- h differs from g from part i on alone, and x is what changes there
 pub record Noted (g h : List ℕ) (i : ℕ) (x : Transition) : Type 0 where
@@ -43,10 +43,15 @@ noted-next {g} {h} {x} i v l n =
           (rw (n .is)));
     }
 
--- the same in the code's words: part i is the first to change, and then the one before part i is
-pub noted-first : {g h : List ℕ} {x y : Transition} (i v : ℕ) → i < length g → y ≡ none
-    → h ≡ set g i v → x ≡ noting y i (getD g i 0) v → Noted g h i x
-noted-first {g} {h} {x} {y} i v l ey eh ex = rw (eh, ex, ey) (noted-next i v l (noted-none g (i + 1)))
+-- the same in the code's words: part i is the first to change, and then the one before part i does
+pub noted-first : {g h : List ℕ} {x : Transition} (i v : ℕ) (falling : Bool) → i < length g
+    → (falling ≡ true → v < getD g i 0) × (falling ≡ false → getD g i 0 < v)
+    → h ≡ set g i v → x ≡ movedBy falling i → Noted g h i x
+noted-first {g} {h} {x} i v falling l way eh ex = rw (eh, ex, go falling way) (noted-next i v l (noted-none g (i + 1)))
+  where
+    go : (b : Bool) → (b ≡ true → v < getD g i 0) × (b ≡ false → getD g i 0 < v) → movedBy b i ≡ noting none i (getD g i 0) v
+    go true w = let l = w .0 refl in rw (lt-ltb v (getD g i 0) l, le-ltb (getD g i 0) v (omega arith))
+    go false w = let l = w .1 refl in rw (lt-ltb (getD g i 0) v l, le-ltb v (getD g i 0) (omega arith))
 
 pub noted-before : {g h after : List ℕ} {x y : Transition} (i v : ℕ) → 0 < i → i ≤ length h → Noted g h i y
     → after ≡ set h (i - 1) v → x ≡ noting y (i - 1) (getD h (i - 1) 0) v → Noted g after (i - 1) x

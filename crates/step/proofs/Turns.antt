@@ -1,7 +1,7 @@
 -- Moving a part: the turn of any bytes in the code's numbers, and what it is for a composition.
 use mathlib.Core.Path.{_≡_, refl, _∙_}
 use mathlib.Core.Logic.{_⊎_, inl, inr}
-use mathlib.Core.Bool.{Bool, true, false, cond}
+use mathlib.Core.Bool.{Bool, true, false, cond, true≢false, false≢true}
 use mathlib.Core.List.{List}
 use Prim.Native.Nat.{ℕ, zero, suc, _+_, _-_, _≤_, _<_}
 use native.Mathlib.Omega.{arith}
@@ -35,6 +35,12 @@ module _ (lo hi v : ℕ) where
   value-within true s e l h = omega arith
   value-within false s e l h = omega (arith, ltb-true v hi e)
 
+  -- and on its way
+  value-way : (falling : Bool) → cond falling (ltb lo v) (ltb v hi) ≡ true
+      → (falling ≡ true → nextValue falling v < v) × (falling ≡ false → v < nextValue falling v)
+  value-way true e = (λ _. omega (arith, ltb-true lo v e), λ q. absurd (true≢false q))
+  value-way false e = (λ q. absurd (false≢true q), λ _. omega arith)
+
 -- ---- the turn of any bytes: u is the next value of the part that was found
 
 module _ (ms : List ℕ) (w : ℕ) (g : List ℕ) (f : PivotSums) (found : PivotAt ms w g f) where
@@ -67,6 +73,13 @@ module _ (ms : List ℕ) (w : ℕ) (g : List ℕ) (f : PivotSums) (found : Pivot
     pub found-small : getD ms (f .at) 0 ≤ 255 → getD g (f .at) 0 ≤ 255 → (u ≤ 255) × (u ≤ f .sum) × (f .right ≤ w)
     found-small bytes byte =
         (within 255 byte (omega arith), rw (found .sum inside) (within _ (omega arith) (omega arith)), rw (found .right inside) (omega arith))
+
+    pub found-way : (falling : Bool) → falling ≡ isOdd (f .right)
+        → (falling ≡ true → u < getD g (f .at) 0) × (falling ≡ false → getD g (f .at) 0 < u)
+    found-way falling e =
+        let rem : ℕ = sumTo g (suc (f .at)) in
+        rw (e, value, found .right inside)
+        (value-way (least ms (f .at) rem) (most ms (f .at) rem) (getD g (f .at) 0) (isOdd (w - rem)) can)
 
     pub turn-over : f .left < f .sum - u → g ≡ turnOf ms w g
     unfolding turnAt

@@ -1,10 +1,10 @@
 -- What the functions inside the step promise, of any bytes g. The sums to the right are counted from a total w: r forward, r + 1 backward.
 use mathlib.Core.Path.{_≡_}
-use mathlib.Core.Bool.{Bool, cond}
+use mathlib.Core.Bool.{Bool, true, false, cond}
 use mathlib.Core.List.{List, _∷_, _++_}
 use Prim.Native.Nat.{ℕ, suc, _+_, _-_, _*_, _≤_, _<_}
-use lib.Dec.{eqb}
-use lib.ListN.{length, drop}
+use lib.Dec.{eqb, ltb}
+use lib.ListN.{length, getD, drop}
 use Rattle.walsh.specs.Tests.{both}
 use Rattle.walsh.specs.Sums.{sumTo}
 use Rattle.walsh.specs.Step.{firstOf}
@@ -37,14 +37,15 @@ pub record PivotAt (ms : List ℕ) (w : ℕ) (g : List ℕ) (f : PivotSums) : Ty
 abbrev pub refilled : List ℕ → List ℕ → PivotSums → ℕ → List ℕ
 refilled ms g f u = firstOf ms (f .at) (f .sum - u) (f .right + u) ++ (u ∷ drop (suc (f .at)) g)
 
--- they have room for it, and all stays within bytes
-pub record Refills (ms g : List ℕ) (f : PivotSums) (u : ℕ) : Type 0 where
+-- they have room for it, all stays within bytes, and u is on the way that part goes
+pub record Refills (ms g : List ℕ) (f : PivotSums) (u : ℕ) (falling : Bool) : Type 0 where
   pub some : 0 < f .at
   pub inside : (f .at < length g) × (f .at ≤ length ms) × (f .at < 24)
   pub left : (f .left ≡ sumTo ms (f .at)) × (f .left < 65536)
   pub value : (u ≤ 255) × (u ≤ f .sum)
   pub room : f .sum - u ≤ f .left
   pub right : f .right ≤ 4294967296
+  pub way : (falling ≡ true → u < getD g (f .at) 0) × (falling ≡ false → getD g (f .at) 0 < u)
 
 -- ---- the pair, part by part from the last to the first
 
@@ -54,7 +55,11 @@ transitionFrom i g h = record { gain = gainFrom (i + 1) (drop i g) (drop i h); l
 
 -- the same, where part i goes from u to v, and x is what changes behind it
 abbrev pub noting : Transition → ℕ → ℕ → ℕ → Transition
-noting x i u v = record { gain = cond (eqb v (u + 1)) (i + 1) (x .gain); loss = cond (eqb u (v + 1)) (i + 1) (x .loss) }
+noting x i u v = record { gain = cond (ltb u v) (i + 1) (x .gain); loss = cond (ltb v u) (i + 1) (x .loss) }
+
+-- the same, where only part i moves
+abbrev pub movedBy : Bool → ℕ → Transition
+movedBy falling i = cond falling (record { gain = 0; loss = i + 1 }) (record { gain = i + 1; loss = 0 })
 
 -- ---- the answer of a step that finds g and leaves h: 9 where nothing changes
 

@@ -21,7 +21,7 @@ ghost use Rattle.walsh.specs.Transition.{transition, none};
 ghost use Rattle.bounds.specs.Edition.{blank};
 ghost use Rattle.step.specs.Steps.{stepOf, successorOf, predecessorOf};
 ghost use Rattle.step.specs.Advance.{turnOf, sized, Advances, Leads};
-ghost use Rattle.step.specs.Turn.{Begins, PivotAt, Refills, refilled, noting, isNone, shiftedBy};
+ghost use Rattle.step.specs.Turn.{Begins, PivotAt, Refills, refilled, noting, movedBy, isNone, shiftedBy};
 
 // A composition in 24 cells and the kinds that gained and lost a unit on the way to it, or a refusal's number and detail with all else 0.
 #[repr(C)]
@@ -97,8 +97,8 @@ fn change(parts: &mut [u8], i: usize, v: usize, behind: Transition) -> Transitio
 {
     let old = wide(parts[i]);
     let kind = (i + 1) as u32;
-    let gain = chosen(v == old + 1, kind, behind.gain);
-    let loss = chosen(old == v + 1, kind, behind.loss);
+    let gain = chosen(old < v, kind, behind.gain);
+    let loss = chosen(v < old, kind, behind.loss);
     parts[i] = v as u8;
     Transition { gain, loss }
 }
@@ -110,15 +110,34 @@ fn still() -> Transition
     Transition { gain: 0, loss: 0 }
 }
 
-// Part `found.at` takes the value u, and the parts before it are filled with the first composition of what it leaves to them.
-fn refill(upper: &[u8], found: PivotSums, u: usize, parts: &mut [u8]) -> Transition
-    requires { ⌜ Refills (now upper) (now parts) found u ⌝ }
+// What changes from part i on, where only part i moves.
+fn moved(i: usize, falling: bool) -> Transition
+    requires { ⌜ i < 24 ⌝ }
+    ensures { λ r. ⌜ r ≡ movedBy falling i ⌝ }
+{
+    let kind = (i + 1) as u32;
+    if falling {
+        return Transition {
+            gain: 0,
+            loss: kind,
+        };
+    }
+    Transition {
+        gain: kind,
+        loss: 0,
+    }
+}
+
+// Part `found.at` moves to the value u, and the parts before it are filled with the first composition of what it leaves to them.
+fn refill(upper: &[u8], found: PivotSums, u: usize, falling: bool, parts: &mut [u8]) -> Transition
+    requires { ⌜ Refills (now upper) (now parts) found u falling ⌝ }
     ensures { λ r.
         ⌜ (now (parts .exit) ≡ refilled (now (upper .entry)) (now (parts .entry)) found u)
         × (r ≡ transition (now (parts .entry)) (now (parts .exit))) ⌝ }
 {
     let mut i = found.at;
-    let mut changed = change(parts, i, u, still());
+    let mut changed = moved(i, falling);
+    parts[i] = u as u8;
     let mut under = found.left;
     let mut rem = found.sum - u;
     let mut t = found.right + u;
@@ -149,11 +168,12 @@ fn turn_from(upper: &[u8], total: usize, start: PivotSums, parts: &mut [u8]) -> 
     if i == parts.len() {
         return still();
     }
-    let u = next_value(parts[i], is_odd(found.right));
+    let falling = is_odd(found.right);
+    let u = next_value(parts[i], falling);
     if found.left < found.sum - u {
         return still();
     }
-    refill(upper, found, u, parts)
+    refill(upper, found, u, falling, parts)
 }
 
 // The same, where of no part it is known that it cannot move.

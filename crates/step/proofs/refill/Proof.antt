@@ -13,24 +13,24 @@ use Rattle.step.proofs.refill.Statement.{statement}
 use Rattle.step.proofs.refill.Tie as tie
 
 abbrev Inv-loop : tie.InvT-loop
-Inv-loop upper u parts₀ i₀ changed₀ under₀ rem₀ t₀ parts i changed under rem t =
+Inv-loop upper u falling parts₀ i₀ changed₀ under₀ rem₀ t₀ parts i changed under rem t =
     (0 < i) × (i ≤ i₀) × (under ≡ sumTo upper i) × (under < 65536) × (rem ≤ under) × (rem + t ≡ rem₀ + t₀) × (length parts ≡ length parts₀)
     × (firstOf upper i rem t ++ drop i parts ≡ firstOf upper i₀ rem₀ t₀ ++ drop i₀ parts₀)
     × ((g : List ℕ) → Noted g parts₀ i₀ changed₀ → Noted g parts i changed)
 
 abbrev μ-loop : tie.MeasureT-loop
-μ-loop upper u parts₀ i₀ changed₀ under₀ rem₀ t₀ parts i changed under rem t = i
+μ-loop upper u falling parts₀ i₀ changed₀ under₀ rem₀ t₀ parts i changed under rem t = i
 
 loop-holds : tie.Need-loop-holds Inv-loop μ-loop
 loop-holds c =
-    let p = c .before .before .before .before .before .before .before .before .before .pre in
+    let p = c .before .before .before .before .before .pre in
     (p .some, omega arith, p .left .0, p .left .1, p .room, refl, refl, refl, λ g n. n)
 
 -- the bound is within the sum of the bounds that are left
 bound-at : (c : tie.After-wide Inv-loop μ-loop) → c .wide .result ≤ c .before .before .before .loop .under
 bound-at c =
     let turn = c .before .before .before in
-    let start = turn .before .before .before .before .before .before .before .before .before .before in
+    let start = turn .before .before .before .before .before .before in
     omega (arith, sum-below (start .args .upper .now) (turn .loop .i) (turn .loop .inv .0))
 
 -- what a turn knows of the value that it stores
@@ -58,25 +58,18 @@ small c =
 -- the loop, after the part that moves got its value
 module _ (c : tie.At-loop Inv-loop μ-loop) where
   abbrev start : tie.Start Inv-loop μ-loop
-  start = c .before .before .before .before .before .before .before .before .before .before
-
-  abbrev moved : tie.After-change Inv-loop μ-loop
-  moved = c .before .before .before .before .before
+  start = c .before .before .before .before .before .before
 
   -- the parts keep their number
   size : length (c .loop .parts) ≡ length (start .args .parts .now)
-  size =
-      c .loop .inv .6
-      ∙ ap length (moved .change .ensures .0)
-      ∙ length-set (start .args .parts .now) (start .args .found .at) (start .args .u)
+  size = c .loop .inv .6 ∙ length-set (start .args .parts .now) (start .args .found .at) (start .args .u)
 
   -- what changes from part i on is noted
   noted : Noted (start .args .parts .now) (c .loop .parts) (c .loop .i) (c .loop .changed)
   noted =
       let a = start .args in
-      let done = moved .change .ensures in
       c .loop .inv .8 (a .parts .now)
-      (noted-first (a .found .at) (a .u) (start .pre .inside .0) (moved .before .still .ensures) (done .0) (done .1))
+      (noted-first (a .found .at) (a .u) (a .falling) (start .pre .inside .0) (start .pre .way) refl (c .before .before .before .moved .ensures))
 
 loop-again : tie.Need-loop-again Inv-loop μ-loop
 loop-again c =
@@ -89,7 +82,7 @@ loop-again c =
     let below = sum-below ms i (l .inv .0) in
     let v = first .first-value .result in
     let s = small first in
-    let done = c .before .before .change2 .ensures in
+    let done = c .before .before .change .ensures in
     let inside : i ≤ length (l .parts) = omega (arith, size turn, start turn .pre .inside .0, l .inv .1) in (
       omega arith,
       omega arith,
@@ -126,7 +119,7 @@ loop-again c =
 -- part 0 gets what is left, which is no more than its bound
 last-at : (c : tie.At-loop Inv-loop μ-loop) → c .loop .i ≡ 1 → c .loop .rem ≤ 255
 last-at c e =
-    let first = c .before .before .before .before .before .before .before .before .before in
+    let first = c .before .before .before .before .before in
     omega (arith, sum-one (start c .args .upper .now) (c .loop .i) e, c .loop .inv .2, c .loop .inv .4, first .shared-slice-known .given 0)
 
 returns : tie.Need-returns Inv-loop μ-loop
@@ -136,11 +129,11 @@ returns c =
     let a = start turn .args in
     let one : l .i ≡ 1 = omega (arith, l .inv .0) in
     let some : 0 < length (l .parts) = omega (arith, size turn, start turn .pre .inside .0) in
-    let done = c .before .before .change3 .ensures in (
+    let done = c .before .before .change2 .ensures in (
       done .0
           ∙ refill-end (a .upper .now) (l .parts) (l .i) (l .rem) (l .t) one some (omega (arith, l .inv .2, l .inv .4))
           ∙ l .inv .7
-          ∙ rw (moved turn .change .ensures .0, drop-set (a .parts .now) (a .found .at) (a .u) (start turn .pre .inside .0)),
+          ∙ rw (drop-set (a .parts .now) (a .found .at) (a .u) (start turn .pre .inside .0)),
       noted-last (l .rem) one some (noted turn) (done .0) (done .1),
     )
 
@@ -150,10 +143,11 @@ refill-spec =
     (tie.spec
     Inv-loop
     μ-loop
-    (λ c κs. search needs)
-    (λ c κs. let p = c .before .before .before .before .pre in (p .inside .0, p .inside .2, p .value .0))
-    (λ c. c .before .before .before .before .before .before .before .before .pre .value .1)
-    (λ c. let p = c .before .before .before .before .before .before .before .before .before .pre in omega (arith, p .right, p .value .0))
+    (λ c κs. c .before .before .pre .inside .2)
+    (λ c. omega (arith, c .before .before .before .pre .value))
+    (λ c. c .before .before .before .pre .inside .0)
+    (λ c. c .before .before .before .before .pre .value .1)
+    (λ c. let p = c .before .before .before .before .before .pre in omega (arith, p .right, p .value))
     loop-holds
     (λ c. search needs)
     (λ c. search needs)
@@ -181,5 +175,7 @@ refill-spec =
     (λ c κs.
     let turn = c .before .before in
     (omega (arith, size turn, start turn .pre .inside), omega arith, last-at turn (omega (arith, turn .loop .inv .0))))
-    (λ c. search needs)
+    (λ c.
+    let turn = c .before .before .before .before .before in
+    ap length (c .before .before .change2 .ensures .0) ∙ length-set (turn .loop .parts) 0 (turn .loop .rem) ∙ size turn)
     returns)

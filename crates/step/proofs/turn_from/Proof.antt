@@ -7,7 +7,7 @@ use borrow.Author.Needs.{needs}
 use Rattle.walsh.specs.Order.{isOdd}
 use Rattle.walsh.specs.Step.{nextValue}
 use Rattle.walsh.proofs.Transitions.{transition-same}
-use Rattle.step.proofs.Turns.{found-some, found-within, found-small, turn-last, turn-over, turn-on}
+use Rattle.step.proofs.Turns.{found-some, found-within, found-small, found-way, turn-last, turn-over, turn-on}
 use Rattle.step.proofs.turn_from.Statement.{statement}
 use Rattle.step.proofs.turn_from.Tie as tie
 
@@ -32,15 +32,15 @@ value : (c : tie.After-next-value) →
     let at = c .before .before .before .before in
     let start = at .before .before .before .before in
     c .next-value .result ≡ nextValue (isOdd (at .pivot .result .right)) (getD (start .args .parts .now) (at .pivot .result .at) 0)
-value c = c .next-value .ensures ∙ rw (c .before .is-odd .ensures)
+value c = c .next-value .ensures ∙ rw (c .before .before .is-odd .ensures)
 
 small : (c : tie.After-next-value) →
     let at = c .before .before .before .before in
     let u = c .next-value .result in
     (u ≤ 255) × (u ≤ at .pivot .result .sum) × (at .pivot .result .right ≤ at .before .before .before .before .args .total)
 small c =
-    let known = c .before .before in
-    let at = known .before .before in
+    let known = c .before in
+    let at = known .before .before .before in
     let i = at .pivot .result .at in
     found-small _ _ _ _ (at .pivot .ensures) (inside c) _ (value c)
     (omega (arith, at .before .before .before .shared-slice-known .given i))
@@ -69,6 +69,7 @@ refill-requires c κs =
       value = (bytes .0, bytes .1);
       room = omega arith;
       right = omega (arith, bytes, start .pre .2);
+      way = found-way _ _ _ _ found within _ (value next) _ (next .before .before .is-odd .ensures);
     }
 
 returns-3 : tie.Need-returns-3
@@ -86,11 +87,11 @@ turn-from-spec =
     (λ c κs. search needs)
     (λ c. search needs)
     returns
-    (λ c.
-    let at = c .before .before in
-    let start = at .before .before .before .before in
-    omega (arith, found-within _ _ _ _ (at .pivot .ensures) (some-at start), c .before .if1 .left, start .pre .1))
     (λ c κs. search needs)
+    (λ c.
+    let at = c .before .before .before in
+    let start = at .before .before .before .before in
+    omega (arith, found-within _ _ _ _ (at .pivot .ensures) (some-at start), c .before .before .if1 .left, start .pre .1))
     (λ c κs. search needs)
     (λ c. small (c .before) .1)
     (λ c κs. search needs)
