@@ -15,7 +15,7 @@ use Rattle.bounds.proofs.Cells.{cells-back, cells-replaced}
 use Rattle.step.specs.Advance.{advanceOf, Advances}
 use Rattle.step.proofs.Ways.{advance-serial}
 use Rattle.model.specs.Printing.{Printing, size, nextComposition}
-use Rattle.model.proofs.Pairs.{cells-of}
+use Rattle.model.proofs.Stock.{serial-cells}
 
 module _ (p : Printing) (e : ℕ) where
   abbrev ms : List ℕ
@@ -26,7 +26,7 @@ module _ (p : Printing) (e : ℕ) where
 
   -- the composition of serial s, of serial N where s is larger
   at-serial : (s : ℕ) → nextComposition p s ≡ cellsOf (compositionOf ms r (min (s + 1) (size p)))
-  at-serial s = cells-of p (min (s + 1) (size p))
+  at-serial s = serial-cells p (min (s + 1) (size p))
 
   pub forward : (n : ℕ) (next : List ℕ) (x : Transition) (h : List ℕ)
       → n ≡ length ms

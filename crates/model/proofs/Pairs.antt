@@ -14,7 +14,6 @@ use Rattle.walsh.proofs.Cases.{on-less}
 use Rattle.walsh.proofs.Serials.{composition-is, serial-composition}
 use Rattle.walsh.proofs.Transitions.{transition-none, serial-carries}
 use Rattle.bounds.specs.Edition.{cellsOf}
-use Rattle.bounds.proofs.Cells.{cells-back}
 use Rattle.model.specs.declared.Answer.{Answer}
 use Rattle.model.specs.declared.Ledger.{Ledger}
 use Rattle.model.specs.declared.Peeked.{Peeked}
@@ -23,37 +22,21 @@ use Rattle.model.specs.Printing.{Printing, size, compositionAt, transiti
 use Rattle.model.specs.Model.{Call, peek, claim, void, next, answer, refusedWith, told}
 use Rattle.model.specs.Record.{upperOf, printingOf, consistent, answered, peekedBy, peeking}
 use Rattle.model.proofs.Answers.{peek-open, peek-closed}
-use Rattle.model.proofs.Cells.{cells-neighbours}
-use Rattle.model.proofs.Compositions.{compositions-at}
+use Rattle.model.proofs.Cells.{cells-front, cells-neighbours}
+use Rattle.model.proofs.Stock.{serial-cells}
 use Rattle.model.proofs.Records.{parts}
 use Rattle.model.proofs.Replies.{accepts, peek-next}
 
--- ---- of a serial
-
-module _ (p : Printing) (s : ℕ) where
-  pub cells-of : compositionAt p s ≡ cellsOf (compositionOf (p .bounds) (p .total) s)
-  unfolding compositionOf
-  cells-of = compositions-at (p .bounds) (p .total) (s - 1)
-
-cells-front : (g : List ℕ) (n : ℕ) → length g ≡ n → take n (cellsOf g) ≡ g
-cells-front g n e = rw (← e) (cells-back g)
-
--- a serial from 2 to N
+-- of a serial from 2 to N
 carries-at : (p : Printing) (s : ℕ) → 2 ≤ s → s ≤ size p
     → Carries (length (p .bounds)) (compositionAt p (s - 1)) (compositionAt p s) (transitionTo p s)
 carries-at p s low high =
     let c = serial-carries (p .bounds) (p .total) s low high in
-    rw (cells-of p (s - 1), cells-of p s) (record { gain = c .gain; loss = c .loss; near = cells-neighbours (c .near) })
+    rw (serial-cells p (s - 1), serial-cells p s) (record { gain = c .gain; loss = c .loss; near = cells-neighbours (c .near) })
 
 -- ---- of a call of the model
 
 module _ (p : Printing) (l : List Entry) where
-  pub told-none : (c : Call) → (answer p l c .serial < 2) ⊎ (c ≢ peek) → told p c (answer p l c) ≡ none
-  told-none peek (inl h) = transition-none (p .bounds) (p .total) (answer p l peek .serial) h
-  told-none peek (inr n) = absurd (n refl)
-  told-none (claim s e) h = refl
-  told-none (void s) h = refl
-
   peek-carries : 2 ≤ answer p l peek .serial
       → Carries (length (p .bounds)) (compositionAt p (answer p l peek .serial - 1)) (answer p l peek .composition)
       (told p peek (answer p l peek))
@@ -65,6 +48,12 @@ module _ (p : Printing) (l : List Entry) where
   pub told-some : (c : Call) → c ≡ peek → 2 ≤ answer p l c .serial
       → Carries (length (p .bounds)) (compositionAt p (answer p l c .serial - 1)) (answer p l c .composition) (told p c (answer p l c))
   told-some c e = rw e peek-carries
+
+  pub told-none : (c : Call) → (answer p l c .serial < 2) ⊎ (c ≢ peek) → told p c (answer p l c) ≡ none
+  told-none peek (inl h) = transition-none (p .bounds) (p .total) (answer p l peek .serial) h
+  told-none peek (inr n) = absurd (n refl)
+  told-none (claim s e) h = refl
+  told-none (void s) h = refl
 
 -- ---- of a peek over the record and the column
 
@@ -97,7 +86,7 @@ module _ (r : Ledger) (col : Lent) (t : consistent r col ≡ true) (left : r .en
   own-parts =
       let now : min s (size p) ≡ s = omega arith in
       let cells : r .next ≡ cellsOf (compositionOf (p .bounds) (p .total) s) =
-      parts r col t .next ∙ ap (compositionAt p) now ∙ cells-of p s in
+      parts r col t .next ∙ ap (compositionAt p) now ∙ serial-cells p s in
       let n : length (compositionOf (p .bounds) (p .total) s) ≡ r .bounds .parts =
       composition-is (p .bounds) (p .total) s (omega arith) (omega arith) .size ∙ long in
       ap (take (r .bounds .parts)) cells ∙ cells-front _ _ n

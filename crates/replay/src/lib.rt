@@ -52,7 +52,7 @@ fn look(ledger: Ledger, column: &[u32]) -> Called
 }
 
 // A claim or a void: it answers no pair.
-fn written(claimed: Claimed) -> Called
+fn unpaired(claimed: Claimed) -> Called
     ensures { λ r. ⌜ (r .claimed ≡ claimed) × (r .pair ≡ none) ⌝ }
 {
     let pair = Transition { gain: 0, loss: 0 };
@@ -69,9 +69,9 @@ fn call(ledger: Ledger, column: &mut [u32], which: u64, serial: u64, order: u32)
         return look(ledger, column);
     }
     if which == 1 {
-        return written(ledger::claim(ledger, column, serial, order));
+        return unpaired(ledger::claim(ledger, column, serial, order));
     }
-    written(ledger::void(ledger, column, serial))
+    unpaired(ledger::void(ledger, column, serial))
 }
 
 // How many orders of the pool a call uses up.

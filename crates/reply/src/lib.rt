@@ -51,7 +51,8 @@ fn unseen(number: u32, detail: u64) -> Peeked
     }
 }
 
-// document 01: look. The next serial with its composition; nothing is reserved. The pair is that of the step to the record's composition.
+// document 01: look. The next serial with its composition; nothing is reserved. Document 02, (i): and the pair of that serial, by one step back from
+// the record's composition.
 pub fn peek(ledger: Ledger, orders: &[u32]) -> Peeked
     ensures { λ r. ⌜ r ≡ peeking ledger (now (orders .entry)) ⌝ }
 {

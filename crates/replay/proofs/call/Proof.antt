@@ -20,7 +20,7 @@ returns-2 : tie.Need-returns-2
 returns-2 c =
     let a = c .before .before .before .before .before .before .before .before .args in
     let t = c .before .before .before .before .before in
-    let e = c .written .ensures in
+    let e = c .unpaired .ensures in
     rw (call-claim (a .which) (a .serial) (a .order) (t .before .if1 .left) (t .if2 .taken))
     (rw (e .0) (c .before .before .before .claim .ensures), e .1)
 
@@ -28,7 +28,7 @@ returns-3 : tie.Need-returns-3
 returns-3 c =
     let a = c .before .before .before .before .before .before .before .before .args in
     let t = c .before .before .before .before .before in
-    let e = c .written2 .ensures in
+    let e = c .unpaired2 .ensures in
     rw (call-void (a .which) (a .serial) (a .order) (t .before .if1 .left) (t .if2 .left))
     (rw (e .0) (c .before .before .before .void .ensures), e .1)
 
