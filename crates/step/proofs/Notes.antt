@@ -30,7 +30,7 @@ noted-none g i =
 
 -- part i gets the value v
 noted-next : {g h : List ℕ} {x : Transition} (i v : ℕ) → i < length h → Noted g h (i + 1) x
-    → Noted g (set h i v) i (noting x i (getD h i 0) v)
+    → Noted g (set h i v) i (noting x (i + 1) (getD h i 0) v)
 noted-next {g} {h} {x} i v l n =
     let inside : i < length g = omega (arith, n .size) in
     let stored : i < length (set h i v) = rw (length-set h i v) l in
@@ -49,19 +49,19 @@ pub noted-first : {g h : List ℕ} {x : Transition} (i v : ℕ) (falling : Bool)
     → h ≡ set g i v → x ≡ movedBy falling i → Noted g h i x
 noted-first {g} {h} {x} i v falling l way eh ex = rw (eh, ex, go falling way) (noted-next i v l (noted-none g (i + 1)))
   where
-    go : (b : Bool) → (b ≡ true → v < getD g i 0) × (b ≡ false → getD g i 0 < v) → movedBy b i ≡ noting none i (getD g i 0) v
+    go : (b : Bool) → (b ≡ true → v < getD g i 0) × (b ≡ false → getD g i 0 < v) → movedBy b i ≡ noting none (i + 1) (getD g i 0) v
     go true w = let l = w .0 refl in rw (lt-ltb v (getD g i 0) l, le-ltb (getD g i 0) v (omega arith))
     go false w = let l = w .1 refl in rw (lt-ltb (getD g i 0) v l, le-ltb v (getD g i 0) (omega arith))
 
 pub noted-before : {g h after : List ℕ} {x y : Transition} (i v : ℕ) → 0 < i → i ≤ length h → Noted g h i y
-    → after ≡ set h (i - 1) v → x ≡ noting y (i - 1) (getD h (i - 1) 0) v → Noted g after (i - 1) x
+    → after ≡ set h (i - 1) v → x ≡ noting y i (getD h (i - 1) 0) v → Noted g after (i - 1) x
 noted-before {g} {h} {after} {x} {y} i v some l n ea ex =
     let back : i - 1 + 1 ≡ i = omega arith in
-    rw (ea, ex) (noted-next {g = g} {h = h} {x = y} (i - 1) v (omega arith) (rw back n))
+    rw (ea, ex) (rw back at (noted-next {g = g} {h = h} {x = y} (i - 1) v (omega arith) (rw back n)))
 
 -- when part 0 has changed, x is the pair
 pub noted-last : {g h after : List ℕ} {x y : Transition} {i : ℕ} (v : ℕ) → i ≡ 1 → 0 < length h → Noted g h i y
-    → after ≡ set h 0 v → x ≡ noting y 0 (getD h 0 0) v → x ≡ transition g after
+    → after ≡ set h 0 v → x ≡ noting y 1 (getD h 0 0) v → x ≡ transition g after
 noted-last {g} {h} {after} {x} {y} {i} v e l n ea ex = rw (ea, ex) (noted-next {g = g} {h = h} {x = y} 0 v l (rw e at n) .is)
 
 -- ---- the answer of a step over a copy

@@ -1,5 +1,5 @@
 -- Moving a part: the turn of any bytes in the code's numbers, and what it is for a composition.
-use mathlib.Core.Path.{_≡_, refl, _∙_}
+use mathlib.Core.Path.{_≡_, refl, sym, _∙_}
 use mathlib.Core.Logic.{_⊎_, inl, inr}
 use mathlib.Core.Bool.{Bool, true, false, cond, true≢false, false≢true}
 use mathlib.Core.List.{List}
@@ -35,7 +35,12 @@ module _ (lo hi v : ℕ) where
   value-within true s e l h = omega arith
   value-within false s e l h = omega (arith, ltb-true v hi e)
 
-  -- and on its way
+  -- a value that falls is above 0
+  value-above : (falling : Bool) → cond falling (ltb lo v) (ltb v hi) ≡ true → falling ≡ true → 0 < v
+  value-above true e t = omega (arith, ltb-true lo v e)
+  value-above false e t = absurd (false≢true t)
+
+  -- and the next one is on its way
   value-way : (falling : Bool) → cond falling (ltb lo v) (ltb v hi) ≡ true
       → (falling ≡ true → nextValue falling v < v) × (falling ≡ false → v < nextValue falling v)
   value-way true e = (λ _. omega (arith, ltb-true lo v e), λ q. absurd (true≢false q))
@@ -54,10 +59,16 @@ module _ (ms : List ℕ) (w : ℕ) (g : List ℕ) (f : PivotSums) (found : Pivot
   unfolding turnAt
   turn-last e = rw (← (found .first), le-ltb (f .at) (length ms) e)
 
-  module _ (inside : f .at < length ms) (u : ℕ) (eu : u ≡ nextValue (isOdd (f .right)) (getD g (f .at) 0)) where
-    can : canMove ms w g (f .at) ≡ true
-    can = rw (found .first) (pivot-first ms w g .can (omega (arith, found .first)))
+  can : f .at < length ms → canMove ms w g (f .at) ≡ true
+  can inside = rw (found .first) (pivot-first ms w g .can (omega (arith, found .first)))
 
+  pub found-above : f .at < length ms → (falling : Bool) → falling ≡ isOdd (f .right) → falling ≡ true → 0 < getD g (f .at) 0
+  found-above inside falling e t =
+      let rem : ℕ = sumTo g (suc (f .at)) in
+      let way : falling ≡ isOdd (w - rem) = e ∙ rw (found .right inside) in
+      value-above (least ms (f .at) rem) (most ms (f .at) rem) (getD g (f .at) 0) (isOdd (w - rem)) (can inside) (sym way ∙ t)
+
+  module _ (inside : f .at < length ms) (u : ℕ) (eu : u ≡ nextValue (isOdd (f .right)) (getD g (f .at) 0)) where
     value : u ≡ nextValue (isOdd (w - sumTo g (suc (f .at)))) (getD g (f .at) 0)
     value = eu ∙ rw (found .right inside)
 
@@ -67,7 +78,7 @@ module _ (ms : List ℕ) (w : ℕ) (g : List ℕ) (f : PivotSums) (found : Pivot
     within : (s : ℕ) → getD g (f .at) 0 ≤ s → most ms (f .at) (sumTo g (suc (f .at))) ≤ s → u ≤ s
     within s l h =
         let rem : ℕ = sumTo g (suc (f .at)) in
-        rw value (value-within (least ms (f .at) rem) (most ms (f .at) rem) (getD g (f .at) 0) (isOdd (w - rem)) s can l h)
+        rw value (value-within (least ms (f .at) rem) (most ms (f .at) rem) (getD g (f .at) 0) (isOdd (w - rem)) s (can inside) l h)
 
     -- it is a byte, and no more than the parts up to it
     pub found-small : getD ms (f .at) 0 ≤ 255 → getD g (f .at) 0 ≤ 255 → (u ≤ 255) × (u ≤ f .sum) × (f .right ≤ w)
@@ -79,7 +90,7 @@ module _ (ms : List ℕ) (w : ℕ) (g : List ℕ) (f : PivotSums) (found : Pivot
     found-way falling e =
         let rem : ℕ = sumTo g (suc (f .at)) in
         rw (e, value, found .right inside)
-        (value-way (least ms (f .at) rem) (most ms (f .at) rem) (getD g (f .at) 0) (isOdd (w - rem)) can)
+        (value-way (least ms (f .at) rem) (most ms (f .at) rem) (getD g (f .at) 0) (isOdd (w - rem)) (can inside))
 
     pub turn-over : f .left < f .sum - u → g ≡ turnOf ms w g
     unfolding turnAt

@@ -53,11 +53,11 @@ pub record Refills (ms g : List ℕ) (f : PivotSums) (u : ℕ) (falling : Bool) 
 abbrev pub transitionFrom : ℕ → List ℕ → List ℕ → Transition
 transitionFrom i g h = record { gain = gainFrom (i + 1) (drop i g) (drop i h); loss = gainFrom (i + 1) (drop i h) (drop i g) }
 
--- the same, where part i goes from u to v, and x is what changes behind it
+-- what changes from kind k on, where that part goes from u to v, and x is what changes behind it
 abbrev pub noting : Transition → ℕ → ℕ → ℕ → Transition
-noting x i u v = record { gain = cond (ltb u v) (i + 1) (x .gain); loss = cond (ltb v u) (i + 1) (x .loss) }
+noting x k u v = record { gain = cond (ltb u v) k (x .gain); loss = cond (ltb v u) k (x .loss) }
 
--- the same, where only part i moves
+-- what changes from part i on, where only part i moves
 abbrev pub movedBy : Bool → ℕ → Transition
 movedBy falling i = cond falling (record { gain = 0; loss = i + 1 }) (record { gain = i + 1; loss = 0 })
 

@@ -9,14 +9,14 @@ use walsh::Transition;
 use walsh::first_value;
 use walsh::is_odd;
 use walsh::lesser;
-use walsh::next_value;
 use walsh::over;
 use walsh::wide;
 ghost use mathlib.Core.Path.{_≡_};
-ghost use mathlib.Core.Bool.{cond};
-ghost use Prim.Native.Nat.{_+_, _≤_, _<_};
+ghost use mathlib.Core.Bool.{true, cond};
+ghost use Prim.Native.Nat.{_+_, _-_, _≤_, _<_};
 ghost use lib.Dec.{ltb};
 ghost use lib.ListN.{length, getD, set};
+ghost use Rattle.walsh.specs.Step.{nextValue};
 ghost use Rattle.walsh.specs.Transition.{transition, none};
 ghost use Rattle.bounds.specs.Edition.{blank};
 ghost use Rattle.step.specs.Steps.{stepOf, successorOf, predecessorOf};
@@ -88,17 +88,17 @@ fn chosen(test: bool, yes: u32, no: u32) -> u32
     if test { yes } else { no }
 }
 
-// Part i gets the value v. The answer is what changes from part i on, where `behind` is what changes behind it.
-fn change(parts: &mut [u8], i: usize, v: usize, behind: Transition) -> Transition
-    requires { ⌜ (i < length (now parts)) × (i < 24) × (v ≤ 255) ⌝ }
+// The part of a kind gets the value v. The answer is what changes from that kind on, where `behind` is what changes behind it.
+fn change(parts: &mut [u8], kind: usize, v: usize, behind: Transition) -> Transition
+    requires { ⌜ (0 < kind) × (kind ≤ length (now parts)) × (kind ≤ 24) × (v ≤ 255) ⌝ }
     ensures { λ r.
-        ⌜ (now (parts .exit) ≡ set (now (parts .entry)) i v)
-        × (r ≡ noting behind i (getD (now (parts .entry)) i 0) v) ⌝ }
+        ⌜ (now (parts .exit) ≡ set (now (parts .entry)) (kind - 1) v)
+        × (r ≡ noting behind kind (getD (now (parts .entry)) (kind - 1) 0) v) ⌝ }
 {
+    let i = kind - 1;
     let old = wide(parts[i]);
-    let kind = (i + 1) as u32;
-    let gain = chosen(old < v, kind, behind.gain);
-    let loss = chosen(v < old, kind, behind.loss);
+    let gain = chosen(old < v, kind as u32, behind.gain);
+    let loss = chosen(v < old, kind as u32, behind.loss);
     parts[i] = v as u8;
     Transition { gain, loss }
 }
@@ -108,6 +108,14 @@ fn still() -> Transition
     ensures { λ r. ⌜ r ≡ none ⌝ }
 {
     Transition { gain: 0, loss: 0 }
+}
+
+// The value after v.
+fn next_value(v: usize, falling: bool) -> usize
+    requires { ⌜ (v ≤ 255) × (falling ≡ true → 0 < v) ⌝ }
+    ensures { λ r. ⌜ r ≡ nextValue falling v ⌝ }
+{
+    if falling { v - 1 } else { v + 1 }
 }
 
 // What changes from part i on, where only part i moves.
@@ -142,15 +150,15 @@ fn refill(upper: &[u8], found: PivotSums, u: usize, falling: bool, parts: &mut [
     let mut rem = found.sum - u;
     let mut t = found.right + u;
     while 1 < i {
-        i -= 1;
-        let m = wide(upper[i]);
+        let m = wide(upper[i - 1]);
         under -= m;
         let v = first_value(over(rem, under), lesser(m, rem), is_odd(t));
         changed = change(parts, i, v, changed);
         rem -= v;
         t += v;
+        i -= 1;
     }
-    change(parts, 0, rem, changed)
+    change(parts, 1, rem, changed)
 }
 
 // Makes the step in place and answers its pair, or answers 0 and 0 and changes nothing where no part can move. It goes forward where `total` is
@@ -169,7 +177,7 @@ fn turn_from(upper: &[u8], total: usize, start: PivotSums, parts: &mut [u8]) -> 
         return still();
     }
     let falling = is_odd(found.right);
-    let u = next_value(parts[i], falling);
+    let u = next_value(wide(parts[i]), falling);
     if found.left < found.sum - u {
         return still();
     }

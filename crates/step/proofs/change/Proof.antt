@@ -1,6 +1,7 @@
 -- `step::change` meets its contract.
 use mathlib.Core.Path.{_≡_, refl}
 use lib.ListN.{length-set}
+use native.Mathlib.Omega.{arith}
 use borrow.Author.Needs.{needs}
 use Rattle.step.proofs.change.Statement.{statement}
 use Rattle.step.proofs.change.Tie as tie
@@ -13,10 +14,11 @@ change-spec =
     tie.close
     (tie.spec
     (λ c. search needs)
-    (λ c κs. search needs)
-    (λ c. search needs)
     (λ c. search needs)
     (λ c κs. search needs)
+    (λ c. search needs)
+    (λ c κs. search needs)
+    (λ c. search needs)
     (λ c κs. search needs)
     (λ c. search needs)
     (λ c. search needs)

@@ -161,6 +161,7 @@ refill-spec =
     let first = c .before in
     let turn = first .before .before .before .before .before .before .before in
     let p = start turn .pre in (
+      omega arith,
       omega (arith, size turn, p .inside, turn .loop .inv .1),
       omega (arith, p .inside, turn .loop .inv .1),
       omega (arith, small first, first .before .before .before .before .wide .ensures),
@@ -171,10 +172,11 @@ refill-spec =
     let p = start turn .pre in
     omega (arith, small (c .before .before .before .before), turn .loop .inv .5, p .right, p .value, p .room, p .left))
     (λ c. search needs)
+    (λ c. search needs)
     loop-again
     (λ c κs.
     let turn = c .before .before in
-    (omega (arith, size turn, start turn .pre .inside), omega arith, last-at turn (omega (arith, turn .loop .inv .0))))
+    (omega arith, omega (arith, size turn, start turn .pre .inside), omega arith, last-at turn (omega (arith, turn .loop .inv .0))))
     (λ c.
     let turn = c .before .before .before .before .before in
     ap length (c .before .before .change2 .ensures .0) ∙ length-set (turn .loop .parts) 0 (turn .loop .rem) ∙ size turn)

@@ -7,7 +7,7 @@ use borrow.Author.Needs.{needs}
 use Rattle.walsh.specs.Order.{isOdd}
 use Rattle.walsh.specs.Step.{nextValue}
 use Rattle.walsh.proofs.Transitions.{transition-same}
-use Rattle.step.proofs.Turns.{found-some, found-within, found-small, found-way, turn-last, turn-over, turn-on}
+use Rattle.step.proofs.Turns.{found-some, found-within, found-small, found-above, found-way, turn-last, turn-over, turn-on}
 use Rattle.step.proofs.turn_from.Statement.{statement}
 use Rattle.step.proofs.turn_from.Tie as tie
 
@@ -20,48 +20,56 @@ some-at : (c : tie.Start) → 0 < length (c .args .upper .now)
 some-at c = omega (arith, c .pre .3 .some, c .pre .3 .within)
 
 -- the part that was found is one of the parts
-inside : (c : tie.After-next-value) →
-    let at = c .before .before .before .before in
-    at .pivot .result .at < length (at .before .before .before .before .args .upper .now)
+inside : (c : tie.Else1) → c .before .pivot .result .at < length (c .before .before .before .before .before .args .upper .now)
 inside c =
-    let at = c .before .before .before .before in
-    omega (arith, found-within _ _ _ _ (at .pivot .ensures) (some-at (at .before .before .before .before)), c .before .before .before .if1 .left)
+    omega (arith, found-within _ _ _ _ (c .before .pivot .ensures) (some-at (c .before .before .before .before .before)), c .if1 .left)
 
 -- its next value
 value : (c : tie.After-next-value) →
-    let at = c .before .before .before .before in
+    let at = c .before .before .before .before .before in
     let start = at .before .before .before .before in
     c .next-value .result ≡ nextValue (isOdd (at .pivot .result .right)) (getD (start .args .parts .now) (at .pivot .result .at) 0)
-value c = c .next-value .ensures ∙ rw (c .before .before .is-odd .ensures)
+value c = c .next-value .ensures ∙ rw (c .before .before .before .is-odd .ensures, c .before .wide .ensures .0)
 
 small : (c : tie.After-next-value) →
-    let at = c .before .before .before .before in
+    let at = c .before .before .before .before .before in
     let u = c .next-value .result in
     (u ≤ 255) × (u ≤ at .pivot .result .sum) × (at .pivot .result .right ≤ at .before .before .before .before .args .total)
 small c =
-    let known = c .before in
-    let at = known .before .before .before in
+    let known = c .before .before in
+    let found = known .before .before in
+    let at = found .before in
     let i = at .pivot .result .at in
-    found-small _ _ _ _ (at .pivot .ensures) (inside c) _ (value c)
+    found-small _ _ _ _ (at .pivot .ensures) (inside found) _ (value c)
     (omega (arith, at .before .before .before .shared-slice-known .given i))
     (omega (arith, known .slice-known2 .given i))
+
+next-value-requires : tie.Need-next-value-requires
+next-value-requires c κs =
+    let odd = c .before .before in
+    let found = odd .before in (
+      c .wide .ensures .1,
+      λ t. rw (c .wide .ensures .0) (found-above _ _ _ _ (found .before .pivot .ensures) (inside found) _ (odd .is-odd .ensures) t),
+    )
 
 -- the rest has no room
 returns-2 : tie.Need-returns-2
 returns-2 c =
-    let next = c .before .before .before .before in (
-      turn-over _ _ _ _ (next .before .before .before .before .pivot .ensures) (inside next) _ (value next) (omega arith),
+    let next = c .before .before .before .before in
+    let found = next .before .before .before .before in (
+      turn-over _ _ _ _ (found .before .pivot .ensures) (inside found) _ (value next) (omega arith),
       c .still2 .ensures ∙ sym (transition-same _),
     )
 
 refill-requires : tie.Need-refill-requires
 refill-requires c κs =
     let next = c .before .before .before .before in
-    let at = next .before .before .before .before in
+    let odd = next .before .before .before in
+    let at = odd .before .before in
     let start = at .before .before .before .before in
     let found = at .pivot .ensures in
     let bytes = small next in
-    let within = inside next in
+    let within = inside (odd .before) in
     record {
       some = found-some _ _ _ _ found;
       inside = (omega (arith, within, start .pre .1), omega (arith, within), omega (arith, within, start .pre .0));
@@ -69,15 +77,15 @@ refill-requires c κs =
       value = (bytes .0, bytes .1);
       room = omega arith;
       right = omega (arith, bytes, start .pre .2);
-      way = found-way _ _ _ _ found within _ (value next) _ (next .before .before .is-odd .ensures);
+      way = found-way _ _ _ _ found within _ (value next) _ (odd .is-odd .ensures);
     }
 
 returns-3 : tie.Need-returns-3
 returns-3 c =
     let next = c .before .before .before .before .before .before .before in
-    let at = next .before .before .before .before in
+    let found = next .before .before .before .before in
     let done = c .before .before .refill .ensures in
-    (turn-on _ _ _ _ (at .pivot .ensures) (inside next) _ (value next) (omega arith) _ (done .0), done .1)
+    (turn-on _ _ _ _ (found .before .pivot .ensures) (inside found) _ (value next) (omega arith) _ (done .0), done .1)
 
 pub turn-from-spec : {M : Type 1} → statement M
 turn-from-spec =
@@ -88,11 +96,9 @@ turn-from-spec =
     (λ c. search needs)
     returns
     (λ c κs. search needs)
-    (λ c.
-    let at = c .before .before .before in
-    let start = at .before .before .before .before in
-    omega (arith, found-within _ _ _ _ (at .pivot .ensures) (some-at start), c .before .before .if1 .left, start .pre .1))
+    (λ c. let found = c .before .before in omega (arith, inside found, found .before .before .before .before .before .pre .1))
     (λ c κs. search needs)
+    next-value-requires
     (λ c. small (c .before) .1)
     (λ c κs. search needs)
     (λ c. search needs)
