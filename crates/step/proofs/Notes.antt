@@ -8,7 +8,7 @@ use native.Mathlib.Omega.{arith}
 use lib.Dec.{eqb}
 use lib.ListN.{length, getD, set, drop, length-set}
 use lib.Seq.{getD-set-same, getD-set-other, drop-set-lt}
-use borrow.Author.Tests.{eqb-true, lt-ltb, le-ltb}
+use borrow.Author.Tests.{eqb-true, eq-eqb, ne-eqb}
 use Rattle.walsh.specs.Transition.{gainFrom, transition, none}
 use Rattle.walsh.specs.declared.Transition.{Transition}
 use Rattle.walsh.proofs.Cases.{on-test}
@@ -53,7 +53,7 @@ noted-skip {g} {h} {x} i l n =
       front = λ j b. n .front j (omega arith);
       is =
           n .is
-          ∙ sym (rw (gain-next g h i inside l, gain-next h g i l inside, stays, le-ltb (getD g i 0) (getD g i 0) (omega arith)));
+          ∙ sym (rw (gain-next g h i inside l, gain-next h g i l inside, stays, ne-eqb (getD g i 0) (getD g i 0 + 1) (λ e. omega arith)));
     }
 
 -- so do d parts from part j on
@@ -70,13 +70,18 @@ noted-to i j b l n =
 
 -- part i moves to u, and then the part of a kind before it gets the value v
 module _ (g : List ℕ) (i u kind v : ℕ) (falling : Bool) (inside : i < length g) (before : (0 < kind) × (kind ≤ i))
-    (way : (falling ≡ true → u < getD g i 0) × (falling ≡ false → getD g i 0 < u)) where
+    (way : (falling ≡ true → getD g i 0 ≡ u + 1) × (falling ≡ false → u ≡ getD g i 0 + 1)) where
   first : movedBy falling i ≡ noting none (i + 1) (getD g i 0) u
   first = go falling way
     where
-      go : (b : Bool) → (b ≡ true → u < getD g i 0) × (b ≡ false → getD g i 0 < u) → movedBy b i ≡ noting none (i + 1) (getD g i 0) u
-      go true w = let l = w .0 refl in rw (lt-ltb u (getD g i 0) l, le-ltb (getD g i 0) u (omega arith))
-      go false w = let l = w .1 refl in rw (lt-ltb (getD g i 0) u l, le-ltb u (getD g i 0) (omega arith))
+      go : (b : Bool) → (b ≡ true → getD g i 0 ≡ u + 1) × (b ≡ false → u ≡ getD g i 0 + 1)
+          → movedBy b i ≡ noting none (i + 1) (getD g i 0) u
+      go true w =
+          let down = w .0 refl in
+          rw (eq-eqb (getD g i 0) (u + 1) down, ne-eqb u (getD g i 0 + 1) (λ e. omega arith))
+      go false w =
+          let up = w .1 refl in
+          rw (eq-eqb u (getD g i 0 + 1) up, ne-eqb (getD g i 0) (u + 1) (λ e. omega arith))
 
   pub traded : noting (movedBy falling i) kind (getD (set g i u) (kind - 1) 0) v ≡ transition g (set (set g i u) (kind - 1) v)
   traded =

@@ -43,11 +43,11 @@ module _ (lo hi v : ℕ) where
   value-above true e t = omega (arith, ltb-true lo v e)
   value-above false e t = absurd (false≢true t)
 
-  -- and the next one is on its way
+  -- and the next one is one off
   value-way : (falling : Bool) → cond falling (ltb lo v) (ltb v hi) ≡ true
-      → (falling ≡ true → nextValue falling v < v) × (falling ≡ false → v < nextValue falling v)
+      → (falling ≡ true → v ≡ nextValue falling v + 1) × (falling ≡ false → nextValue falling v ≡ v + 1)
   value-way true e = (λ _. omega (arith, ltb-true lo v e), λ q. absurd (true≢false q))
-  value-way false e = (λ q. absurd (false≢true q), λ _. omega arith)
+  value-way false e = (λ q. absurd (false≢true q), λ _. refl)
 
 -- ---- the turn of any bytes: u is the next value of the part that was found
 
@@ -89,7 +89,7 @@ module _ (ms : List ℕ) (w : ℕ) (g : List ℕ) (f : PivotSums) (found : Pivot
         (within 255 byte (omega arith), rw (found .sum inside) (within _ (omega arith) (omega arith)), rw (found .right inside) (omega arith))
 
     pub found-way : (falling : Bool) → falling ≡ isOdd (f .right)
-        → (falling ≡ true → u < getD g (f .at) 0) × (falling ≡ false → getD g (f .at) 0 < u)
+        → (falling ≡ true → getD g (f .at) 0 ≡ u + 1) × (falling ≡ false → u ≡ getD g (f .at) 0 + 1)
     found-way falling e =
         let rem : ℕ = sumTo g (suc (f .at)) in
         rw (e, value, found .right inside)

@@ -3,7 +3,7 @@ use mathlib.Core.Path.{_≡_}
 use mathlib.Core.Bool.{Bool, cond}
 use mathlib.Core.List.{List}
 use Prim.Native.Nat.{ℕ, suc, _+_, _-_, _*_, _≤_, _<_}
-use lib.Dec.{eqb, ltb}
+use lib.Dec.{eqb}
 use lib.ListN.{length, drop}
 use Rattle.walsh.specs.Tests.{both}
 use Rattle.walsh.specs.Sums.{sumTo}
@@ -56,7 +56,7 @@ transitionFrom i g h = record { gain = gainFrom (i + 1) (drop i g) (drop i h); l
 
 -- what changes from kind k on, where that part goes from u to v, and x is what changes behind it
 abbrev pub noting : Transition → ℕ → ℕ → ℕ → Transition
-noting x k u v = record { gain = cond (ltb u v) k (x .gain); loss = cond (ltb v u) k (x .loss) }
+noting x k u v = record { gain = cond (eqb v (u + 1)) k (x .gain); loss = cond (eqb u (v + 1)) k (x .loss) }
 
 -- what changes from part i on, where only part i moves
 abbrev pub movedBy : Bool → ℕ → Transition

@@ -104,8 +104,8 @@ fn change(parts: &mut [u8], kind: usize, v: usize, behind: Transition) -> Transi
 {
     let i = kind - 1;
     let old = wide(parts[i]);
-    let gain = chosen(old < v, kind as u32, behind.gain);
-    let loss = chosen(v < old, kind as u32, behind.loss);
+    let gain = chosen(v == old + 1, kind as u32, behind.gain);
+    let loss = chosen(old == v + 1, kind as u32, behind.loss);
     parts[i] = v as u8;
     Transition { gain, loss }
 }

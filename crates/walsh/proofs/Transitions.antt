@@ -5,15 +5,14 @@ use mathlib.Core.List.{List, [], _∷_}
 use Prim.Native.Nat.{ℕ, zero, suc, _+_, _-_, _≤_, _<_}
 use native.Mathlib.Numerals.{add-one}
 use native.Mathlib.Omega.{arith}
-use lib.Dec.{ltb}
+use lib.Dec.{eqb}
 use lib.ListN.{length, getD, drop}
 use lib.Seq.{drop-cons}
-use borrow.Author.Tests.{lt-ltb, le-ltb}
+use borrow.Author.Tests.{eq-eqb, ne-eqb, lt-ltb, le-ltb}
 use Rattle.walsh.specs.Order.{countOf}
 use Rattle.walsh.specs.Serial.{compositionOf}
 use Rattle.walsh.specs.Neighbours.{Neighbours, Adjacent}
 use Rattle.walsh.specs.Transition.{gainFrom, transition, none, transitionAt, Carries}
-use Rattle.walsh.proofs.Cases.{on-less}
 use Rattle.walsh.proofs.Serials.{count-length, composition-is}
 use Rattle.walsh.proofs.Gray.{gray, gain-is, neighbours-sym}
 
@@ -23,7 +22,7 @@ use Rattle.walsh.proofs.Gray.{gray, gain-is, neighbours-sym}
 pub gain-same : (k : ℕ) (g : List ℕ) → gainFrom k g g ≡ 0
 unfolding gainFrom
 gain-same k [] = refl
-gain-same k (x ∷ g) = rw (le-ltb x x (omega arith)) (gain-same (k + 1) g)
+gain-same k (x ∷ g) = rw (ne-eqb x (x + 1) (λ e. omega arith)) (gain-same (k + 1) g)
 
 pub transition-same : (g : List ℕ) → transition g g ≡ none
 transition-same g = rw (gain-same 1 g)
@@ -31,22 +30,21 @@ transition-same g = rw (gain-same 1 g)
 -- from part i on
 pub gain-next : (g h : List ℕ) (i : ℕ) → i < length g → i < length h
     → gainFrom (i + 1) (drop i g) (drop i h)
-    ≡ cond (ltb (getD g i 0) (getD h i 0)) (i + 1) (gainFrom (i + 1 + 1) (drop (i + 1) g) (drop (i + 1) h))
+    ≡ cond (eqb (getD h i 0) (getD g i 0 + 1)) (i + 1) (gainFrom (i + 1 + 1) (drop (i + 1) g) (drop (i + 1) h))
 unfolding gainFrom
 gain-next g h i a b = rw (drop-cons g i 0 a, drop-cons h i 0 b, add-one i)
 
--- the one place at which h has more
-gain-at : (k : ℕ) (g h : List ℕ) (a : ℕ) → a < length g → a < length h → getD g a 0 < getD h a 0
-    → ((i : ℕ) → getD g i 0 < getD h i 0 → i ≡ a)
+-- the one place at which h has one more
+gain-at : (k : ℕ) (g h : List ℕ) (a : ℕ) → a < length g → a < length h → getD h a 0 ≡ suc (getD g a 0)
+    → ((i : ℕ) → getD h i 0 ≡ suc (getD g i 0) → i ≡ a)
     → gainFrom k g h ≡ k + a
 unfolding gainFrom
-gain-at k [] h a lg lh more only = absurd (omega arith)
-gain-at k (x ∷ g) [] a lg lh more only = absurd (omega arith)
-gain-at k (x ∷ g) (y ∷ h) zero lg lh more only = rw (lt-ltb x y more) (omega arith)
-gain-at k (x ∷ g) (y ∷ h) (suc a) lg lh more only =
-    on-less x y
-    (λ l _. absurd (omega (arith, only 0 l)))
-    (λ _ t. rw t (gain-at (k + 1) g h a (omega arith) (omega arith) more (λ i q. omega (arith, only (suc i) q)) ∙ omega arith))
+gain-at k [] h a lg lh e only = absurd (omega arith)
+gain-at k (x ∷ g) [] a lg lh e only = absurd (omega arith)
+gain-at k (x ∷ g) (y ∷ h) zero lg lh e only = rw (eq-eqb y (x + 1) (omega arith)) (omega arith)
+gain-at k (x ∷ g) (y ∷ h) (suc a) lg lh e only =
+    rw (ne-eqb y (x + 1) (λ q. omega (arith, only 0 (omega arith))))
+    (gain-at (k + 1) g h a (omega arith) (omega arith) e (λ i q. omega (arith, only (suc i) q)) ∙ omega arith)
 
 one-off : (a : ℕ) → suc a - 1 ≡ a
 one-off a = omega arith
@@ -54,7 +52,7 @@ one-off a = omega arith
 -- ---- of two lists of n parts, one unit apart
 
 gain-one : {g h : List ℕ} {a b : ℕ} → Neighbours g h a b → a < length g → a < length h → gainFrom 1 g h ≡ suc a
-gain-one {g} {h} {a} {b} near lg lh = gain-at 1 g h a lg lh (omega (arith, near .gained)) (gain-is near) ∙ omega arith
+gain-one {g} {h} {a} {b} near lg lh = gain-at 1 g h a lg lh (near .gained) (λ i q. gain-is near i (omega arith)) ∙ omega arith
 
 module _ {g h : List ℕ} {n : ℕ} (lg : length g ≡ n) (lh : length h ≡ n) where
   -- the pair names the two parts

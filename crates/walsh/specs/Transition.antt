@@ -4,20 +4,20 @@ use mathlib.Core.Path.{_≡_, refl}
 use mathlib.Core.Bool.{cond}
 use mathlib.Core.List.{List, [], _∷_}
 use Prim.Native.Nat.{ℕ, _+_, _-_, _≤_}
-use lib.Dec.{ltb}
+use lib.Dec.{eqb, ltb}
 use Rattle.walsh.specs.Order.{listing, order, threeTwos}
 use Rattle.walsh.specs.Serial.{compositionOf}
 use Rattle.walsh.specs.Neighbours.{Neighbours}
 use Rattle.walsh.specs.declared.Transition.{Transition}
 
--- the first kind of which h has more than g, where the first of both is kind k; 0 where there is none
+-- the first kind of which h has one more than g, where the first of both is kind k; 0 where there is none
 unfoldable pub gainFrom : ℕ → List ℕ → List ℕ → ℕ
 gainFrom k [] h = 0
 gainFrom k (x ∷ g) [] = 0
-gainFrom k (x ∷ g) (y ∷ h) = cond (ltb x y) k (gainFrom (k + 1) g h)
+gainFrom k (x ∷ g) (y ∷ h) = cond (eqb y (x + 1)) k (gainFrom (k + 1) g h)
 
--- from g to h: the kind of which h has more, and the kind of which h has fewer. Where h stands next to g that is one more and one fewer, and there is
--- no other such kind (`Carries`, law `serial-carries`).
+-- from g to h: the kind of which h has one more, and the kind of which h has one fewer. Where h stands next to g there is just one of each (law
+-- `serial-carries`).
 abbrev pub transition : List ℕ → List ℕ → Transition
 transition g h = record { gain = gainFrom 1 g h; loss = gainFrom 1 h g }
 
