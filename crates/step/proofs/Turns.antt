@@ -65,15 +65,14 @@ module _ (ms : List ℕ) (w : ℕ) (g : List ℕ) (f : PivotSums) (found : Pivot
   can : f .at < length ms → canMove ms w g (f .at) ≡ true
   can inside = rw (found .first) (pivot-first ms w g .can (omega (arith, found .first)))
 
-  pub found-above : f .at < length ms → (falling : Bool) → falling ≡ isOdd (f .right) → falling ≡ true → 0 < getD g (f .at) 0
-  found-above inside falling e t =
+  pub found-above : f .at < length ms → f .falling ≡ true → 0 < getD g (f .at) 0
+  found-above inside t =
       let rem : ℕ = sumTo g (suc (f .at)) in
-      let way : falling ≡ isOdd (w - rem) = e ∙ rw (found .right inside) in
-      value-above (least ms (f .at) rem) (most ms (f .at) rem) (getD g (f .at) 0) (isOdd (w - rem)) (can inside) (sym way ∙ t)
+      value-above (least ms (f .at) rem) (most ms (f .at) rem) (getD g (f .at) 0) (isOdd (w - rem)) (can inside) (sym (found .way inside) ∙ t)
 
-  module _ (inside : f .at < length ms) (u : ℕ) (eu : u ≡ nextValue (isOdd (f .right)) (getD g (f .at) 0)) where
+  module _ (inside : f .at < length ms) (u : ℕ) (eu : u ≡ nextValue (f .falling) (getD g (f .at) 0)) where
     value : u ≡ nextValue (isOdd (w - sumTo g (suc (f .at)))) (getD g (f .at) 0)
-    value = eu ∙ rw (found .right inside)
+    value = eu ∙ rw (found .way inside)
 
     rest-is : f .sum - u ≡ restAt w g (f .at)
     rest-is = rw (found .sum inside, value)
@@ -88,11 +87,10 @@ module _ (ms : List ℕ) (w : ℕ) (g : List ℕ) (f : PivotSums) (found : Pivot
     found-small bytes byte =
         (within 255 byte (omega arith), rw (found .sum inside) (within _ (omega arith) (omega arith)), rw (found .right inside) (omega arith))
 
-    pub found-way : (falling : Bool) → falling ≡ isOdd (f .right)
-        → (falling ≡ true → getD g (f .at) 0 ≡ u + 1) × (falling ≡ false → u ≡ getD g (f .at) 0 + 1)
-    found-way falling e =
+    pub found-way : (f .falling ≡ true → getD g (f .at) 0 ≡ u + 1) × (f .falling ≡ false → u ≡ getD g (f .at) 0 + 1)
+    found-way =
         let rem : ℕ = sumTo g (suc (f .at)) in
-        rw (e, value, found .right inside)
+        rw (value, found .way inside)
         (value-way (least ms (f .at) rem) (most ms (f .at) rem) (getD g (f .at) 0) (isOdd (w - rem)) (can inside))
 
     pub turn-over : f .left < f .sum - u → g ≡ turnOf ms w g

@@ -7,6 +7,7 @@ use lib.Dec.{eqb}
 use lib.ListN.{length, drop}
 use Rattle.walsh.specs.Tests.{both}
 use Rattle.walsh.specs.Sums.{sumTo}
+use Rattle.walsh.specs.Order.{isOdd}
 use Rattle.walsh.specs.Transition.{gainFrom, transition}
 use Rattle.walsh.specs.declared.Transition.{Transition}
 use Rattle.bounds.specs.Refusal.{refused}
@@ -32,6 +33,7 @@ pub record PivotAt (ms : List ℕ) (w : ℕ) (g : List ℕ) (f : PivotSums) : Ty
   pub small : f .left ≤ 255 * f .at
   pub sum : f .at < length ms → f .sum ≡ sumTo g (suc (f .at))
   pub right : f .at < length ms → f .right ≡ w - sumTo g (suc (f .at))
+  pub way : f .at < length ms → f .falling ≡ isOdd (w - sumTo g (suc (f .at)))
 
 -- the parts before part f .at have room for what the value u leaves to them, and all stays within bytes
 pub record Leaves (ms g : List ℕ) (f : PivotSums) (u : ℕ) : Type 0 where

@@ -34,12 +34,13 @@ pub struct Stepped {
     pub loss: u32,
 }
 
-// Part `at`, the sum of the bounds to its left, that of the parts up to it, itself included, and that of the parts to its right.
+// Part `at`, the sum of the bounds to its left, that of the parts up to it, itself included, that of the parts to its right, and which way it goes.
 struct PivotSums {
     at: usize,
     left: usize,
     sum: usize,
     right: usize,
+    falling: bool,
 }
 
 // The part that changes against the one that moves: its kind, counted from 1, and its new value.
@@ -69,12 +70,14 @@ fn pivot(upper: &[u8], total: usize, start: PivotSums, parts: &[u8]) -> PivotSum
         let v = wide(parts[i]);
         sum += v;
         let right = over(total, sum);
-        if moves(v, over(sum, left), lesser(m, sum), is_odd(right)) {
+        let falling = is_odd(right);
+        if moves(v, over(sum, left), lesser(m, sum), falling) {
             return PivotSums {
                 at: i,
                 left,
                 sum,
                 right,
+                falling,
             };
         }
         left += m;
@@ -85,6 +88,7 @@ fn pivot(upper: &[u8], total: usize, start: PivotSums, parts: &[u8]) -> PivotSum
         left,
         sum,
         right: 0,
+        falling: false,
     }
 }
 
@@ -184,14 +188,13 @@ fn turn_from(upper: &[u8], total: usize, start: PivotSums, parts: &mut [u8]) -> 
     if i == parts.len() {
         return still();
     }
-    let falling = is_odd(found.right);
-    let u = next_value(wide(parts[i]), falling);
+    let u = next_value(wide(parts[i]), found.falling);
     if found.left < found.sum - u {
         return still();
     }
     parts[i] = u as u8;
     let other = other_part(upper, found, u, parts);
-    change(parts, other.kind, other.value, moved(i, falling))
+    change(parts, other.kind, other.value, moved(i, found.falling))
 }
 
 // The same, where of no part it is known that it cannot move.
@@ -206,6 +209,7 @@ fn turn(upper: &[u8], total: usize, parts: &mut [u8]) -> Transition
         left: wide(upper[0]),
         sum: wide(parts[0]),
         right: 0,
+        falling: false,
     };
     turn_from(upper, total, start, parts)
 }

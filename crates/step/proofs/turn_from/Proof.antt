@@ -4,7 +4,6 @@ use mathlib.Core.Path.{_≡_, refl, sym, ap, _∙_}
 use native.Mathlib.Omega.{arith}
 use lib.ListN.{length, getD, set, length-set}
 use borrow.Author.Needs.{needs}
-use Rattle.walsh.specs.Order.{isOdd}
 use Rattle.walsh.specs.Step.{nextValue}
 use Rattle.walsh.proofs.Transitions.{transition-same}
 use Rattle.step.proofs.Turns.{found-some, found-within, found-small, found-above, found-way, turn-last, turn-over, turn-on}
@@ -28,18 +27,18 @@ inside c =
 
 -- its next value
 value : (c : tie.After-next-value) →
-    let at = c .before .before .before .before .before in
+    let at = c .before .before .before .before in
     let start = at .before .before .before .before in
-    c .next-value .result ≡ nextValue (isOdd (at .pivot .result .right)) (getD (start .args .parts .now) (at .pivot .result .at) 0)
-value c = c .next-value .ensures ∙ rw (c .before .before .before .is-odd .ensures, c .before .wide .ensures .0)
+    c .next-value .result ≡ nextValue (at .pivot .result .falling) (getD (start .args .parts .now) (at .pivot .result .at) 0)
+value c = c .next-value .ensures ∙ rw (c .before .wide .ensures .0)
 
 small : (c : tie.After-next-value) →
-    let at = c .before .before .before .before .before in
+    let at = c .before .before .before .before in
     let u = c .next-value .result in
     (u ≤ 255) × (u ≤ at .pivot .result .sum) × (at .pivot .result .right ≤ at .before .before .before .before .args .total)
 small c =
     let known = c .before .before in
-    let found = known .before .before in
+    let found = known .before in
     let at = found .before in
     let i = at .pivot .result .at in
     found-small _ _ _ _ (at .pivot .ensures) (inside found) _ (value c)
@@ -48,17 +47,14 @@ small c =
 
 next-value-requires : tie.Need-next-value-requires
 next-value-requires c κs =
-    let odd = c .before .before in
-    let found = odd .before in (
-      c .wide .ensures .1,
-      λ t. rw (c .wide .ensures .0) (found-above _ _ _ _ (found .before .pivot .ensures) (inside found) _ (odd .is-odd .ensures) t),
-    )
+    let found = c .before .before in
+    (c .wide .ensures .1, λ t. rw (c .wide .ensures .0) (found-above _ _ _ _ (found .before .pivot .ensures) (inside found) t))
 
 -- the rest has no room
 returns-2 : tie.Need-returns-2
 returns-2 c =
     let next = c .before .before .before .before in
-    let found = next .before .before .before .before in (
+    let found = next .before .before .before in (
       turn-over _ _ _ _ (found .before .pivot .ensures) (inside found) _ (value next) (omega arith),
       c .still2 .ensures ∙ sym (transition-same _),
     )
@@ -66,16 +62,16 @@ returns-2 c =
 -- what the part that moves leaves to those before it
 leaves : (c : tie.Else2) →
     let next = c .before .before .before in
-    let start = next .before .before .before .before .before .before .before .before .before in
-    let f = next .before .before .before .before .before .pivot .result in
+    let start = next .before .before .before .before .before .before .before .before in
+    let f = next .before .before .before .before .pivot .result in
     Leaves (start .args .upper .now) (set (start .args .parts .now) (f .at) (next .next-value .result)) f (next .next-value .result)
 leaves c =
     let next = c .before .before .before in
-    let at = next .before .before .before .before .before in
+    let at = next .before .before .before .before in
     let start = at .before .before .before .before in
     let found = at .pivot .ensures in
     let bytes = small next in
-    let within = inside (next .before .before .before .before) in
+    let within = inside (next .before .before .before) in
     let size = length-set (start .args .parts .now) (at .pivot .result .at) (next .next-value .result) in
     record {
       some = found-some _ _ _ _ found;
@@ -90,18 +86,17 @@ returns-3 : tie.Need-returns-3
 returns-3 c =
     let room = c .before .before .before .before .before .before .before in
     let next = room .before .before .before in
-    let odd = next .before .before .before in
-    let found = odd .before in
+    let found = next .before .before .before in
     let at = found .before .pivot in
     let start = found .before .before .before .before .before in
     let other = c .before .before .before .before .before .other-part in
     let within = inside found in
     let done = c .before .before .change .ensures in
     let u = next .next-value .result in
-    let way = found-way _ _ _ _ (at .ensures) within u (value next) _ (odd .is-odd .ensures) in (
+    let way = found-way _ _ _ _ (at .ensures) within u (value next) in (
       done .0 ∙ turn-on _ _ _ _ (at .ensures) within u (value next) (leaves room .room) (other .result) (other .ensures),
       rw (done .0, done .1, c .before .before .before .moved .ensures)
-          (traded (start .args .parts .now) (at .result .at) u (other .result .kind) (other .result .value) (odd .is-odd .result)
+          (traded (start .args .parts .now) (at .result .at) u (other .result .kind) (other .result .value) (at .result .falling)
           (omega (arith, within, start .pre .1)) (other .ensures .kind) way),
     )
 
@@ -113,8 +108,7 @@ turn-from-spec =
     (λ c κs. search needs)
     (λ c. search needs)
     returns
-    (λ c κs. search needs)
-    (λ c. let found = c .before .before in omega (arith, inside found, found .before .before .before .before .before .pre .1))
+    (λ c. let found = c .before in omega (arith, inside found, found .before .before .before .before .before .pre .1))
     (λ c κs. search needs)
     next-value-requires
     (λ c. small (c .before) .1)
@@ -123,11 +117,11 @@ turn-from-spec =
     returns-2
     (λ c. omega (arith, leaves c .value))
     (λ c.
-    let found = c .before .before .before .before .before .before .before in
+    let found = c .before .before .before .before .before .before in
     omega (arith, inside found, found .before .before .before .before .before .pre .1))
     (λ c κs. leaves (c .before))
     (λ c κs.
-    let found = c .before .before .before .before .before .before .before .before .before .before in
+    let found = c .before .before .before .before .before .before .before .before .before in
     omega (arith, inside found, found .before .before .before .before .before .pre .0))
     (λ c κs.
     let room = c .before .before .before .before in
@@ -135,7 +129,7 @@ turn-from-spec =
     let within = leaves room .inside in (
       other .kind .0,
       omega (arith, other .kind, within),
-      omega (arith, other .kind, within, room .before .before .before .before .before .before .before .before .before .before .before .before .pre .0),
+      omega (arith, other .kind, within, room .before .before .before .before .before .before .before .before .before .before .before .pre .0),
       other .value,
     ))
     (λ c. ap length (c .before .before .change .ensures .0) ∙ simp length-set refl)
