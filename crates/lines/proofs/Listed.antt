@@ -20,7 +20,7 @@ use Rattle.rank.specs.Locate.{nearest, locateOf}
 use Rattle.rank.specs.declared.Located.{Located}
 use Rattle.rank.proofs.Calls.{clamp-in}
 use Rattle.rank.proofs.Locations.{located-refused, located-accepted}
-use Rattle.step.specs.Advance.{Leads}
+use Rattle.step.specs.Advance.{Retreats}
 use Rattle.lines.specs.Printed.{Output, refusal, copies, listChecks, listed}
 use Rattle.lines.specs.Page.{lineIn, pageIn, Ready, Filled}
 use Rattle.lines.specs.declared.Page.{Page}
@@ -107,9 +107,9 @@ module _ (ms : List ℕ) (r : ℕ) where
           here = rw cells (take-at (compositionOf ms r s) _ (length ms) size)
 
           -- the pair of the composition is that of the line
-          pub list-ready : (y : Transition) → Leads ms r (take (length ms) (x .composition)) y
+          pub list-ready : (y : Transition) (l : List ℕ) → Retreats ms r (take (length ms) (x .composition)) y l
               → Ready ms r s (x .count) (take (length ms) (x .composition)) y
-          list-ready y leads =
+          list-ready y l back =
               let few = edition-shapely ms r (told .0) .few in
               let last : s ≤ countOf ms r = omega (arith, told .1) in
               let valid = rw (← here) at (composition-is ms r s pos last) in
@@ -120,7 +120,7 @@ module _ (ms : List ℕ) (r : ℕ) where
                 low = pos;
                 high = high;
                 here = here;
-                pair = leads .pair few valid ∙ rw (here, serial-composition ms r s pos last);
+                pair = back .pair few valid ∙ rw (here, serial-composition ms r s pos last);
               }
 
           pub list-put : (p : Page) (before after : List ℕ) → Filled ms r s (x .count) before after p

@@ -224,7 +224,8 @@ fn list(upper: &[u8], total: u32, serial: u64, out: &mut [u8]) -> Page
     }
     let n = upper.len();
     let mut cells = l.composition;
-    let first = step::transition_to(upper, total, &cells[..n]);
+    let mut before = l.composition;
+    let first = step::retreat(upper, total, &mut before[..n]);
     put_lines(upper, total, serial, l.count, &mut cells[..n], first, out)
 }
 

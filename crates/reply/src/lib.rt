@@ -67,7 +67,8 @@ pub fn peek(ledger: Ledger, orders: &[u32]) -> Peeked
     let n = ledger.bounds.parts;
     let upper = ledger.bounds.upper;
     let composition = ledger.next;
-    let pair = step::transition_to(&upper[..n], ledger.bounds.total, &composition[..n]);
+    let mut before = ledger.next;
+    let pair = step::retreat(&upper[..n], ledger.bounds.total, &mut before[..n]);
     Peeked {
         number: 0,
         detail: 0,

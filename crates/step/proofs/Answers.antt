@@ -9,7 +9,7 @@ use lib.Dec.{eqb}
 use borrow.Author.Tests.{ne-eqb}
 use Rattle.walsh.specs.Order.{Composition, countOf}
 use Rattle.walsh.specs.Serial.{serialOf, compositionOf}
-use Rattle.walsh.specs.Transition.{gainFrom, transition}
+use Rattle.walsh.specs.Transition.{gainFrom}
 use Rattle.walsh.proofs.Serials.{composition-serial, serial-pos, serial-le}
 use Rattle.walsh.proofs.Transitions.{gain-same}
 use Rattle.bounds.specs.Refusal.{Check, refused, firstRefusal}
@@ -21,7 +21,7 @@ use Rattle.bounds.proofs.Chains.{answer-first, answer-later}
 use Rattle.bounds.proofs.Compositions.{composition-passed}
 use Rattle.step.specs.Steps.{endChecks, nextSerial, steppedBy, stepOf}
 use Rattle.step.specs.Advance.{turnOf}
-use Rattle.step.specs.Turn.{isNone, shiftedBy}
+use Rattle.step.specs.Turn.{shiftedBy}
 use Rattle.step.proofs.Turns.{AtPivot, AtEnd, turned}
 use Rattle.step.proofs.Ways.{way-reached, moving, way-on, way-off, to-carries}
 
@@ -66,15 +66,15 @@ module _ (back : Bool) (ms : List ℕ) (r : ℕ) (g : List ℕ) where
           rw (← none)
 
       -- a part gains where there is a step
-      moved : eqb (serialOf ms r g) (cond back 1 (countOf ms r)) ≡ false
-          → isNone (transition g (compositionOf ms r (nextSerial back (serialOf ms r g)))) ≡ false
-      moved on =
+      gains : eqb (serialOf ms r g) (cond back 1 (countOf ms r)) ≡ false
+          → eqb (gainFrom 1 g (compositionOf ms r (nextSerial back (serialOf ms r g)))) 0 ≡ false
+      gains on =
           let c = to-carries ms r (serialOf ms r g) (serial-pos ms r g valid) (serial-le ms r g valid) back on in
-          let gain = rw (composition-serial ms r g valid) at (c .gain .0) in
-          rw (ne-eqb (gainFrom 1 g (compositionOf ms r (nextSerial back (serialOf ms r g)))) 0 (λ e. omega arith))
+          let some = rw (composition-serial ms r g valid) at (c .gain .0) in
+          ne-eqb (gainFrom 1 g (compositionOf ms r (nextSerial back (serialOf ms r g)))) 0 (λ e. omega arith)
 
       gone : {h : List ℕ} → AtPivot ms (cond back (r + 1) r) g h ⊎ AtEnd ms (cond back (r + 1) r) g h → shiftedBy g h ≡ stepOf back ms r g
-      gone {h} (inl t) = let on = way-on ms r g valid back h t in rw (on .1, moved (on .0)) (step-goes (on .0))
+      gone {h} (inl t) = let on = way-on ms r g valid back h t in rw (on .1, gains (on .0)) (step-goes (on .0))
       gone {h} (inr t) =
           rw (t .1, gain-same 1 g)
           (refused-by (refused 9 0) (table (sym (refusal-here _ [] (way-off ms r g valid back h t)))) (λ z. omega arith))

@@ -5,17 +5,14 @@ use mathlib.Core.List.{List}
 use Prim.Native.Nat.{ℕ, zero, suc, _+_, _-_, _≤_, _<_}
 use native.Mathlib.Nat.{add-zero}
 use native.Mathlib.Omega.{arith}
-use lib.Dec.{eqb}
 use lib.ListN.{length, getD, set, drop, length-set}
 use lib.Seq.{getD-set-same, getD-set-other, drop-set-lt}
-use borrow.Author.Tests.{eqb-true, eq-eqb, ne-eqb}
+use borrow.Author.Tests.{eq-eqb, ne-eqb}
 use Rattle.walsh.specs.Transition.{gainFrom, transition, none}
 use Rattle.walsh.specs.declared.Transition.{Transition}
-use Rattle.walsh.proofs.Cases.{on-test}
-use Rattle.walsh.proofs.Tests.{both-left, both-right}
 use Rattle.walsh.proofs.Transitions.{gain-same, gain-next}
 use Rattle.bounds.specs.Edition.{cellsOf, blank}
-use Rattle.step.specs.Turn.{transitionFrom, noting, movedBy, isNone, shiftedBy}
+use Rattle.step.specs.Turn.{transitionFrom, noting, movedBy, shiftedBy}
 
 -- h differs from g from part i on alone, and x is what changes there
 pub record Noted (g h : List ℕ) (i : ℕ) (x : Transition) : Type 0 where
@@ -95,20 +92,10 @@ module _ (g : List ℕ) (i u kind v : ℕ) (falling : Bool) (inside : i < length
 -- ---- the answer of a step over a copy
 
 module _ (g h : List ℕ) where
-  pub shifted-still : {x : Transition} → x ≡ transition g h → isNone x ≡ true
+  pub shifted-still : {x : Transition} → x ≡ transition g h → x .gain ≡ 0
       → record { number = 9; detail = 0; composition = blank; gain = 0; loss = 0 } ≡ shiftedBy g h
-  shifted-still e t = let t′ : isNone (transition g h) ≡ true = rw e at t in rw t′
+  shifted-still e z = rw (eq-eqb (gainFrom 1 g h) 0 (rw e at z))
 
-  pub shifted-moved : {x : Transition} → x ≡ transition g h → isNone x ≡ false
+  pub shifted-moved : {x : Transition} → x ≡ transition g h → (x .gain ≡ 0 → ⊥)
       → record { number = 0; detail = 0; composition = cellsOf h; gain = x .gain; loss = x .loss } ≡ shiftedBy g h
-  shifted-moved e t = let t′ : isNone (transition g h) ≡ false = rw e at t in rw (e, t′)
-
-  -- its kinds exchanged are the pair of the way back; where nothing changes, they are 0 and 0
-  pub shifted-back : record { gain = shiftedBy g h .loss; loss = shiftedBy g h .gain } ≡ transition h g
-  shifted-back =
-      on-test (isNone (transition g h))
-      (λ t.
-      let gain = eqb-true (gainFrom 1 g h) 0 (both-left (eqb (gainFrom 1 g h) 0) (eqb (gainFrom 1 h g) 0) t) in
-      let loss = eqb-true (gainFrom 1 h g) 0 (both-right (eqb (gainFrom 1 g h) 0) (eqb (gainFrom 1 h g) 0) t) in
-      rw (t, gain, loss))
-      (λ t. rw t)
+  shifted-moved e some = rw (e, ne-eqb (gainFrom 1 g h) 0 (rw e at some))

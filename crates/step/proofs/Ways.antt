@@ -22,7 +22,7 @@ use Rattle.walsh.proofs.Serials.{composition-is, serial-composition, compositio
 use Rattle.walsh.proofs.Successors.{successor-at, successor-none, predecessor-at, predecessor-none}
 use Rattle.walsh.proofs.Gray.{neighbours-sym}
 use Rattle.walsh.proofs.Transitions.{transition-same, transition-carries, transition-none, transition-some, near-serial}
-use Rattle.step.specs.Advance.{advanceOf, pivotOf, turnAt, turnOf, sized, turnAny, Advances, Leads}
+use Rattle.step.specs.Advance.{advanceOf, pivotOf, turnAt, turnOf, sized, turnAny, Advances, Retreats}
 use Rattle.step.specs.Steps.{nextSerial}
 use Rattle.step.proofs.Pivots.{pivot-first}
 use Rattle.step.proofs.Turns.{Moving, AtPivot, AtEnd, turned}
@@ -150,11 +150,15 @@ module _ (ms : List ℕ) (r : ℕ) (g : List ℕ) where
       }
 
   -- and of the pair that leads to it, that it is the one of its serial
-  pub leads : {x : Transition} → x ≡ transition (turnAny ms (r + 1) g) g → Leads ms r g x
-  leads e =
+  pub retreats : {x : Transition} {h : List ℕ} → h ≡ turnAny ms (r + 1) g → x ≡ transition h g → Retreats ms r g x h
+  retreats {x} {h} e p =
       record {
         always = e;
-        pair = λ few valid. e ∙ ap (λ (h : List ℕ). transition h g) (any-sized ms (r + 1) g few (valid .size)) ∙ turn-before ms r g valid;
+        back = p;
+        pair =
+            λ few valid. p
+            ∙ ap (λ (q : List ℕ). transition q g) (e ∙ any-sized ms (r + 1) g few (valid .size))
+            ∙ turn-before ms r g valid;
       }
 
 -- from the composition of a serial below N

@@ -1,6 +1,5 @@
--- Document 01, "Serial and mix": "Forward and backward step give the mix one serial on or back." Here the forward step over lent bytes, for the
--- calls that go from one composition to the next without checking them anew: what it makes of a composition, and what of any bytes. Document 02,
--- (i): the pair of a composition, for the calls that have one and need that of its serial.
+-- Document 01, "Serial and mix": "Forward and backward step give the mix one serial on or back." Here both over lent bytes, for the calls that hold
+-- a composition and need not have it checked: what becomes of a composition, and what of any bytes. Document 02, (i): with the pair.
 use mathlib.Core.Path.{_≡_, refl}
 use mathlib.Core.Bool.{Bool, cond}
 use mathlib.Core.List.{List, [], _∷_}
@@ -89,9 +88,10 @@ pub record Advances (ms : List ℕ) (r : ℕ) (g : List ℕ) (x : Transition) (h
   pub next : length ms ≤ 24 → Composition ms r g → h ≡ advanceOf ms r g
   pub pair : x ≡ transition g h
 
--- x is the pair that leads to g: of a composition that of its serial, of any bytes that from where the step back leads
-pub record Leads (ms : List ℕ) (r : ℕ) (g : List ℕ) (x : Transition) : Type 0 where
-  pub always : x ≡ transition (turnAny ms (r + 1) g) g
+-- backward: the answer is the pair from h to g, which for a composition is that of its serial
+pub record Retreats (ms : List ℕ) (r : ℕ) (g : List ℕ) (x : Transition) (h : List ℕ) : Type 0 where
+  pub always : h ≡ turnAny ms (r + 1) g
+  pub back : x ≡ transition h g
   pub pair : length ms ≤ 24 → Composition ms r g → x ≡ transitionAt ms r (serialOf ms r g)
 
 -- ---- computed: parts with another sum move, and those whose rest has no room do not

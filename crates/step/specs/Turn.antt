@@ -5,7 +5,6 @@ use mathlib.Core.List.{List}
 use Prim.Native.Nat.{ℕ, suc, _+_, _-_, _*_, _≤_, _<_}
 use lib.Dec.{eqb}
 use lib.ListN.{length, drop}
-use Rattle.walsh.specs.Tests.{both}
 use Rattle.walsh.specs.Sums.{sumTo}
 use Rattle.walsh.specs.Order.{isOdd}
 use Rattle.walsh.specs.Transition.{gainFrom, transition}
@@ -64,10 +63,7 @@ noting x k u v = record { gain = cond (eqb v (u + 1)) k (x .gain); loss = cond (
 abbrev pub movedBy : Bool → ℕ → Transition
 movedBy falling i = cond falling (record { gain = 0; loss = i + 1 }) (record { gain = i + 1; loss = 0 })
 
--- ---- the answer of a step that finds g and leaves h: 9 where nothing changes
-
-abbrev pub isNone : Transition → Bool
-isNone x = both (eqb (x .gain) 0) (eqb (x .loss) 0)
+-- ---- the answer of a step that finds g and leaves h: 9 where no part gains
 
 abbrev pub shiftedBy : List ℕ → List ℕ → Stepped
-shiftedBy g h = steppedBy (cond (isNone (transition g h)) (refused 9 0) (refused 0 0)) g h
+shiftedBy g h = steppedBy (cond (eqb (transition g h .gain) 0) (refused 9 0) (refused 0 0)) g h

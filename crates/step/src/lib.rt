@@ -21,8 +21,8 @@ ghost use Rattle.walsh.specs.Step.{nextValue};
 ghost use Rattle.walsh.specs.Transition.{transition, none};
 ghost use Rattle.bounds.specs.Edition.{blank};
 ghost use Rattle.step.specs.Steps.{stepOf, successorOf, predecessorOf};
-ghost use Rattle.step.specs.Advance.{turnOf, sized, Advances, Leads};
-ghost use Rattle.step.specs.Turn.{Begins, PivotAt, Leaves, OtherAt, noting, movedBy, isNone, shiftedBy};
+ghost use Rattle.step.specs.Advance.{turnOf, sized, Advances, Retreats};
+ghost use Rattle.step.specs.Turn.{Begins, PivotAt, Leaves, OtherAt, noting, movedBy, shiftedBy};
 
 // A composition in 24 cells and the kinds that gained and lost a unit on the way to it, or a refusal's number and detail with all else 0.
 #[repr(C)]
@@ -239,6 +239,21 @@ pub fn advance(upper: &[u8], total: u32, parts: &mut [u8]) -> Transition
     turn(upper, total as usize, parts)
 }
 
+// The backward step in place, for the same callers: the answer is the pair of the composition that was lent, measured from the one before it, so
+// the kinds of the step back exchanged; 0 and 0 for the first, which stays.
+pub fn retreat(upper: &[u8], total: u32, parts: &mut [u8]) -> Transition
+    ensures { λ r. ⌜ Retreats (now (upper .entry)) total (now (parts .entry)) r (now (parts .exit)) ⌝ }
+{
+    if !is_sized(upper, parts) {
+        return still();
+    }
+    let back = turn(upper, total as usize + 1, parts);
+    Transition {
+        gain: back.loss,
+        loss: back.gain,
+    }
+}
+
 // The answer of a refused step.
 fn stopped(number: u32, detail: u64) -> Stepped
     ensures { λ r. ⌜ r ≡ record { number = number; detail = detail; composition = blank; gain = 0; loss = 0 } ⌝ }
@@ -263,16 +278,6 @@ fn side(total: u32, back: bool) -> usize
     }
 }
 
-// No part gains, and none loses.
-fn is_still(x: Transition) -> bool
-    ensures { λ r. ⌜ r ≡ isNone x ⌝ }
-{
-    if x.gain != 0 {
-        return false;
-    }
-    x.loss == 0
-}
-
 // The step over a copy of the parts, in 24 cells, with its pair; 9 where there is none.
 fn shift(upper: &[u8], total: usize, parts: &[u8]) -> Stepped
     requires { ⌜ (0 < length (now upper)) × (length (now upper) ≤ 24) × (length (now parts) ≡ length (now upper)) × (total ≤ 4294967296) ⌝ }
@@ -281,7 +286,7 @@ fn shift(upper: &[u8], total: usize, parts: &[u8]) -> Stepped
     let n = upper.len();
     let mut cells = bounds::pack(parts);
     let x = turn(upper, total, &mut cells[..n]);
-    if is_still(x) {
+    if x.gain == 0 {
         return stopped(9, 0);
     }
     Stepped {
@@ -290,21 +295,6 @@ fn shift(upper: &[u8], total: usize, parts: &[u8]) -> Stepped
         composition: cells,
         gain: x.gain,
         loss: x.loss,
-    }
-}
-
-// The pair of a composition, measured from the one before it; 0 and 0 for the first. It is that of the step back with its kinds exchanged. Like
-// `advance` for callers that hold a composition; what the pair of any other bytes is, is said too.
-pub fn transition_to(upper: &[u8], total: u32, parts: &[u8]) -> Transition
-    ensures { λ r. ⌜ Leads (now (upper .entry)) total (now (parts .entry)) r ⌝ }
-{
-    if !is_sized(upper, parts) {
-        return still();
-    }
-    let back = shift(upper, side(total, true), parts);
-    Transition {
-        gain: back.loss,
-        loss: back.gain,
     }
 }
 

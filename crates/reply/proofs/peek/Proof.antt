@@ -59,10 +59,10 @@ add-serial c = omega (arith, left (c .before), parts _ _ (fits (c .before .befor
 
 returns-3 : tie.Need-returns-3
 returns-3 c =
-    let e = c .before .before .before .before .before .before in
+    let e = c .before .before .before .before .before .before .before .before in
     let t = fits (e .before .before .before) in
     let n = length-take-le _ _ (few-upper e) in
-    let pair = c .transition-to .ensures .pair (omega (arith, few e, n)) (own-composition _ _ t (left e) n) in
+    let pair = c .before .retreat .ensures .pair (omega (arith, few e, n)) (own-composition _ _ t (left e) n) in
     sym (peeking-next _ _ t (left e) n _ pair)
 
 pub peek-spec : {M : Type 1} → statement M
@@ -75,9 +75,9 @@ peek-spec =
     (λ c κs. search needs)
     returns-2
     add-serial
-    (λ c. few-upper (c .before .before .before))
-    (λ c. sym (length-take-le _ _ (few-upper (c .before .before .before .before))))
-    (λ c. few-next (c .before .before .before .before))
-    (λ c. sym (length-take-le _ _ (few-next (c .before .before .before .before .before))))
+    (λ c. few-upper (c .before .before .before .before))
+    (λ c. sym (length-take-le _ _ (few-upper (c .before .before .before .before .before))))
+    (λ c. few-next (c .before .before .before .before .before))
+    (λ c. sym (length-take-le _ _ (few-next (c .before .before .before .before .before .before))))
     (λ c κs. search needs)
     returns-3)

@@ -39,19 +39,16 @@ turned c = rw (lent (c .before .before)) at (c .turn .ensures)
 
 returns : tie.Need-returns
 returns c =
-    let still = c .before .before in
-    let t = still .before .before in
-    c .stopped .ensures
-    ∙ rw (← (turned t .0)) (shifted-still _ _ (turned t .1) (sym (still .is-still .ensures) ∙ c .before .if1 .taken))
+    let t = c .before .before .before .before in
+    c .stopped .ensures ∙ rw (← (turned t .0)) (shifted-still _ _ (turned t .1) (c .before .if1 .taken))
 
 returns-2 : tie.Need-returns-2
 returns-2 c =
-    let still = c .before in
-    let t = still .before .before in
+    let t = c .before .before .before in
     let p = t .before .before in
     let h = t .turn .last .1 .1 .0 in
     rw (packed p, cells-replaced _ h _ (p .before .before .before .pre .2) (t .turn .kept .1 .1 .0 ∙ size p), ← (turned t .0))
-    (shifted-moved _ h (turned t .1) (sym (still .is-still .ensures) ∙ c .if1 .left))
+    (shifted-moved _ h (turned t .1) (c .if1 .left))
 
 pub shift-spec : {M : Type 1} → statement M
 shift-spec =
@@ -61,7 +58,6 @@ shift-spec =
     (λ c. search needs)
     (λ c. sym (size (c .before)))
     (λ c κs. let p = c .before .before .before .before .pre in (p .0, p .1, size (c .before), p .3))
-    (λ c κs. search needs)
     (λ c κs. search needs)
     returns
     returns-2)
