@@ -12,7 +12,11 @@ use Rattle.walsh.specs.Transition.{gainFrom, transition, none}
 use Rattle.walsh.specs.declared.Transition.{Transition}
 use Rattle.walsh.proofs.Transitions.{gain-same, gain-next}
 use Rattle.bounds.specs.Edition.{cellsOf, blank}
-use Rattle.step.specs.Turn.{transitionFrom, noting, movedBy, shiftedBy}
+use Rattle.step.specs.Turn.{noting, movedBy, shiftedBy}
+
+-- what changes from part i on, between g and h
+abbrev transitionFrom : ℕ → List ℕ → List ℕ → Transition
+transitionFrom i g h = record { gain = gainFrom (i + 1) (drop i g) (drop i h); loss = gainFrom (i + 1) (drop i h) (drop i g) }
 
 -- h differs from g from part i on alone, and x is what changes there
 pub record Noted (g h : List ℕ) (i : ℕ) (x : Transition) : Type 0 where

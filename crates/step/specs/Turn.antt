@@ -4,10 +4,10 @@ use mathlib.Core.Bool.{Bool, cond}
 use mathlib.Core.List.{List}
 use Prim.Native.Nat.{ℕ, suc, _+_, _-_, _*_, _≤_, _<_}
 use lib.Dec.{eqb}
-use lib.ListN.{length, drop}
+use lib.ListN.{length}
 use Rattle.walsh.specs.Sums.{sumTo}
 use Rattle.walsh.specs.Order.{isOdd}
-use Rattle.walsh.specs.Transition.{gainFrom, transition}
+use Rattle.walsh.specs.Transition.{transition}
 use Rattle.walsh.specs.declared.Transition.{Transition}
 use Rattle.bounds.specs.Refusal.{refused}
 use Rattle.step.specs.Advance.{movingFrom, pivotOf, otherOf}
@@ -50,10 +50,6 @@ pub record OtherAt (ms g : List ℕ) (f : PivotSums) (u : ℕ) (o : Other) : Typ
   pub value : o .value ≤ 255
 
 -- ---- the pair, part by part from the last to the first
-
--- what changes from part i on, between g and h
-abbrev pub transitionFrom : ℕ → List ℕ → List ℕ → Transition
-transitionFrom i g h = record { gain = gainFrom (i + 1) (drop i g) (drop i h); loss = gainFrom (i + 1) (drop i h) (drop i g) }
 
 -- what changes from kind k on, where that part goes from u to v, and x is what changes behind it
 abbrev pub noting : Transition → ℕ → ℕ → ℕ → Transition
