@@ -69,8 +69,8 @@ noted-to i j b l n =
     let whole : j + (i - j) ≡ i = omega arith in
     noted-down j (i - j) (omega arith) (rw whole n)
 
--- part i moves to u, and then the part of a kind before it gets the value v
-module _ (g : List ℕ) (i u kind v : ℕ) (falling : Bool) (inside : i < length g) (before : (0 < kind) × (kind ≤ i))
+-- part i moves to u, and then a part before it, counted from 1, gets the value v
+module _ (g : List ℕ) (i u part v : ℕ) (falling : Bool) (inside : i < length g) (before : (0 < part) × (part ≤ i))
     (way : (falling ≡ true → getD g i 0 ≡ u + 1) × (falling ≡ false → u ≡ getD g i 0 + 1)) where
   first : movedBy falling i ≡ noting none (i + 1) (getD g i 0) u
   first = go falling way
@@ -84,14 +84,14 @@ module _ (g : List ℕ) (i u kind v : ℕ) (falling : Bool) (inside : i < length
           let up = w .1 refl in
           rw (eq-eqb u (getD g i 0 + 1) up, ne-eqb (getD g i 0) (u + 1) (λ e. omega arith))
 
-  pub traded : noting (movedBy falling i) kind (getD (set g i u) (kind - 1) 0) v ≡ transition g (set (set g i u) (kind - 1) v)
+  pub traded : noting (movedBy falling i) part (getD (set g i u) (part - 1) 0) v ≡ transition g (set (set g i u) (part - 1) v)
   traded =
       let size = length-set g i u in
-      let back : kind - 1 + 1 ≡ kind = omega arith in
+      let back : part - 1 + 1 ≡ part = omega arith in
       let moved : Noted g (set g i u) i (movedBy falling i) = rw first (noted-next i u inside (noted-none g (i + 1))) in
-      let there : Noted g (set g i u) (kind - 1 + 1) (movedBy falling i) = rw back (noted-to i kind (before .1) (omega (arith, size)) moved) in
-      let both = rw back at (noted-next (kind - 1) v (omega (arith, size)) there) in
-      noted-to (kind - 1) 0 (omega arith) (omega (arith, size, length-set (set g i u) (kind - 1) v)) both .is
+      let there : Noted g (set g i u) (part - 1 + 1) (movedBy falling i) = rw back (noted-to i part (before .1) (omega (arith, size)) moved) in
+      let both = rw back at (noted-next (part - 1) v (omega (arith, size)) there) in
+      noted-to (part - 1) 0 (omega arith) (omega (arith, size, length-set (set g i u) (part - 1) v)) both .is
 
 -- ---- the answer of a step over a copy
 

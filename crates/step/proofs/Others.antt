@@ -53,7 +53,7 @@ module _ (ms g : List ℕ) where
       ev ∙ rw (elo, ehi, ed, left, em)
 
   found-other : (k rem t v : ℕ) → 0 < k → v ≡ partFirst ms k rem t → (v ≡ getD g k 0 → ⊥)
-      → record { kind = suc k; value = v } ≡ otherOf ms g k rem t
+      → record { part = suc k; value = v } ≡ otherOf ms g k rem t
   unfolding otherOf
   found-other zero rem t v some is ne = absurd (omega arith)
   found-other (suc k) rem t v some is ne =
@@ -68,15 +68,15 @@ module _ (ms g : List ℕ) where
       rw (back, is, eq-eqb (partFirst ms (suc k) rem t) (getD g (suc k) 0) (sym is ∙ e))
 
   module _ (i rem t v : ℕ) (more : 1 < i) (is : v ≡ partFirst ms (i - 1) rem t) where
-    pub other-here : (v ≡ getD g (i - 1) 0 → ⊥) → record { kind = i; value = v } ≡ otherOf ms g (i - 1) rem t
+    pub other-here : (v ≡ getD g (i - 1) 0 → ⊥) → record { part = i; value = v } ≡ otherOf ms g (i - 1) rem t
     other-here ne =
-        let kind : i ≡ suc (i - 1) = omega arith in
-        ap (λ (k : ℕ). record { kind = k; value = v }) kind ∙ found-other (i - 1) rem t v (omega arith) is ne
+        let part : i ≡ suc (i - 1) = omega arith in
+        ap (λ (k : ℕ). record { part = k; value = v }) part ∙ found-other (i - 1) rem t v (omega arith) is ne
 
     pub other-next : v ≡ getD g (i - 1) 0 → otherOf ms g (i - 1 - 1) (rem - v) (t + v) ≡ otherOf ms g (i - 1) rem t
     other-next e = passed-other (i - 1) rem t v (omega arith) is e
 
-  pub other-last : (i rem t : ℕ) → i ≡ 1 → record { kind = 1; value = rem } ≡ otherOf ms g (i - 1) rem t
+  pub other-last : (i rem t : ℕ) → i ≡ 1 → record { part = 1; value = rem } ≡ otherOf ms g (i - 1) rem t
   unfolding otherOf
   other-last i rem t e = rw e
 

@@ -32,7 +32,7 @@ module _ (ms : List ℕ) where
   -- g and the first composition of the parts up to k, with d behind it, differ at one part j at most
   settles : (k rem t : ℕ) (g d : List ℕ) (j : ℕ) → k < length g → drop (suc k) g ≡ d → rem ≤ sumTo ms (suc k)
       → ((i : ℕ) → (i ≡ j → ⊥) → getD (firstOf ms (suc k) rem t ++ d) i 0 ≡ getD g i 0)
-      → set g (otherOf ms g k rem t .kind - 1) (otherOf ms g k rem t .value) ≡ firstOf ms (suc k) rem t ++ d
+      → set g (otherOf ms g k rem t .part - 1) (otherOf ms g k rem t .value) ≡ firstOf ms (suc k) rem t ++ d
   unfolding otherOf firstOf
   settles zero rem t g d j l e fits same = refill-end ms g 1 rem t refl l fits ∙ rw e
   settles (suc k) rem t g d j l e fits same =

@@ -99,11 +99,11 @@ module _ (ms : List ℕ) (w : ℕ) (g : List ℕ) (f : PivotSums) (found : Pivot
         rw (← (found .first), lt-ltb (f .at) (length ms) inside, ← rest-is, ← (found .left), lt-leb (f .sum - u) (f .left) l)
 
     -- the part against it is changed too
-    trade-on : (o : Other) → OtherAt ms (set g (f .at) u) f u o → set (set g (f .at) u) (o .kind - 1) (o .value) ≡ tradeAt ms w g (f .at)
+    trade-on : (o : Other) → OtherAt ms (set g (f .at) u) f u o → set (set g (f .at) u) (o .part - 1) (o .value) ≡ tradeAt ms w g (f .at)
     trade-on o other = rw (other .is, found .sum inside, found .right inside, value)
 
     pub turn-on : f .sum - u ≤ f .left → (o : Other) → OtherAt ms (set g (f .at) u) f u o
-        → set (set g (f .at) u) (o .kind - 1) (o .value) ≡ turnOf ms w g
+        → set (set g (f .at) u) (o .part - 1) (o .value) ≡ turnOf ms w g
     unfolding turnAt
     turn-on l o other =
         let fits : restAt w g (f .at) ≤ sumTo ms (f .at) = omega (arith, sym rest-is, found .left) in

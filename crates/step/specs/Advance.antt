@@ -50,20 +50,20 @@ restAt w g i = sumTo g (suc i) - nextAt w g i
 abbrev pub hasRoom : List ℕ → ℕ → List ℕ → ℕ → Bool
 hasRoom ms w g i = both (ltb i (length ms)) (leb (restAt w g i) (sumTo ms i))
 
--- the part that changes against it, with its kind and its new value: of the parts k, .. , 1 the first that is not at its first value, which it gets;
+-- the part that changes against it, counted from 1, and its new value: of the parts k, .. , 1 the first that is not at its first value, which it gets;
 -- where there is none, part 0, which gets what is left. `rem` is left to the parts up to k, and those behind them sum to t.
 unfoldable pub otherOf : List ℕ → List ℕ → ℕ → ℕ → ℕ → Other
-otherOf ms g zero rem t = record { kind = 1; value = rem }
+otherOf ms g zero rem t = record { part = 1; value = rem }
 otherOf ms g (suc k) rem t =
     let v = partFirst ms (suc k) rem t in
-    cond (eqb v (getD g (suc k) 0)) (otherOf ms g k (rem - v) (t + v)) (record { kind = suc (suc k); value = v })
+    cond (eqb v (getD g (suc k) 0)) (otherOf ms g k (rem - v) (t + v)) (record { part = suc (suc k); value = v })
 
 -- both parts change
 abbrev pub tradeAt : List ℕ → ℕ → List ℕ → ℕ → List ℕ
 tradeAt ms w g i =
     let moved = set g i (nextAt w g i) in
     let other = otherOf ms moved (i - 1) (restAt w g i) (w - sumTo g (suc i) + nextAt w g i) in
-    set moved (other .kind - 1) (other .value)
+    set moved (other .part - 1) (other .value)
 
 -- part i moves on; g itself where it cannot
 unfoldable pub turnAt : List ℕ → ℕ → List ℕ → ℕ → List ℕ

@@ -46,12 +46,12 @@ pub record Leaves (ms g : List ℕ) (f : PivotSums) (u : ℕ) : Type 0 where
 -- o is the part that changes against it: one before it, and its value is a byte
 pub record OtherAt (ms g : List ℕ) (f : PivotSums) (u : ℕ) (o : Other) : Type 0 where
   pub is : o ≡ otherOf ms g (f .at - 1) (f .sum - u) (f .right + u)
-  pub kind : (0 < o .kind) × (o .kind ≤ f .at)
+  pub part : (0 < o .part) × (o .part ≤ f .at)
   pub value : o .value ≤ 255
 
 -- ---- the pair, part by part from the last to the first
 
--- what changes from kind k on, where that part goes from u to v, and x is what changes behind it
+-- what changes from part k on, counted from 1, where it goes from u to v, and x is what changes behind it
 abbrev pub noting : Transition → ℕ → ℕ → ℕ → Transition
 noting x k u v = record { gain = cond (eqb v (u + 1)) k (x .gain); loss = cond (eqb u (v + 1)) k (x .loss) }
 

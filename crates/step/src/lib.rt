@@ -43,9 +43,9 @@ struct PivotSums {
     falling: bool,
 }
 
-// The part that changes against the one that moves: its kind, counted from 1, and its new value.
+// The part that changes against the one that moves, counted from 1, and its new value.
 struct Other {
-    kind: usize,
+    part: usize,
     value: usize,
 }
 
@@ -99,17 +99,17 @@ fn chosen(test: bool, yes: u32, no: u32) -> u32
     if test { yes } else { no }
 }
 
-// The part of a kind gets the value v. The answer is what changes from that kind on, where `behind` is what changes behind it.
-fn change(parts: &mut [u8], kind: usize, v: usize, behind: Transition) -> Transition
-    requires { ⌜ (0 < kind) × (kind ≤ length (now parts)) × (kind ≤ 24) × (v ≤ 255) ⌝ }
+// A part, counted from 1, gets the value v. The answer is what changes from it on, where `behind` is what changes behind it.
+fn change(parts: &mut [u8], part: usize, v: usize, behind: Transition) -> Transition
+    requires { ⌜ (0 < part) × (part ≤ length (now parts)) × (part ≤ 24) × (v ≤ 255) ⌝ }
     ensures { λ r.
-        ⌜ (now (parts .exit) ≡ set (now (parts .entry)) (kind - 1) v)
-        × (r ≡ noting behind kind (getD (now (parts .entry)) (kind - 1) 0) v) ⌝ }
+        ⌜ (now (parts .exit) ≡ set (now (parts .entry)) (part - 1) v)
+        × (r ≡ noting behind part (getD (now (parts .entry)) (part - 1) 0) v) ⌝ }
 {
-    let i = kind - 1;
+    let i = part - 1;
     let old = wide(parts[i]);
-    let gain = chosen(v == old + 1, kind as u32, behind.gain);
-    let loss = chosen(old == v + 1, kind as u32, behind.loss);
+    let gain = chosen(v == old + 1, part as u32, behind.gain);
+    let loss = chosen(old == v + 1, part as u32, behind.loss);
     parts[i] = v as u8;
     Transition { gain, loss }
 }
@@ -134,15 +134,15 @@ fn moved(i: usize, falling: bool) -> Transition
     requires { ⌜ i < 24 ⌝ }
     ensures { λ r. ⌜ r ≡ movedBy falling i ⌝ }
 {
-    let kind = (i + 1) as u32;
+    let part = (i + 1) as u32;
     if falling {
         return Transition {
             gain: 0,
-            loss: kind,
+            loss: part,
         };
     }
     Transition {
-        gain: kind,
+        gain: part,
         loss: 0,
     }
 }
@@ -161,14 +161,14 @@ fn other_part(upper: &[u8], found: PivotSums, u: usize, parts: &[u8]) -> Other
         under -= m;
         let v = first_value(over(rem, under), lesser(m, rem), is_odd(t));
         if v != wide(parts[i - 1]) {
-            return Other { kind: i, value: v };
+            return Other { part: i, value: v };
         }
         rem -= v;
         t += v;
         i -= 1;
     }
     Other {
-        kind: 1,
+        part: 1,
         value: rem,
     }
 }
@@ -194,7 +194,7 @@ fn turn_from(upper: &[u8], total: usize, start: PivotSums, parts: &mut [u8]) -> 
     }
     parts[i] = u as u8;
     let other = other_part(upper, found, u, parts);
-    change(parts, other.kind, other.value, moved(i, found.falling))
+    change(parts, other.part, other.value, moved(i, found.falling))
 }
 
 // The same, where of no part it is known that it cannot move.

@@ -89,7 +89,7 @@ returns c =
           other-here (a .upper .now) (a .parts .now) (l .i) (l .rem) (l .t) (at .first-value .result) (omega arith) (value at)
           (λ e. c .if1 .taken (e ∙ sym (c .before .wide2 .ensures .0)))
           ∙ l .inv .6;
-      kind = (l .inv .0, l .inv .1);
+      part = (l .inv .0, l .inv .1);
       value = omega (arith, small at, bound at .wide .ensures);
     }
 
@@ -119,7 +119,7 @@ returns-2 c =
     let known = turn .before .before .before .before in
     record {
       is = other-last (a .upper .now) (a .parts .now) (l .i) (l .rem) (l .t) one ∙ l .inv .6;
-      kind = (omega arith, start turn .pre .some);
+      part = (omega arith, start turn .pre .some);
       value = omega (arith, sum-one (a .upper .now) (l .i) one, l .inv .2, l .inv .4, known .shared-slice-known .given 0);
     }
 

@@ -96,8 +96,8 @@ returns-3 c =
     let way = found-way _ _ _ _ (at .ensures) within u (value next) in (
       done .0 ∙ turn-on _ _ _ _ (at .ensures) within u (value next) (leaves room .room) (other .result) (other .ensures),
       rw (done .0, done .1, c .before .before .before .moved .ensures)
-          (traded (start .args .parts .now) (at .result .at) u (other .result .kind) (other .result .value) (at .result .falling)
-          (omega (arith, within, start .pre .1)) (other .ensures .kind) way),
+          (traded (start .args .parts .now) (at .result .at) u (other .result .part) (other .result .value) (at .result .falling)
+          (omega (arith, within, start .pre .1)) (other .ensures .part) way),
     )
 
 pub turn-from-spec : {M : Type 1} → statement M
@@ -127,9 +127,9 @@ turn-from-spec =
     let room = c .before .before .before .before in
     let other = c .before .before .other-part .ensures in
     let within = leaves room .inside in (
-      other .kind .0,
-      omega (arith, other .kind, within),
-      omega (arith, other .kind, within, room .before .before .before .before .before .before .before .before .before .before .before .pre .0),
+      other .part .0,
+      omega (arith, other .part, within),
+      omega (arith, other .part, within, room .before .before .before .before .before .before .before .before .before .before .before .pre .0),
       other .value,
     ))
     (λ c. ap length (c .before .before .change .ensures .0) ∙ simp length-set refl)
