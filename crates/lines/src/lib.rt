@@ -69,13 +69,13 @@ fn put_serial(n: u64, out: &mut [u8], at: usize) -> usize
 }
 
 // A space, a sign and a kind.
-fn put_signed(sign: u8, kind: u32, out: &mut [u8], at: usize) -> usize
-    requires { ⌜ at + 2 + length (decimal kind) ≤ length (now out) ⌝ }
-    ensures { λ e. ⌜ Appended (now (out .entry)) (now (out .exit)) at e (signed sign kind) ⌝ }
+fn put_signed(sign: u8, part: u32, out: &mut [u8], at: usize) -> usize
+    requires { ⌜ at + 2 + length (decimal part) ≤ length (now out) ⌝ }
+    ensures { λ e. ⌜ Appended (now (out .entry)) (now (out .exit)) at e (signed sign part) ⌝ }
 {
     out[at] = 32;
     out[at + 1] = sign;
-    put_number(kind as u64, out, at + 2)
+    put_number(part as u64, out, at + 2)
 }
 
 // The two kinds of a pair, and the line feed.
