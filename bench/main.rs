@@ -117,6 +117,8 @@ fn steps(table: &mut Table, e: &Edition) {
     }
     let ours = |i| _ = black_box(engine::successor(u, r, at(&given, i)));
     table.row(&format!("successor: {}", e.name), beside(ours, |i| _ = black_box(peer::successor(u, r, at(&given, i)))));
+    let ours = |i| _ = black_box(engine::predecessor(u, r, at(&given, i)));
+    table.row(&format!("predecessor: {}", e.name), beside(ours, |i| _ = black_box(peer::predecessor(u, r, at(&given, i)))));
 }
 
 fn batches(table: &mut Table, e: &Edition, copies: u64, name: &str) {
