@@ -7,7 +7,8 @@ mod peer;
 use peer::Pair;
 
 const BUFFER: usize = 64 * 1024;
-const LONGEST: usize = 7 + 24 * 3 + 2 * 4 + 1; // a serial of seven digits, 24 counts and two signed kinds of two, each with its space, the line feed
+/// A serial of seven digits, 24 counts and two signed kinds of two, each with its space, and the line feed.
+const LONGEST: usize = 7 + 24 * 3 + 2 * 4 + 1;
 
 /// `mixes`, the ceilings, the total, or none where the slip is not of that form. A ceiling over 255 becomes 255, which is refused like it.
 fn parse(slip: &[u8]) -> Option<(Vec<u8>, u32)> {
@@ -38,9 +39,9 @@ const fn pieces() -> [([u8; 4], u8); 61] {
 
 static PIECES: [([u8; 4], u8); 61] = pieces();
 
-/// A serial as text, counted up in place.
+/// A serial as text of eight digits, counted up in place; the cells behind it are there so that eight bytes can always be copied.
 struct Serial {
-    digits: [u8; 8],
+    digits: [u8; 16],
     first: usize,
 }
 
@@ -84,9 +85,8 @@ fn put(buffer: &mut [u8; BUFFER], at: usize, (piece, used): &([u8; 4], u8)) -> u
 /// The line of a serial from `at` on; where it ends.
 #[inline(always)]
 fn line(buffer: &mut [u8; BUFFER], mut at: usize, serial: &Serial, parts: &[u8], pair: Pair) -> usize {
-    let text = &serial.digits[serial.first..];
-    buffer[at..at + text.len()].copy_from_slice(text);
-    at += text.len();
+    buffer[at..at + 8].copy_from_slice(&serial.digits[serial.first..serial.first + 8]);
+    at += 8 - serial.first;
     for &v in parts {
         at = put(buffer, at, &PIECES[v as usize]);
     }
@@ -114,7 +114,7 @@ fn main() {
     let mut buffer = Box::new([0; BUFFER]);
     let mut at = 0;
     let mut pair = Pair::default();
-    let mut serial = Serial { digits: [b'0'; 8], first: 7 };
+    let mut serial = Serial { digits: [b'0'; 16], first: 7 };
     for _ in 0..checked.count {
         serial.next();
         if BUFFER - at < LONGEST {

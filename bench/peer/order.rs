@@ -102,35 +102,31 @@ pub fn unrank<const CLEAR: bool>(upper: &[u8], total: u32, serial: u64, out: &mu
 pub fn advance(upper: &[u8], total: usize, g: &mut [u8], odd: usize) -> Option<Pair> {
     let n = upper.len().min(g.len());
     let (upper, g) = (&upper[..n], &mut g[..n]);
-    let (mut left, mut sum) = (upper[0] as usize, g[0] as usize);
+    let (mut left, mut before, all) = (upper[0] as usize, g[0] as usize, total + odd);
     for i in 1..n {
         let (m, v) = (upper[i] as usize, g[i] as usize);
-        sum += v;
-        let falling = (total - sum + odd) % 2 == 1;
-        let moves = if falling { v > sum.saturating_sub(left) } else { v < m.min(sum) };
+        let falling = (all ^ (before + v)) % 2 == 1;
+        // a part that falls needs room to its left, one that rises a unit
+        let moves = if falling { v > 0 && before < left } else { v < m && before > 0 };
         if moves {
-            let u = if falling { v - 1 } else { v + 1 };
-            g[i] = u as u8;
-            let (mut rem, mut t, mut j) = (sum - u, total - sum + u + odd, i - 1);
+            let (up, mut rem) = if falling { (255, before + 1) } else { (1, before - 1) };
+            g[i] = g[i].wrapping_add(up);
+            let mut j = i - 1;
             while j > 0 {
                 let m = upper[j] as usize;
                 left -= m;
-                let w = if t % 2 == 1 { m.min(rem) } else { rem.saturating_sub(left) };
-                if w != g[j] as usize {
+                let first = if (all ^ rem) % 2 == 1 { m.min(rem) } else { rem.saturating_sub(left) };
+                if first != g[j] as usize {
                     break;
                 }
-                rem -= w;
-                t += w;
+                rem -= first;
                 j -= 1;
             }
+            g[j] = g[j].wrapping_sub(up);
             let (mover, other) = (i as u32 + 1, j as u32 + 1);
-            if falling {
-                g[j] += 1;
-                return Some(Pair { gain: other, loss: mover });
-            }
-            g[j] -= 1;
-            return Some(Pair { gain: mover, loss: other });
+            return Some(if falling { Pair { gain: other, loss: mover } } else { Pair { gain: mover, loss: other } });
         }
+        before += v;
         left += m;
     }
     None
