@@ -82,28 +82,14 @@ fn put(buffer: &mut [u8; BUFFER], at: usize, (piece, used): &([u8; 4], u8)) -> u
     at + *used as usize
 }
 
-/// The first n cells, each behind a space. Where all have one digit, 24 are written at once: what is too much is overwritten by what follows.
-#[inline(always)]
-fn counts(buffer: &mut [u8; BUFFER], mut at: usize, cells: &[u8; 24], n: usize) -> usize {
-    if cells.iter().fold(0, |most, &v| v.max(most)) < 10 {
-        let (pairs, _) = buffer[at..at + 48].as_chunks_mut::<2>();
-        for (pair, &v) in pairs.iter_mut().zip(cells) {
-            *pair = [b' ', b'0' + v];
-        }
-        return at + 2 * n;
-    }
-    for &v in &cells[..n] {
-        at = put(buffer, at, &PIECES[v as usize]);
-    }
-    at
-}
-
 /// The line of a serial from `at` on; where it ends.
 #[inline(always)]
-fn line(buffer: &mut [u8; BUFFER], mut at: usize, serial: &Serial, cells: &[u8; 24], n: usize, pair: Pair) -> usize {
+fn line(buffer: &mut [u8; BUFFER], mut at: usize, serial: &Serial, parts: &[u8], pair: Pair) -> usize {
     buffer[at..at + 8].copy_from_slice(&serial.digits[serial.first..serial.first + 8]);
     at += 8 - serial.first;
-    at = counts(buffer, at, cells, n);
+    for &v in parts {
+        at = put(buffer, at, &PIECES[v as usize]);
+    }
     at = put(buffer, at, &GAINS[pair.gain as usize]);
     at = put(buffer, at, &LOSSES[pair.loss as usize]);
     buffer[at] = b'\n';
@@ -123,9 +109,8 @@ fn main() {
     if checked.count > 1_000_000 {
         return refuse(14);
     }
-    let n = upper.len();
-    let mut cells = [0; 24];
-    peer::unrank::<false>(&upper, total, 1, &mut cells[..n]);
+    let mut parts = vec![0; upper.len()];
+    peer::unrank::<false>(&upper, total, 1, &mut parts);
     let mut buffer = Box::new([0; BUFFER]);
     let mut at = 0;
     let mut pair = Pair::default();
@@ -136,8 +121,8 @@ fn main() {
             out.write_all(&buffer[..at]).unwrap();
             at = 0;
         }
-        at = line(&mut buffer, at, &serial, &cells, n, pair);
-        pair = peer::order::advance(&upper, total as usize, &mut cells[..n], 0).unwrap_or_default();
+        at = line(&mut buffer, at, &serial, &parts, pair);
+        pair = peer::order::advance(&upper, total as usize, &mut parts, 0).unwrap_or_default();
     }
     out.write_all(&buffer[..at]).unwrap();
 }
