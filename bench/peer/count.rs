@@ -256,7 +256,6 @@ pub fn limit(upper: &[u8], total: u32, all: usize) -> Result<(), Refused> {
 }
 
 /// 1 to 5.
-#[inline(always)]
 pub fn edition(upper: &[u8], total: u32) -> Result<(), Refused> {
     let all = shape(upper, total)?;
     limit(upper, total, all)

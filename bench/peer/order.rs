@@ -132,7 +132,6 @@ pub fn advance(upper: &[u8], total: usize, g: &mut [u8], odd: usize) -> Option<P
     None
 }
 
-#[inline(always)]
 fn step(upper: &[u8], total: u32, g: &[u8], odd: usize) -> Result<([u8; 24], Pair), Refused> {
     edition(upper, total)?;
     given(upper, total, g)?;
@@ -141,7 +140,6 @@ fn step(upper: &[u8], total: u32, g: &[u8], odd: usize) -> Result<([u8; 24], Pai
     Ok((cells, pair))
 }
 
-#[inline(always)]
 fn stepped(result: Result<([u8; 24], Pair), Refused>) -> Stepped {
     match result {
         Ok((composition, Pair { gain, loss })) => Stepped { number: 0, detail: 0, composition, gain, loss },
