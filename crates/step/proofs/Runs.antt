@@ -164,8 +164,8 @@ module _ (ms : List ℕ) (r : ℕ) (x : Run) (parts : List ℕ) (run : Running m
 
   can-one : cond (x .falling) (ltb lowest (x .second)) (ltb (x .second) highest) ≡ canMove ms r shows 1
   can-one =
-      can-here ms r shows 1 (getD ms 0 0) (x .first) (getD ms 1 0) (x .second) (r - sumOf x) lowest highest (x .falling) _
-      (sym (sum-one ms 1 refl)) (sym (sum-one shows 1 refl)) refl refl refl refl refl (run .way) refl
+      can-here ms r shows 1 (getD ms 0 0) (x .first) (getD ms 1 0) (x .second) (r - sumOf x) (x .falling) _
+      (sym (sum-one ms 1 refl)) (sym (sum-one shows 1 refl)) refl refl refl (run .way) refl
 
   run-on : 0 < x .more → canMove ms r shows 1 ≡ true
   run-on more = sym can-one ∙ left-moves lowest highest (x .second) (x .more) (x .falling) more (run .left)

@@ -14,7 +14,7 @@ use walsh::over;
 use walsh::wide;
 ghost use mathlib.Core.Path.{_≡_};
 ghost use mathlib.Core.Bool.{true, cond};
-ghost use Prim.Native.Nat.{_+_, _-_, _≤_, _<_};
+ghost use Prim.Native.Nat.{_+_, _-_, _≤_, _<_, min};
 ghost use lib.Dec.{ltb};
 ghost use lib.ListN.{length, getD, set};
 ghost use Rattle.walsh.specs.Step.{nextValue};
@@ -49,11 +49,21 @@ struct Other {
     value: usize,
 }
 
-// v can move on: it is above lo where it falls, below hi where it rises.
-fn moves(v: usize, lo: usize, hi: usize, falling: bool) -> bool
-    ensures { λ r. ⌜ r ≡ cond falling (ltb lo v) (ltb v hi) ⌝ }
+// A part of value v and bound m can move on, where the parts before it sum to `before` and their bounds to `left`: it is above its lowest value
+// where it falls, below its highest where it rises.
+fn moves(v: usize, m: usize, before: usize, left: usize, falling: bool) -> bool
+    ensures { λ r. ⌜ r ≡ cond falling (ltb (before + v - left) v) (ltb v (min m (before + v))) ⌝ }
 {
-    if falling { lo < v } else { v < hi }
+    if falling {
+        if before < left {
+            return 0 < v;
+        }
+        return false;
+    }
+    if 0 < before {
+        return v < m;
+    }
+    false
 }
 
 // The first part that can move, or their number. Part 0 has one value only, what the others leave. The search begins at part `start.at`, with the
@@ -68,19 +78,19 @@ fn pivot(upper: &[u8], total: usize, start: PivotSums, parts: &[u8]) -> PivotSum
     while i < parts.len() {
         let m = wide(upper[i]);
         let v = wide(parts[i]);
-        sum += v;
-        let right = over(total, sum);
+        let right = over(total, sum + v);
         let falling = is_odd(right);
-        if moves(v, over(sum, left), lesser(m, sum), falling) {
+        if moves(v, m, sum, left, falling) {
             return PivotSums {
                 at: i,
                 left,
-                sum,
+                sum: sum + v,
                 right,
                 falling,
             };
         }
         left += m;
+        sum += v;
         i += 1;
     }
     PivotSums {
