@@ -44,6 +44,8 @@ rows =
     ∷ (claim 2 1014, 0 ∷ 0 ∷ 2 ∷ 0 ∷ 1 ∷ [], 0, 0)
     ∷ (peek, 21 ∷ [], 0, 0)
     ∷ []))
+    -- between I's two sales a look sees serial 2, with its pair
+    ∷ row (1 ∷ 1 ∷ []) 1 (answers ((claim 1 1007, 0 ∷ 0 ∷ 1 ∷ 1 ∷ 0 ∷ [], 0, 0) ∷ (peek, 0 ∷ 0 ∷ 2 ∷ 0 ∷ 1 ∷ [], 2, 1) ∷ []))
     -- J: the same edition: spoil 1, take 1 for 1007
     ∷ row (1 ∷ 1 ∷ []) 1 (answers ((void 1, 0 ∷ 0 ∷ 1 ∷ 1 ∷ 0 ∷ [], 0, 0) ∷ (claim 1 1007, 18 ∷ 0 ∷ [], 0, 0) ∷ []))
     -- beside the document's copies: 17, 6, 19 and 20, and which comes first where two of a call's checks hold
