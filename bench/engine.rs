@@ -1,5 +1,5 @@
 //! The engine's C interface (include/huztiral.h) as Rust functions on slices. The peer's structures have the same layouts.
-use crate::peer::{Answer, Checked, Claimed, Ledger, Opened, Ranked, Refusal, Stepped};
+use crate::peer::{Checked, Claimed, Ledger, Opened, Peeked, Ranked, Refusal, Stepped};
 
 mod c {
     use super::*;
@@ -17,7 +17,7 @@ mod c {
         pub fn huz_permutation(u: Bounds, n: usize, r: u32, given: *const u8, len: usize, out: *mut u8, out_len: usize) -> Refusal;
         pub fn huz_inversions(u: Bounds, n: usize, r: u32, given: *const u8, len: usize, out: *mut u8, out_len: usize) -> Refusal;
         pub fn huz_open(u: Bounds, n: usize, r: u32, orders: *const u32, len: usize) -> Opened;
-        pub fn huz_peek(ledger: Ledger, orders: *const u32, len: usize) -> Answer;
+        pub fn huz_peek(ledger: Ledger, orders: *const u32, len: usize) -> Peeked;
         pub fn huz_claim(ledger: Ledger, orders: *mut u32, len: usize, serial: u64, order: u32) -> Claimed;
         pub fn huz_void(ledger: Ledger, orders: *mut u32, len: usize, serial: u64) -> Claimed;
     }
@@ -59,7 +59,7 @@ pub fn open(upper: &[u8], total: u32, orders: &[u32]) -> Opened {
     unsafe { c::huz_open(upper.as_ptr(), upper.len(), total, orders.as_ptr(), orders.len()) }
 }
 
-pub fn peek(ledger: Ledger, orders: &[u32]) -> Answer {
+pub fn peek(ledger: Ledger, orders: &[u32]) -> Peeked {
     unsafe { c::huz_peek(ledger, orders.as_ptr(), orders.len()) }
 }
 

@@ -4,8 +4,11 @@ use std::io::{Read, Write};
 #[allow(dead_code, unused_imports)] // a part of it is enough here
 mod peer;
 
+use peer::Pair;
+
 const BUFFER: usize = 64 * 1024;
-const LONGEST: usize = 8 + 24 * 3; // a serial of seven digits and 24 counts of two, each with what parts it
+/// A serial of seven digits, 24 counts and two signed kinds of two, each with its space, and the line feed.
+const LONGEST: usize = 7 + 24 * 3 + 2 * 4 + 1;
 
 /// `mixes`, the ceilings, the total, or none where the slip is not of that form. A ceiling over 255 becomes 255, which is refused like it.
 fn parse(slip: &[u8]) -> Option<(Vec<u8>, u32)> {
@@ -36,9 +39,9 @@ const fn pieces() -> [([u8; 4], u8); 61] {
 
 static PIECES: [([u8; 4], u8); 61] = pieces();
 
-/// A serial as text, counted up in place.
+/// A serial as text of eight digits, counted up in place; the cells behind it are there so that eight bytes can always be copied.
 struct Serial {
-    digits: [u8; 8],
+    digits: [u8; 16],
     first: usize,
 }
 
@@ -54,17 +57,41 @@ impl Serial {
     }
 }
 
+/// A space, a sign and a kind.
+const fn signed(sign: u8) -> [([u8; 4], u8); 25] {
+    let mut table = [([b' ', sign, 0, 0], 3u8); 25];
+    let mut k = 0;
+    while k < 25 {
+        if k < 10 {
+            table[k].0[2] = b'0' + k as u8;
+        } else {
+            table[k] = ([b' ', sign, b'0' + k as u8 / 10, b'0' + k as u8 % 10], 4);
+        }
+        k += 1;
+    }
+    table
+}
+
+static GAINS: [([u8; 4], u8); 25] = signed(b'+');
+static LOSSES: [([u8; 4], u8); 25] = signed(b'-');
+
+/// Four bytes from `at` on; where those end that are used.
+#[inline(always)]
+fn put(buffer: &mut [u8; BUFFER], at: usize, (piece, used): &([u8; 4], u8)) -> usize {
+    buffer[at..at + 4].copy_from_slice(piece);
+    at + *used as usize
+}
+
 /// The line of a serial from `at` on; where it ends.
 #[inline(always)]
-fn line(buffer: &mut [u8; BUFFER], mut at: usize, serial: &Serial, parts: &[u8]) -> usize {
-    let text = &serial.digits[serial.first..];
-    buffer[at..at + text.len()].copy_from_slice(text);
-    at += text.len();
+fn line(buffer: &mut [u8; BUFFER], mut at: usize, serial: &Serial, parts: &[u8], pair: Pair) -> usize {
+    buffer[at..at + 8].copy_from_slice(&serial.digits[serial.first..serial.first + 8]);
+    at += 8 - serial.first;
     for &v in parts {
-        let (piece, used) = &PIECES[v as usize];
-        buffer[at..at + 4].copy_from_slice(piece);
-        at += *used as usize;
+        at = put(buffer, at, &PIECES[v as usize]);
     }
+    at = put(buffer, at, &GAINS[pair.gain as usize]);
+    at = put(buffer, at, &LOSSES[pair.loss as usize]);
     buffer[at] = b'\n';
     at + 1
 }
@@ -86,15 +113,16 @@ fn main() {
     peer::unrank::<false>(&upper, total, 1, &mut parts);
     let mut buffer = Box::new([0; BUFFER]);
     let mut at = 0;
-    let mut serial = Serial { digits: [b'0'; 8], first: 7 };
+    let mut pair = Pair::default();
+    let mut serial = Serial { digits: [b'0'; 16], first: 7 };
     for _ in 0..checked.count {
         serial.next();
         if BUFFER - at < LONGEST {
             out.write_all(&buffer[..at]).unwrap();
             at = 0;
         }
-        at = line(&mut buffer, at, &serial, &parts);
-        peer::order::advance(&upper, total as usize, &mut parts, 0);
+        at = line(&mut buffer, at, &serial, &parts, pair);
+        pair = peer::order::advance(&upper, total as usize, &mut parts, 0).unwrap_or_default();
     }
     out.write_all(&buffer[..at]).unwrap();
 }

@@ -3,7 +3,7 @@ use std::cell::RefCell;
 use std::hint::black_box;
 
 use crate::measure::Table;
-use crate::{Edition, beside, engine, peer};
+use crate::{Edition, beside, engine, peer, seen};
 
 pub fn with(call: &str, entries: u64) -> String {
     format!("{call} with {entries} {} written", if entries == 1 { "entry" } else { "entries" })
@@ -62,7 +62,7 @@ fn row<T: PartialEq + std::fmt::Debug>(
     assert_eq!(ours(&mut a), theirs(&mut b));
     assert!(a.orders == b.orders);
     let a = RefCell::new(a);
-    let times = beside(|_| _ = black_box(ours(&mut a.borrow_mut())), |_| _ = black_box(theirs(&mut a.borrow_mut())));
+    let times = beside(|_| seen(ours(&mut a.borrow_mut())), |_| seen(theirs(&mut a.borrow_mut())));
     table.row(&format!("{}: {}", with(work, entries), e.name), times);
 }
 

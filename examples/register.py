@@ -4,10 +4,10 @@ sys.path.insert(0, "python")
 from huztiral import Edition, Refused
 
 register = Edition([1, 1], 1).open()
-serial, mix = register.peek()  # two workers look, and both see serial 1
-print("serial", serial, "is", mix)
-register.claim(serial, 1007)  # the first takes it for order 1007
+seen = register.peek()  # two workers look, and both see serial 1
+print("serial", seen.serial, "is", seen.composition)
+register.claim(seen.serial, 1007)  # the first takes it for order 1007
 try:
-    register.claim(serial, 1014)
+    register.claim(seen.serial, 1014)
 except Refused as refusal:  # the second is refused, and learns who has it
     print("refused", refusal.number, "order", refusal.detail)

@@ -20,7 +20,7 @@
 extern "C" {
 #endif
 
-#define HUZ_VERSION 900 /* of this header, 0.9.0: major * 10000 + minor * 100 + patch */
+#define HUZ_VERSION 1000 /* of this header, 0.10.0: major * 10000 + minor * 100 + patch */
 #define HUZ_PARTS 24 /* the most kinds of an edition; the arrays in the structures have as many cells, and those past n are 0 */
 
 /* The numbers of answers: what each means, and its detail where that is not 0. */
@@ -89,11 +89,13 @@ typedef struct {
     uint64_t serial;
 } huz_ranked;
 
-/* The mix one serial on or back. (step::Stepped) */
+/* The mix one serial on or back, and the press card's pair: the kind that gains a tile and the kind that loses one, from 1, on
+ * the way from the mix given to this one. (step::Stepped) */
 typedef struct {
     uint32_t number;
     uint64_t detail;
     uint8_t composition[HUZ_PARTS];
+    uint32_t gain, loss;
 } huz_stepped;
 
 /* The record of a new register. (model::Opened) */
@@ -103,12 +105,14 @@ typedef struct {
     huz_ledger ledger;
 } huz_opened;
 
-/* Of a look: the next serial and its mix. (model::Answer) */
+/* Of a look: the next serial, its mix, and the kinds, from 1, that gain and lose a tile on the way from the mix of the serial
+ * before; 0 and 0 for serial 1. (model::Peeked) */
 typedef struct {
     uint32_t number;
     uint64_t detail;
     uint64_t serial;
     uint8_t composition[HUZ_PARTS];
+    uint32_t gain, loss;
 } huz_peeked;
 
 /* Of a take or a spoil on a lent record: the serial and its mix. (model::Answer) */
@@ -142,7 +146,7 @@ huz_ranked huz_rank(const uint8_t *upper, size_t parts, uint32_t total, const ui
 /* Serial to mix, written to `out`, exactly n bytes. Refusals: 1 to 5, 6, 13. */
 huz_done huz_unrank(const uint8_t *upper, size_t parts, uint32_t total, uint64_t serial, uint8_t *out, size_t len);
 
-/* The mix one serial on, or one back. Refusals: 1 to 5, 7, 8, 9. */
+/* The mix one serial on, or one back, and its pair; back, it is that of the way forward exchanged. Refusals: 1 to 5, 7, 8, 9. */
 huz_stepped huz_successor(const uint8_t *upper, size_t parts, uint32_t total, const uint8_t *composition, size_t len);
 huz_stepped huz_predecessor(const uint8_t *upper, size_t parts, uint32_t total, const uint8_t *composition, size_t len);
 
@@ -161,7 +165,7 @@ huz_done huz_inversions(const uint8_t *upper, size_t parts, uint32_t total, cons
 
 /* Opens a register: a new record. The column needs N entries; none is written. Refusals: 1 to 5, 14, 15. */
 huz_opened huz_open(const uint8_t *upper, size_t parts, uint32_t total, const uint32_t *orders, size_t len);
-/* Look: the next serial and its mix. Refusals: 16, 21. */
+/* Look: the next serial, its mix and its pair. Refusals: 16, 21. */
 huz_peeked huz_peek(huz_ledger ledger, const uint32_t *orders, size_t len);
 /* Take: writes the order number into the line of the serial. Refusals: 16, 17, 6, 18, 19, 20. */
 huz_claimed huz_claim(huz_ledger ledger, uint32_t *orders, size_t len, uint64_t serial, uint32_t order);

@@ -146,7 +146,7 @@ class Running:
         answer = getattr(huztiral.C, function)(self.place.ledger, *self.column.passed(), *arguments)
         if name != "look" and not lent:
             self.place.write(answer.ledger, self.place.ledger)
-        return flat(answer)[:4], function
+        return flat(answer)[:6 if name == "look" else 4], function
 
 
 def agree(running, paper, name, arguments, given):
@@ -222,7 +222,9 @@ def copies_of_the_document():
     orders = [[4, 1, 2, 3], [3, 2, 1, 4], [2, 4, 1, 3], [1, 4, 3, 2], [2, 3, 4, 1], [3, 1, 4, 2]]
     compare("document", "A", edition([2, 2, 2], 3).batch(1, 7), seven)
     compare("document", "B", edition([2, 2, 2], 3).rank([0, 2, 1]), 3)
-    compare("document", "C", edition([2, 2, 2], 3).successor([2, 0, 1]), [1, 0, 2])
+    compare("document", "C", edition([2, 2, 2], 3).successor([2, 0, 1]), ([1, 0, 2], 3, 1))
+    compare("document", "C, back", edition([2, 2, 2], 3).predecessor([1, 0, 2]), ([2, 0, 1], 1, 3))
+    compare("document", "the pairs of A", [edition([2, 2, 2], 3).successor(g)[1:] for g in seven[:-1]], [(2, 1), (3, 1), (1, 2), (1, 2), (3, 1), (2, 1)])
     compare("document", "D", edition([2, 2, 2], 5).batch(1, 3), [[2, 2, 1], [2, 1, 2], [1, 2, 2]])
     compare("document", "E", (edition([5], 5).count, refused(edition, [5], 6)), (1, (4, 0)))
     compare("document", "F", (edition([2, 2], 0).unrank(1), edition([2, 2], 4).count, refused(edition, [2, 2], 5)), ([0, 0], 1, (4, 0)))
@@ -230,9 +232,9 @@ def copies_of_the_document():
             (mixes, orders, mixes))
     compare("document", "H", [edition([2, 1], 1).permutation(edition([2, 1], 1).unrank(s)) for s in (1, 2)], [[2, 1, 3], [1, 3, 2]])
     register = edition([1, 1], 1).open()
-    compare("document", "I", (register.peek(), register.peek(), register.claim(1, 1007), refused(register.claim, 1, 1014), register.claim(2, 1014),
-                              refused(register.peek), register.entries()),
-            ((1, [1, 0]), (1, [1, 0]), (1, [1, 0]), (18, 1007), (2, [0, 1]), (21, 0), [1007, 1014]))
+    compare("document", "I", (register.peek(), register.peek(), register.claim(1, 1007), refused(register.claim, 1, 1014), register.peek(),
+                              register.claim(2, 1014), refused(register.peek), register.entries()),
+            ((1, [1, 0], 0, 0), (1, [1, 0], 0, 0), (1, [1, 0]), (18, 1007), (2, [0, 1], 2, 1), (2, [0, 1]), (21, 0), [1007, 1014]))
     register = edition([1, 1], 1).open()
     compare("document", "J", (register.void(1), refused(register.claim, 1, 1007)), ((1, [1, 0]), (18, 0)))
     compare("document", "N", (edition(range(11, 0, -1), 33).count, edition([10] * 24, 239).count), (25598186, 24))

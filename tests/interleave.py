@@ -11,13 +11,14 @@ import reference as ref
 
 PEEK, CLAIM, VOID = 0, 1, 2
 WORDS = "look", "take", "spoil"
-ROW = 27  # numbers of an answer: number, detail, serial, and 24 cells
+ROW = 29  # numbers of an answer: number, detail, serial, 24 cells, and the pair
 
 
 def answer(paper, call):
-    """what the paper register answers to (which, serial, order)"""
+    """what the paper register answers to (which, serial, order), with 0 and 0 where the call answers no pair"""
     which, serial, order = call
-    return getattr(paper, WORDS[which])(*((), (serial, order), (serial,))[which])
+    said = getattr(paper, WORDS[which])(*((), (serial, order), (serial,))[which])
+    return said if which == PEEK else (*said, *ref.NO_PAIR)
 
 
 def interleaving(ms, r, rng, workers=5):

@@ -80,6 +80,30 @@ class Sentences(unittest.TestCase):
         self.assertEqual(f"{Number.ALREADY_WRITTEN} {Number.ALREADY_WRITTEN!s}", "18 18")
 
 
+class Pairs(unittest.TestCase):
+    """the press card: the kinds that gain and lose a tile"""
+
+    def test_a_step_answers_them(self):
+        step = SEVEN.successor([2, 0, 1])
+        self.assertEqual((step, step.composition, step.gain, step.loss), (([1, 0, 2], 3, 1), [1, 0, 2], 3, 1))
+        self.assertEqual(SEVEN.predecessor(step.composition), ([2, 0, 1], 1, 3))
+        self.assertIs(type(step), huztiral.Step)
+        self.assertEqual(repr(step), "Step(composition=[1, 0, 2], gain=3, loss=1)")
+
+    def test_a_look_answers_them(self):
+        register = SEVEN.open()
+        seen = [register.peek()]
+        for serial in range(1, 7):
+            self.assertEqual(register.void(serial)[0], serial)
+            seen.append(register.peek())
+        self.assertEqual([look[2:] for look in seen], [(0, 0), (2, 1), (3, 1), (1, 2), (1, 2), (3, 1), (2, 1)])
+        self.assertEqual([look.composition for look in seen], SEVEN.batch(1, 7))
+        self.assertEqual((seen[2].serial, seen[2].gain, seen[2].loss, type(seen[2])), (3, 3, 1, huztiral.Look))
+
+    def test_an_edition_of_one_mix_has_none(self):
+        self.assertEqual(Edition([5], 5).open().peek(), (1, [5], 0, 0))
+
+
 class Values(unittest.TestCase):
     def test_a_number_is_no_mix(self):
         for wrong in 3, 3.0, None, [0, 2.0, 1], "021", ["0", "2", "1"]:
@@ -248,7 +272,7 @@ class Library(unittest.TestCase):
             self.assertEqual((said.returncode, said.stderr.split("\n")[-2][:12]), (1, "ImportError:"))
         with tempfile.TemporaryDirectory() as folder:
             with self.assertRaisesRegex(ImportError, "undefined symbol: huz_version"):
-                huztiral.load(self.library(folder, 900, names[1:]))
+                huztiral.load(self.library(folder, 1000, names[1:]))
             with self.assertRaisesRegex(ImportError, "no such file|cannot open"):
                 huztiral.load(os.path.join(folder, "none.so"))
 

@@ -1,6 +1,6 @@
-"""Document 01 in plain Python: what every call of the engine has to answer, and what the listing program has to print. Written from the document, for
-comparison only: numbers are unbounded, nothing is fast, and each function follows the document's own words. The answer of a call is a tuple that
-starts with number and detail."""
+"""Document 01, and of document 02 request (i), in plain Python: what every call of the engine has to answer, and what the listing program has to print.
+Written from the documents, for comparison only: numbers are unbounded, nothing is fast, and each function follows the documents' own words. The
+answer of a call is a tuple that starts with number and detail."""
 import re
 from functools import lru_cache
 
@@ -103,6 +103,23 @@ def serial_of(ms, r, mix):
     return before + 1
 
 
+# ---- The press card (document 02, (i))
+
+NO_PAIR = 0, 0
+
+
+def pair(before, after):
+    """the kind, from 1, of which the second mix has one more, and the kind of which it has one fewer; 0 where there is none"""
+    def kind(change):
+        return next((k for k, (a, b) in enumerate(zip(before, after), 1) if b - a == change), 0)
+    return kind(1), kind(-1)
+
+
+def pair_of(ms, r, serial):
+    """that of a serial, measured from the copy before"""
+    return pair(mix_at(ms, r, serial - 1), mix_at(ms, r, serial)) if serial > 1 else NO_PAIR
+
+
 # ---- the places of checking that several calls have; each answers (0, 0) or a refusal
 
 def mix_given(ms, r, mix):
@@ -143,14 +160,15 @@ def unrank(ms, r, serial, out):
 
 
 def step(ms, r, mix, way):
-    """way is 1 or -1"""
+    """way is 1 or -1; the pair goes from the mix given to the one answered"""
     refusal = first(lambda: edition(ms, r), lambda: mix_given(ms, r, mix))
     if refusal[0]:
-        return (*refusal, BLANK)
+        return (*refusal, BLANK, *NO_PAIR)
     serial = serial_of(ms, r, mix) + way
     if not 1 <= serial <= number(ms, r):
-        return 9, 0, BLANK
-    return 0, 0, cells(mix_at(ms, r, serial))
+        return 9, 0, BLANK, *NO_PAIR
+    reached = mix_at(ms, r, serial)
+    return 0, 0, cells(reached), *pair(mix, reached)
 
 
 def batch(ms, r, serial, copies, out):
@@ -240,7 +258,9 @@ class Paper:
         return 0, 0, serial, cells(mix_at(self.ms, self.r, serial))
 
     def look(self):
-        return (21, 0, 0, BLANK) if self.next() > self.n else self.answer(self.next())
+        if self.next() > self.n:
+            return 21, 0, 0, BLANK, *NO_PAIR
+        return *self.answer(self.next()), *pair_of(self.ms, self.r, self.next())
 
     def place(self, serial):
         if not 1 <= serial <= self.n:
@@ -270,7 +290,7 @@ class Paper:
 def call(record, column, name, arguments):
     """look, take or spoil on any record and column: the answer, the record and the column afterwards"""
     if not is_register(record, column):
-        return (16, 0, 0, BLANK), record, column
+        return (16, 0, 0, BLANK, *(NO_PAIR if name == "look" else ())), record, column
     n, upper, r, lines = record[:4]
     paper = Paper(upper[:n], r, column[:lines])
     answer = getattr(paper, name)(*arguments)
@@ -323,4 +343,13 @@ def printed(text):
         refused = 14
     if refused:
         return refused, b"refused %d\n" % refused
-    return 0, "".join(f"{serial} {' '.join(map(str, mix))}\n" for serial, mix in enumerate(listing(*given), 1)).encode()
+    return 0, "".join(lines(listing(*given))).encode()
+
+
+def lines(mixes):
+    """a line for each copy: serial, counts, and the pair measured from the copy before"""
+    before = None
+    for serial, mix in enumerate(mixes, 1):
+        gain, loss = pair(before, mix) if before else NO_PAIR
+        yield f"{serial} {' '.join(map(str, mix))} +{gain} -{loss}\n"
+        before = mix

@@ -12,9 +12,9 @@ AT(huz_ledger, next, 64);
 ANSWER(huz_done, 16);
 ANSWER(huz_checked, 64); AT(huz_checked, bounds, 16); AT(huz_checked, count, 56);
 ANSWER(huz_ranked, 24); AT(huz_ranked, serial, 16);
-ANSWER(huz_stepped, 40); AT(huz_stepped, composition, 16);
+ANSWER(huz_stepped, 48); AT(huz_stepped, composition, 16); AT(huz_stepped, gain, 40); AT(huz_stepped, loss, 44);
 ANSWER(huz_opened, 104); AT(huz_opened, ledger, 16);
-ANSWER(huz_peeked, 48); AT(huz_peeked, serial, 16); AT(huz_peeked, composition, 24);
+ANSWER(huz_peeked, 56); AT(huz_peeked, serial, 16); AT(huz_peeked, composition, 24); AT(huz_peeked, gain, 48); AT(huz_peeked, loss, 52);
 ANSWER(huz_answer, 48); AT(huz_answer, serial, 16); AT(huz_answer, composition, 24);
 ANSWER(huz_claimed, 136); AT(huz_claimed, serial, 16); AT(huz_claimed, composition, 24); AT(huz_claimed, ledger, 48);
 
@@ -44,9 +44,9 @@ int main(void) {
     huz_done done = huz_unrank(upper, 3, 3, 4, out, 3);
     expect(done.number == 0 && is(out, 0, 2, 1), "huz_unrank");
     huz_stepped stepped = huz_successor(upper, 3, 3, composition, 3);
-    expect(stepped.number == 0 && is(stepped.composition, 1, 2, 0), "huz_successor");
+    expect(stepped.number == 0 && is(stepped.composition, 1, 2, 0) && stepped.gain == 2 && stepped.loss == 1, "huz_successor");
     stepped = huz_predecessor(upper, 3, 3, composition, 3);
-    expect(stepped.number == 0 && is(stepped.composition, 3, 0, 0), "huz_predecessor");
+    expect(stepped.number == 0 && is(stepped.composition, 3, 0, 0) && stepped.gain == 1 && stepped.loss == 2, "huz_predecessor");
     done = huz_batch(upper, 3, 3, 5, 2, out, 6);
     expect(done.number == 0 && is(out, 1, 1, 1) && is(out + 3, 2, 0, 1), "huz_batch");
     done = huz_permutation(upper, 3, 3, composition, 3, order, 4);
@@ -59,9 +59,11 @@ int main(void) {
     huz_opened opened = huz_open(two, 2, 1, orders, 2);
     expect(opened.number == 0 && opened.ledger.entries == 0 && is(opened.ledger.next, 1, 0, 0), "huz_open");
     huz_peeked peeked = huz_peek(opened.ledger, orders, 2);
-    expect(peeked.number == 0 && peeked.serial == 1 && is(peeked.composition, 1, 0, 0), "huz_peek");
+    expect(peeked.number == 0 && peeked.serial == 1 && is(peeked.composition, 1, 0, 0) && peeked.gain == 0 && peeked.loss == 0, "huz_peek");
     huz_claimed claimed = huz_claim(opened.ledger, orders, 2, 1, 1007);
     expect(claimed.number == 0 && claimed.serial == 1 && orders[0] == 1007 && claimed.ledger.sold == 1, "huz_claim");
+    peeked = huz_peek(claimed.ledger, orders, 2);
+    expect(peeked.number == 0 && peeked.serial == 2 && peeked.gain == 2 && peeked.loss == 1, "huz_peek of serial 2");
     huz_claimed second = huz_claim(claimed.ledger, orders, 2, 1, 1014);
     expect(second.number == HUZ_ALREADY_WRITTEN && second.detail == 1007 && second.ledger.entries == 1, "a second huz_claim");
     claimed = huz_void(claimed.ledger, orders, 2, 2);

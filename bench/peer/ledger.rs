@@ -93,12 +93,24 @@ fn enter(placed: Result<(), Refused>, mut ledger: Ledger, orders: &mut [u32], or
     Claimed { number: 0, detail: 0, serial: ledger.entries, composition, ledger }
 }
 
+/// The pair of the next line: that of the step back from it, exchanged; 0 and 0 for the first line, which has none before it.
+#[inline(always)]
+fn pair(ledger: &Ledger) -> Pair {
+    let n = ledger.bounds.parts;
+    let mut before = ledger.next;
+    let back = advance(&ledger.bounds.upper[..n], ledger.bounds.total as usize, &mut before[..n], 1).unwrap_or_default();
+    Pair { gain: back.loss, loss: back.gain }
+}
+
 #[inline(never)]
-pub fn peek(ledger: Ledger, orders: &[u32]) -> Answer {
+pub fn peek(ledger: Ledger, orders: &[u32]) -> Peeked {
     match register(&ledger, orders, |lines| (zeros(lines), ())) {
-        Err((number, detail)) => Answer { number, detail, ..Answer::default() },
-        Ok((count, ())) if ledger.entries == count => Answer { number: 21, ..Answer::default() },
-        Ok(_) => Answer { number: 0, detail: 0, serial: ledger.entries + 1, composition: ledger.next },
+        Err((number, detail)) => Peeked { number, detail, ..Peeked::default() },
+        Ok((count, ())) if ledger.entries == count => Peeked { number: 21, ..Peeked::default() },
+        Ok(_) => {
+            let Pair { gain, loss } = pair(&ledger);
+            Peeked { number: 0, detail: 0, serial: ledger.entries + 1, composition: ledger.next, gain, loss }
+        }
     }
 }
 

@@ -96,48 +96,54 @@ pub fn unrank<const CLEAR: bool>(upper: &[u8], total: u32, serial: u64, out: &mu
     refusal(unrank_in::<CLEAR>(upper, total, serial, out))
 }
 
-/// The next composition in place, or false at the last. `odd` is 1 to go backward.
+/// The next composition in place and the pair of the step, or none at the last. `odd` is 1 to go backward. The first part that can move does so by
+/// one; of those to its left, which start anew, just one is not at its first value already, and that one goes by one the other way.
 #[inline(always)]
-pub fn advance(upper: &[u8], total: usize, g: &mut [u8], odd: usize) -> bool {
+pub fn advance(upper: &[u8], total: usize, g: &mut [u8], odd: usize) -> Option<Pair> {
     let n = upper.len().min(g.len());
     let (upper, g) = (&upper[..n], &mut g[..n]);
-    let (mut left, mut sum) = (upper[0] as usize, g[0] as usize);
+    let (mut left, mut before, all) = (upper[0] as usize, g[0] as usize, total + odd);
     for i in 1..n {
         let (m, v) = (upper[i] as usize, g[i] as usize);
-        sum += v;
-        let falling = (total - sum + odd) % 2 == 1;
-        let moves = if falling { v > sum.saturating_sub(left) } else { v < m.min(sum) };
+        let falling = (all ^ (before + v)) % 2 == 1;
+        // a part that falls needs room to its left, one that rises a unit
+        let moves = if falling { v > 0 && before < left } else { v < m && before > 0 };
         if moves {
-            let u = if falling { v - 1 } else { v + 1 };
-            g[i] = u as u8;
-            let (mut rem, mut t) = (sum - u, total - sum + u + odd);
-            for j in (1..i).rev() {
+            let (up, mut rem) = if falling { (255, before + 1) } else { (1, before - 1) };
+            g[i] = g[i].wrapping_add(up);
+            let mut j = i - 1;
+            while j > 0 {
                 let m = upper[j] as usize;
                 left -= m;
-                let w = if t % 2 == 1 { m.min(rem) } else { rem.saturating_sub(left) };
-                g[j] = w as u8;
-                rem -= w;
-                t += w;
+                let first = if (all ^ rem) % 2 == 1 { m.min(rem) } else { rem.saturating_sub(left) };
+                if first != g[j] as usize {
+                    break;
+                }
+                rem -= first;
+                j -= 1;
             }
-            g[0] = rem as u8;
-            return true;
+            g[j] = g[j].wrapping_sub(up);
+            let (mover, other) = (i as u32 + 1, j as u32 + 1);
+            return Some(if falling { Pair { gain: other, loss: mover } } else { Pair { gain: mover, loss: other } });
         }
+        before += v;
         left += m;
     }
-    false
+    None
 }
 
-fn step(upper: &[u8], total: u32, g: &[u8], odd: usize) -> Result<[u8; 24], Refused> {
+fn step(upper: &[u8], total: u32, g: &[u8], odd: usize) -> Result<([u8; 24], Pair), Refused> {
     edition(upper, total)?;
     given(upper, total, g)?;
     let mut cells = pack(g);
-    if advance(upper, total as usize, &mut cells[..upper.len()], odd) { Ok(cells) } else { Err((9, 0)) }
+    let pair = advance(upper, total as usize, &mut cells[..upper.len()], odd).ok_or((9, 0))?;
+    Ok((cells, pair))
 }
 
-fn stepped(result: Result<[u8; 24], Refused>) -> Stepped {
+fn stepped(result: Result<([u8; 24], Pair), Refused>) -> Stepped {
     match result {
-        Ok(composition) => Stepped { number: 0, detail: 0, composition },
-        Err((number, detail)) => Stepped { number, detail, composition: [0; 24] },
+        Ok((composition, Pair { gain, loss })) => Stepped { number: 0, detail: 0, composition, gain, loss },
+        Err((number, detail)) => Stepped { number, detail, ..Stepped::default() },
     }
 }
 

@@ -47,15 +47,19 @@ pub struct Stepped {
     pub number: u32,
     pub detail: u64,
     pub composition: [u8; 24],
+    pub gain: u32,
+    pub loss: u32,
 }
 
 #[derive(Clone, Copy, PartialEq, Eq, Debug, Default)]
 #[repr(C)]
-pub struct Answer {
+pub struct Peeked {
     pub number: u32,
     pub detail: u64,
     pub serial: u64,
     pub composition: [u8; 24],
+    pub gain: u32,
+    pub loss: u32,
 }
 
 #[derive(Clone, Copy, PartialEq, Eq, Debug, Default)]
@@ -74,6 +78,13 @@ pub struct Claimed {
     pub serial: u64,
     pub composition: [u8; 24],
     pub ledger: Ledger,
+}
+
+/// The kinds, counted from 1, that gain and lose a unit in a step.
+#[derive(Clone, Copy, Default)]
+pub struct Pair {
+    pub gain: u32,
+    pub loss: u32,
 }
 
 /// A number and a detail.

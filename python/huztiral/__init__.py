@@ -6,11 +6,12 @@
     edition.count                           # 7: so many mixes there are, and each is one copy
     edition.unrank(3)                       # [0, 2, 1]: the mix of serial 3
     edition.rank([0, 2, 1])                 # 3: and back
+    edition.successor([0, 2, 1])            # Step(composition=[1, 1, 1], gain=1, loss=2): kind 1 gains a tile, kind 2 loses one
 
     register = edition.open()
-    serial, mix = register.peek()           # the next copy; nothing is reserved
+    next = register.peek()                  # Look(serial=1, composition=[2, 1, 0], gain=0, loss=0): the next copy; nothing is reserved
     try:
-        register.claim(serial, 1007)        # sell it, for order 1007
+        register.claim(next.serial, 1007)   # sell it, for order 1007
     except Refused as refused:
         if refused.number == Number.ALREADY_WRITTEN:
             print(refused)                  # serial 1 is already written, for order 1003
@@ -20,12 +21,12 @@ and changes nothing. The engine behind it is proved; this package only hands val
 proves and builds it, which takes a few minutes; HUZTIRAL_LIBRARY may name a shared library that was built before.
 """
 from ._c import (C, CELLS, FUNCTIONS, Answer, Bounds, Checked, Claimed, Done, Ledger, Opened, Peeked, Ranked, Stepped, load, version_of)
-from ._editions import Edition, Register
+from ._editions import Edition, Look, Register, Step
 from ._refusals import Number, Refused
 
 __version__: str = version_of(C)
-__all__ = ["Edition", "Register", "Refused", "Number", "__version__"]
+__all__ = ["Edition", "Register", "Step", "Look", "Refused", "Number", "__version__"]
 
-for _public in Edition, Register, Refused, Number:  # so that messages and pickles name them as users do
+for _public in Edition, Register, Step, Look, Refused, Number:  # so that messages and pickles name them as users do
     _public.__module__ = __name__
 del _public

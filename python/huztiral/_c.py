@@ -24,6 +24,7 @@ class Ledger(Structure):
 
 _NUMBER = [("number", c_uint32), ("detail", c_uint64)]
 _ANSWER = [*_NUMBER, ("serial", c_uint64), ("composition", CELLS)]
+_PAIR = [("gain", c_uint32), ("loss", c_uint32)]
 
 
 class Done(Structure):
@@ -39,7 +40,7 @@ class Ranked(Structure):
 
 
 class Stepped(Structure):
-    _fields_ = [*_NUMBER, ("composition", CELLS)]
+    _fields_ = [*_NUMBER, ("composition", CELLS), *_PAIR]
 
 
 class Opened(Structure):
@@ -47,7 +48,7 @@ class Opened(Structure):
 
 
 class Peeked(Structure):
-    _fields_ = _ANSWER
+    _fields_ = [*_ANSWER, *_PAIR]
 
 
 class Answer(Structure):
@@ -86,7 +87,7 @@ def _dotted(version: int) -> str:
 
 
 def version_of(library: ctypes.CDLL) -> str:
-    """the version of a library, as 0.9.0"""
+    """the version of a library, as 0.10.0"""
     return _dotted(library.huz_version())
 
 

@@ -4,7 +4,7 @@ from __future__ import annotations
 import operator
 import threading
 from ctypes import c_uint8, c_uint32
-from typing import Any, Callable, Iterable, SupportsIndex
+from typing import Any, Callable, Iterable, NamedTuple, SupportsIndex
 
 from ._c import C, Ledger
 from ._refusals import Number, Refused, sentence
@@ -36,6 +36,23 @@ def _bytes(values: Iterable[SupportsIndex]) -> bytes:
 def _lent(values: bytes) -> tuple[Any, int]:
     """bytes to lend, and how many"""
     return (c_uint8 * len(values)).from_buffer_copy(values), len(values)
+
+
+class Step(NamedTuple):
+    """A step's answer: the mix reached, and the kinds, from 1, that gain and lose a tile on the way to it from the mix given."""
+
+    composition: list[int]
+    gain: int
+    loss: int
+
+
+class Look(NamedTuple):
+    """A look's answer: the next serial, its mix, and the kinds, from 1, that gain and lose a tile against the copy before; 0 and 0 for serial 1."""
+
+    serial: int
+    composition: list[int]
+    gain: int
+    loss: int
 
 
 class Edition:
@@ -92,15 +109,13 @@ class Edition:
         serial = _fits(serial, 64)
         return list(self._filled(len(self._upper), C.huz_unrank, serial, serial=serial))
 
-    def successor(self, composition: Iterable[SupportsIndex]) -> list[int]:
-        """the mix one serial on"""
-        given = _bytes(composition)
-        return self._cells(self._accepted(C.huz_successor(*self._given, *_lent(given)), given=given, end="last"))
+    def successor(self, composition: Iterable[SupportsIndex]) -> Step:
+        """the mix one serial on, and the kinds that gain and lose a tile"""
+        return self._step(C.huz_successor, composition, "last")
 
-    def predecessor(self, composition: Iterable[SupportsIndex]) -> list[int]:
-        """the mix one serial back"""
-        given = _bytes(composition)
-        return self._cells(self._accepted(C.huz_predecessor(*self._given, *_lent(given)), given=given, end="first"))
+    def predecessor(self, composition: Iterable[SupportsIndex]) -> Step:
+        """the mix one serial back, and the kinds that gain and lose a tile on that way: those of the way forward exchanged"""
+        return self._step(C.huz_predecessor, composition, "first")
 
     def batch(self, serial: SupportsIndex, copies: SupportsIndex) -> list[list[int]]:
         """the mixes of so many serials, from `serial` on"""
@@ -125,6 +140,11 @@ class Edition:
     def open(self) -> Register:
         """a new register of this edition, with no lines"""
         return Register(self)
+
+    def _step(self, function: Callable[..., Any], composition: Iterable[SupportsIndex], end: str) -> Step:
+        given = _bytes(composition)
+        answer = self._accepted(function(*self._given, *_lent(given)), given=given, end=end)
+        return Step(self._cells(answer), answer.gain, answer.loss)
 
     def _cells(self, answer: Any) -> list[int]:
         return list(answer.composition)[:len(self._upper)]
@@ -170,27 +190,31 @@ class Register:
     def __reduce__(self) -> tuple[Any, ...]:
         raise TypeError("a register cannot be copied or pickled: the copy would sell its serials again")
 
-    def peek(self) -> tuple[int, list[int]]:
-        """a look: the next serial and its mix. Nothing is reserved: another worker may take it first."""
-        return self._call(C.huz_peek)
+    def peek(self) -> Look:
+        """a look: the next serial, its mix, and the kinds that gain and lose a tile. Nothing is reserved: another worker may take it first."""
+        answer = self._call(C.huz_peek)
+        return Look(answer.serial, self._edition._cells(answer), answer.gain, answer.loss)
 
     def claim(self, serial: SupportsIndex, order: SupportsIndex) -> tuple[int, list[int]]:
         """a take: the serial is sold to this order number, if it is the next one; the answer is the serial and its mix"""
         serial, order = _fits(serial, 64), _fits(order, 32)
-        return self._call(C.huz_claim_in, serial, order, serial=serial, order=order)
+        return self._written(C.huz_claim_in, serial, order, serial=serial, order=order)
 
     def void(self, serial: SupportsIndex) -> tuple[int, list[int]]:
         """a spoil: the serial is written off, if it is the next one, and its line is 0; the answer is the serial and its mix"""
         serial = _fits(serial, 64)
-        return self._call(C.huz_void_in, serial, serial=serial)
+        return self._written(C.huz_void_in, serial, serial=serial)
 
     def entries(self) -> list[int]:
         """the order numbers of the lines so far, that of serial 1 first; 0 for a spoilt one"""
         with self._lock:
             return self._orders[:C.huz_entries(self._ledger, self._orders, len(self._orders))]
 
-    def _call(self, function: Callable[..., Any], *arguments: int, **known: int) -> tuple[int, list[int]]:
+    def _written(self, function: Callable[..., Any], *arguments: int, **known: int) -> tuple[int, list[int]]:
+        answer = self._call(function, *arguments, **known)
+        return answer.serial, self._edition._cells(answer)
+
+    def _call(self, function: Callable[..., Any], *arguments: int, **known: int) -> Any:
         with self._lock:  # C is called without the interpreter's lock
             answer = function(self._ledger, self._orders, len(self._orders), *arguments)
-        self._edition._accepted(answer, **known)
-        return answer.serial, self._edition._cells(answer)
+        return self._edition._accepted(answer, **known)

@@ -5,6 +5,7 @@ use mathlib.Core.List.{List, [], _∷_, map, List·Memᴰ, List·Memᴰ·cases-c
 use lib.ListN.{getD, drop}
 use Rattle.walsh.specs.Order.{listing, order, count, countOf}
 use Rattle.walsh.specs.Serial.{same, placeOf, serialOf, compositionOf}
+use Rattle.walsh.specs.Transition.{gainFrom, transitionAt}
 use Rattle.bounds.specs.Refusal.{firstRefusal}
 use Rattle.bounds.specs.Edition.{firstOutside, cellsOf}
 use Rattle.bounds.specs.Places.{filling}
@@ -21,7 +22,7 @@ use Rattle.boundary.specs.Rows.{rows}
 
 all-hold : map given rows ≡ map claimed rows
 unfolding rows same placeOf serialOf compositionOf order listing countOf count firstRefusal firstOutside cellsOf rankAnswer stepOf
-    filling staircase isStaircase isPermutation inversions permutationOf lift inversionVector toPermutation toComposition
+    gainFrom transitionAt filling staircase isStaircase isPermutation inversions permutationOf lift inversionVector toPermutation toComposition
     compositions opened opening consistent answered recordAfter columnAfter run answer after bookFrom
 all-hold = refl
 

@@ -1,16 +1,18 @@
 -- Document 01, "Boundary copies": a row of the table is an edition and what is claimed of it. Both what the definitions give and what is claimed
--- are written as lists of numbers; the row holds if they are the same. An answer is its number, its detail and what it answers. Every claim but
--- `refused` also says that nothing is refused.
+-- are written as lists of numbers; the row holds if they are the same. An answer is its number, its detail and what it answers, with the pair of
+-- document 02, (i), behind it where it has one. Every claim but `refused` also says that nothing is refused.
 use mathlib.Core.Path.{_≡_}
 use mathlib.Core.List.{List, [], _∷_, _++_, map}
-use Prim.Native.Nat.{ℕ, _+_, _-_}
+use Prim.Native.Nat.{ℕ, zero, suc, _+_, _-_}
 use lib.ListN.{length, replicate}
 use Rattle.walsh.specs.Order.{order, countOf}
+use Rattle.walsh.specs.Transition.{transitionAt}
+use Rattle.walsh.specs.declared.Transition.{Transition}
 use Rattle.bounds.specs.Refusal.{firstRefusal}
 use Rattle.bounds.specs.Edition.{editionChecks, cellsOf}
 use Rattle.bounds.specs.declared.Refusal.{Refusal}
 use Rattle.rank.specs.Rank.{Answer, rankAnswer}
-use Rattle.step.specs.Steps.{successorOf}
+use Rattle.step.specs.Steps.{successorOf, predecessorOf}
 use Rattle.step.specs.declared.Stepped.{Stepped}
 use Rattle.permutation.specs.Reading.{byInversions}
 use Rattle.permutation.specs.Conversions.{toPermutation, toComposition}
@@ -19,6 +21,10 @@ use Rattle.model.specs.Printing.{Printing}
 use Rattle.model.specs.Model.{Call, Event}
 use Rattle.model.specs.Record.{opening, run}
 use Rattle.model.specs.Whole.{book}
+
+-- a call of a ledger, what it answers, and the pair
+abbrev pub Told : Type 0
+Told = Call × List ℕ × ℕ × ℕ
 
 pub data Claim : Type 0 where
   -- its compositions in their order
@@ -29,12 +35,16 @@ pub data Claim : Type 0 where
   refused : ℕ → Claim
   -- a composition's serial
   serial : List ℕ → ℕ → Claim
-  -- after the first comes the second
-  next : List ℕ → List ℕ → Claim
+  -- after the first comes the second, and the step to it has this pair: the kind that gains, the kind that loses
+  next : List ℕ → List ℕ → ℕ → ℕ → Claim
+  -- before the first comes the second, and the step back to it has this pair
+  back : List ℕ → List ℕ → ℕ → ℕ → Claim
+  -- the pairs of its serials, from 1 to N: what a listing's lines end with
+  pairs : List (ℕ × ℕ) → Claim
   -- its permutations in their order
   permutations : List (List ℕ) → Claim
   -- what a ledger on it answers to a list of calls; of a composition the first parts are written, the others are 0
-  answers : List (Call × List ℕ) → Claim
+  answers : List Told → Claim
 
 pub record Row : Type 0 where
   pub bounds : List ℕ
@@ -49,15 +59,24 @@ refusalList v = v .number ∷ v .detail ∷ []
 abbrev rankList : Answer → List ℕ
 rankList a = a .number ∷ a .detail ∷ a .serial ∷ []
 
+abbrev pairList : Transition → List ℕ
+pairList x = x .gain ∷ x .loss ∷ []
+
+-- cells, and the pair behind them
+abbrev paired : List ℕ → ℕ → ℕ → List ℕ
+paired cells gain loss = cells ++ (gain ∷ loss ∷ [])
+
 abbrev stepList : Stepped → List ℕ
-stepList x = x .number ∷ x .detail ∷ x .composition
+stepList x = x .number ∷ x .detail ∷ paired (x .composition) (x .gain) (x .loss)
 
 -- of a call that fills a lent part, the part's bytes too
 abbrev filledList : Refusal × List ℕ → List ℕ
 filledList x = refusalList (x .0) ++ x .1
 
 abbrev eventList : Event → List ℕ
-eventList x = x .reply .number ∷ x .reply .detail ∷ x .reply .serial ∷ x .reply .composition
+eventList x =
+    x .reply .number ∷ x .reply .detail ∷ x .reply .serial
+    ∷ paired (x .reply .composition) (x .transition .gain) (x .transition .loss)
 
 -- an accepted one
 abbrev accepted : List ℕ → List ℕ
@@ -80,6 +99,11 @@ module _ (ms : List ℕ) (r : ℕ) where
   abbrev unpermuted : List ℕ → List ℕ
   unpermuted p = filledList (toComposition byInversions ms r p (replicate (length ms) 0))
 
+  -- the pairs of the serials 1, .. , n
+  abbrev pairsTo : ℕ → List (List ℕ)
+  pairsTo zero = []
+  pairsTo (suc n) = pairsTo n ++ (pairList (transitionAt ms r (suc n)) ∷ [])
+
   -- the opening over a column of N entries
   abbrev column : List ℕ
   column = replicate (countOf ms r) 0
@@ -95,13 +119,15 @@ module _ (ms : List ℕ) (r : ℕ) where
   sides (counts n) = (edition ∷ (countOf ms r ∷ []) ∷ [], accepted [] ∷ (n ∷ []) ∷ [])
   sides (refused number) = (edition ∷ [], (number ∷ 0 ∷ []) ∷ [])
   sides (serial g s) = (rankList (rankAnswer ms r g) ∷ [], accepted (s ∷ []) ∷ [])
-  sides (next g h) = (stepList (successorOf ms r g) ∷ [], accepted (cellsOf h) ∷ [])
+  sides (next g h gain loss) = (stepList (successorOf ms r g) ∷ [], accepted (paired (cellsOf h) gain loss) ∷ [])
+  sides (back g h gain loss) = (stepList (predecessorOf ms r g) ∷ [], accepted (paired (cellsOf h) gain loss) ∷ [])
+  sides (pairs xs) = (edition ∷ pairsTo (countOf ms r), accepted [] ∷ map (λ (x : ℕ × ℕ). x .0 ∷ x .1 ∷ []) xs)
   -- both ways
   sides (permutations ps) = (map permuted (order ms r) ++ map unpermuted ps, map accepted ps ++ map accepted (order ms r))
   -- the record's own run, and the model
   sides (answers cs) =
-      let calls = map (λ (x : Call × List ℕ). x .0) cs in
-      let claims = map (λ (x : Call × List ℕ). padded (x .1)) cs in (
+      let calls = map (λ (x : Told). x .0) cs in
+      let claims = map (λ (x : Told). paired (padded (x .1)) (x .2) (x .3)) cs in (
         (start .number ∷ start .detail ∷ [])
             ∷ (map eventList (run (start .ledger) column calls .trace) ++ map eventList (book printing calls .trace)),
         accepted [] ∷ (claims ++ claims),

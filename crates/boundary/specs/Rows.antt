@@ -1,19 +1,21 @@
--- Document 01, "Boundary copies": the table.
+-- Document 01, "Boundary copies": the table, with the pairs of document 02, (i).
 use mathlib.Core.List.{List, [], _∷_}
 use Prim.Native.Nat.{ℕ}
 use Rattle.walsh.specs.Order.{threeTwos, seven}
 use Rattle.model.specs.Model.{peek, claim, void}
-use Rattle.boundary.specs.Row.{Claim, lists, counts, refused, serial, next, answers, permutations, Row}
+use Rattle.boundary.specs.Row.{Claim, lists, counts, refused, serial, next, back, pairs, answers, permutations, Row}
 
 abbrev row : List ℕ → ℕ → Claim → Row
 row ms r what = record { bounds = ms; total = r; claim = what }
 
 unfoldable pub rows : List Row
 rows =
-    -- A: the seven compositions of 2 2 2 with total 3; B: the third of them; C: what follows the fifth
+    -- A: the seven compositions of 2 2 2 with total 3, and their pairs; B: the third of them; C: what follows the fifth, and the way back
     row threeTwos 3 (lists seven)
+    ∷ row threeTwos 3 (pairs ((0, 0) ∷ (2, 1) ∷ (3, 1) ∷ (1, 2) ∷ (1, 2) ∷ (3, 1) ∷ (2, 1) ∷ []))
     ∷ row threeTwos 3 (serial (0 ∷ 2 ∷ 1 ∷ []) 3)
-    ∷ row threeTwos 3 (next (2 ∷ 0 ∷ 1 ∷ []) (1 ∷ 0 ∷ 2 ∷ []))
+    ∷ row threeTwos 3 (next (2 ∷ 0 ∷ 1 ∷ []) (1 ∷ 0 ∷ 2 ∷ []) 3 1)
+    ∷ row threeTwos 3 (back (1 ∷ 0 ∷ 2 ∷ []) (2 ∷ 0 ∷ 1 ∷ []) 1 3)
     -- D
     ∷ row threeTwos 5 (lists ((2 ∷ 2 ∷ 1 ∷ []) ∷ (2 ∷ 1 ∷ 2 ∷ []) ∷ (1 ∷ 2 ∷ 2 ∷ []) ∷ []))
     -- E: one bound of 5
@@ -35,53 +37,56 @@ rows =
     -- I: bounds 1 1 with total 1, two workers: look 1, look 1, take 1 for 1007, take 1 for 1014, take 2 for 1014, look
     ∷ row (1 ∷ 1 ∷ []) 1
     (answers
-    ((peek, 0 ∷ 0 ∷ 1 ∷ 1 ∷ 0 ∷ [])
-    ∷ (peek, 0 ∷ 0 ∷ 1 ∷ 1 ∷ 0 ∷ [])
-    ∷ (claim 1 1007, 0 ∷ 0 ∷ 1 ∷ 1 ∷ 0 ∷ [])
-    ∷ (claim 1 1014, 18 ∷ 1007 ∷ [])
-    ∷ (claim 2 1014, 0 ∷ 0 ∷ 2 ∷ 0 ∷ 1 ∷ [])
-    ∷ (peek, 21 ∷ [])
+    ((peek, 0 ∷ 0 ∷ 1 ∷ 1 ∷ 0 ∷ [], 0, 0)
+    ∷ (peek, 0 ∷ 0 ∷ 1 ∷ 1 ∷ 0 ∷ [], 0, 0)
+    ∷ (claim 1 1007, 0 ∷ 0 ∷ 1 ∷ 1 ∷ 0 ∷ [], 0, 0)
+    ∷ (claim 1 1014, 18 ∷ 1007 ∷ [], 0, 0)
+    ∷ (claim 2 1014, 0 ∷ 0 ∷ 2 ∷ 0 ∷ 1 ∷ [], 0, 0)
+    ∷ (peek, 21 ∷ [], 0, 0)
     ∷ []))
+    -- between I's two sales a look sees serial 2, with its pair
+    ∷ row (1 ∷ 1 ∷ []) 1 (answers ((claim 1 1007, 0 ∷ 0 ∷ 1 ∷ 1 ∷ 0 ∷ [], 0, 0) ∷ (peek, 0 ∷ 0 ∷ 2 ∷ 0 ∷ 1 ∷ [], 2, 1) ∷ []))
     -- J: the same edition: spoil 1, take 1 for 1007
-    ∷ row (1 ∷ 1 ∷ []) 1 (answers ((void 1, 0 ∷ 0 ∷ 1 ∷ 1 ∷ 0 ∷ []) ∷ (claim 1 1007, 18 ∷ 0 ∷ []) ∷ []))
+    ∷ row (1 ∷ 1 ∷ []) 1 (answers ((void 1, 0 ∷ 0 ∷ 1 ∷ 1 ∷ 0 ∷ [], 0, 0) ∷ (claim 1 1007, 18 ∷ 0 ∷ [], 0, 0) ∷ []))
     -- beside the document's copies: 17, 6, 19 and 20, and which comes first where two of a call's checks hold
     ∷ row threeTwos 3
     (answers
-    ((claim 1 0, 17 ∷ [])
-    ∷ (claim 0 1007, 6 ∷ [])
-    ∷ (claim 8 1007, 6 ∷ [])
-    ∷ (void 0, 6 ∷ [])
-    ∷ (void 8, 6 ∷ [])
-    ∷ (claim 2 1007, 19 ∷ 1 ∷ [])
-    ∷ (claim 7 1007, 19 ∷ 1 ∷ [])
-    ∷ (void 2, 19 ∷ 1 ∷ [])
-    ∷ (claim 1 1007, 0 ∷ 0 ∷ 1 ∷ 2 ∷ 1 ∷ 0 ∷ [])
-    ∷ (claim 2 1007, 20 ∷ 1 ∷ [])
-    ∷ (void 2, 0 ∷ 0 ∷ 2 ∷ 1 ∷ 2 ∷ 0 ∷ [])
-    ∷ (claim 3 1014, 0 ∷ 0 ∷ 3 ∷ 0 ∷ 2 ∷ 1 ∷ [])
-    ∷ (claim 4 1014, 20 ∷ 3 ∷ [])
-    ∷ (claim 4 1007, 20 ∷ 1 ∷ [])
-    ∷ (void 3, 18 ∷ 1014 ∷ [])
+    ((claim 1 0, 17 ∷ [], 0, 0)
+    ∷ (claim 0 1007, 6 ∷ [], 0, 0)
+    ∷ (claim 8 1007, 6 ∷ [], 0, 0)
+    ∷ (void 0, 6 ∷ [], 0, 0)
+    ∷ (void 8, 6 ∷ [], 0, 0)
+    ∷ (claim 2 1007, 19 ∷ 1 ∷ [], 0, 0)
+    ∷ (claim 7 1007, 19 ∷ 1 ∷ [], 0, 0)
+    ∷ (void 2, 19 ∷ 1 ∷ [], 0, 0)
+    ∷ (claim 1 1007, 0 ∷ 0 ∷ 1 ∷ 2 ∷ 1 ∷ 0 ∷ [], 0, 0)
+    ∷ (claim 2 1007, 20 ∷ 1 ∷ [], 0, 0)
+    ∷ (void 2, 0 ∷ 0 ∷ 2 ∷ 1 ∷ 2 ∷ 0 ∷ [], 0, 0)
+    ∷ (claim 3 1014, 0 ∷ 0 ∷ 3 ∷ 0 ∷ 2 ∷ 1 ∷ [], 0, 0)
+    ∷ (claim 4 1014, 20 ∷ 3 ∷ [], 0, 0)
+    ∷ (claim 4 1007, 20 ∷ 1 ∷ [], 0, 0)
+    ∷ (void 3, 18 ∷ 1014 ∷ [], 0, 0)
     -- 17 before 6, 18 and 19; 6, 18 and 19 before 20
-    ∷ (claim 0 0, 17 ∷ [])
-    ∷ (claim 1 0, 17 ∷ [])
-    ∷ (claim 5 0, 17 ∷ [])
-    ∷ (claim 8 1007, 6 ∷ [])
-    ∷ (claim 2 1007, 18 ∷ 0 ∷ [])
-    ∷ (claim 5 1007, 19 ∷ 4 ∷ [])
-    ∷ (peek, 0 ∷ 0 ∷ 4 ∷ 1 ∷ 1 ∷ 1 ∷ [])
+    ∷ (claim 0 0, 17 ∷ [], 0, 0)
+    ∷ (claim 1 0, 17 ∷ [], 0, 0)
+    ∷ (claim 5 0, 17 ∷ [], 0, 0)
+    ∷ (claim 8 1007, 6 ∷ [], 0, 0)
+    ∷ (claim 2 1007, 18 ∷ 0 ∷ [], 0, 0)
+    ∷ (claim 5 1007, 19 ∷ 4 ∷ [], 0, 0)
+    ∷ (peek, 0 ∷ 0 ∷ 4 ∷ 1 ∷ 1 ∷ 1 ∷ [], 1, 2)
     ∷ []))
     -- three copies, until the last is sold and beyond
     ∷ row (1 ∷ 1 ∷ 1 ∷ []) 1
     (answers
-    ((void 1, 0 ∷ 0 ∷ 1 ∷ 1 ∷ 0 ∷ 0 ∷ [])
-    ∷ (claim 2 1007, 0 ∷ 0 ∷ 2 ∷ 0 ∷ 1 ∷ 0 ∷ [])
-    ∷ (claim 3 1007, 20 ∷ 2 ∷ [])
-    ∷ (peek, 0 ∷ 0 ∷ 3 ∷ 0 ∷ 0 ∷ 1 ∷ [])
-    ∷ (claim 3 1014, 0 ∷ 0 ∷ 3 ∷ 0 ∷ 0 ∷ 1 ∷ [])
-    ∷ (peek, 21 ∷ [])
-    ∷ (claim 3 1021, 18 ∷ 1014 ∷ [])
-    ∷ (claim 4 1021, 6 ∷ [])
-    ∷ (void 4, 6 ∷ [])
+    ((void 1, 0 ∷ 0 ∷ 1 ∷ 1 ∷ 0 ∷ 0 ∷ [], 0, 0)
+    ∷ (peek, 0 ∷ 0 ∷ 2 ∷ 0 ∷ 1 ∷ 0 ∷ [], 2, 1)
+    ∷ (claim 2 1007, 0 ∷ 0 ∷ 2 ∷ 0 ∷ 1 ∷ 0 ∷ [], 0, 0)
+    ∷ (claim 3 1007, 20 ∷ 2 ∷ [], 0, 0)
+    ∷ (peek, 0 ∷ 0 ∷ 3 ∷ 0 ∷ 0 ∷ 1 ∷ [], 3, 2)
+    ∷ (claim 3 1014, 0 ∷ 0 ∷ 3 ∷ 0 ∷ 0 ∷ 1 ∷ [], 0, 0)
+    ∷ (peek, 21 ∷ [], 0, 0)
+    ∷ (claim 3 1021, 18 ∷ 1014 ∷ [], 0, 0)
+    ∷ (claim 4 1021, 6 ∷ [], 0, 0)
+    ∷ (void 4, 6 ∷ [], 0, 0)
     ∷ []))
     ∷ []

@@ -5,6 +5,7 @@ use model::Answer;
 use model::Claimed;
 use model::Ledger;
 use model::Opened;
+use model::Peeked;
 use step::Stepped;
 ghost use mathlib.Core.Path.{_≡_};
 ghost use mathlib.Core.List.{List};
@@ -19,11 +20,11 @@ ghost use Rattle.step.specs.Batch.{batchOf};
 ghost use Rattle.permutation.specs.Reading.{byInversions};
 ghost use Rattle.permutation.specs.Conversions.{toPermutation, toComposition};
 ghost use Rattle.model.specs.Model.{Call};
-ghost use Rattle.model.specs.Record.{opening, answered, calling, entriesOf};
+ghost use Rattle.model.specs.Record.{opening, peeking, calling, entriesOf};
 ghost use Rattle.engine.specs.Ranks.{rankedOf};
 ghost use Rattle.engine.specs.Version.{version};
 
-const VERSION: u32 = 900;
+const VERSION: u32 = 1000;
 
 // A serial, or a refusal's number and detail with serial 0.
 #[repr(C)]
@@ -139,8 +140,8 @@ pub extern "C" fn huz_open(upper: &[u8], total: u32, orders: &[u32]) -> Opened
 }
 
 #[no_mangle]
-pub extern "C" fn huz_peek(ledger: Ledger, orders: &[u32]) -> Answer
-    ensures { λ r. ⌜ r ≡ answered ledger (now (orders .entry)) Call.peek ⌝ }
+pub extern "C" fn huz_peek(ledger: Ledger, orders: &[u32]) -> Peeked
+    ensures { λ r. ⌜ r ≡ peeking ledger (now (orders .entry)) ⌝ }
 {
     ledger::peek(ledger, orders)
 }

@@ -1,13 +1,13 @@
 -- One step on from the record's composition is the composition of the serial after the next.
 use mathlib.Core.Path.{_≡_, sym, ap, _∙_}
-use mathlib.Core.Bool.{Bool}
 use mathlib.Core.List.{List, _++_}
-use Prim.Native.Nat.{ℕ, _+_, _-_, _≤_, _<_, min}
+use Prim.Native.Nat.{ℕ, _+_, _≤_, _<_, min}
 use native.Mathlib.Omega.{arith}
 use lib.ListN.{length, take, drop}
 use borrow.Author.Tests.{eq-eqb}
 use Rattle.walsh.specs.Order.{Composition}
 use Rattle.walsh.specs.Serial.{serialOf, compositionOf}
+use Rattle.walsh.specs.declared.Transition.{Transition}
 use Rattle.walsh.proofs.Cases.{on-less}
 use Rattle.walsh.proofs.Serials.{composition-is, serial-composition}
 use Rattle.bounds.specs.Edition.{cellsOf}
@@ -15,7 +15,7 @@ use Rattle.bounds.proofs.Cells.{cells-back, cells-replaced}
 use Rattle.step.specs.Advance.{advanceOf, Advances}
 use Rattle.step.proofs.Ways.{advance-serial}
 use Rattle.model.specs.Printing.{Printing, size, nextComposition}
-use Rattle.model.proofs.Compositions.{compositions-at}
+use Rattle.model.proofs.Stock.{serial-cells}
 
 module _ (p : Printing) (e : ℕ) where
   abbrev ms : List ℕ
@@ -26,18 +26,17 @@ module _ (p : Printing) (e : ℕ) where
 
   -- the composition of serial s, of serial N where s is larger
   at-serial : (s : ℕ) → nextComposition p s ≡ cellsOf (compositionOf ms r (min (s + 1) (size p)))
-  unfolding compositionOf
-  at-serial s = compositions-at ms r (min (s + 1) (size p) - 1)
+  at-serial s = serial-cells p (min (s + 1) (size p))
 
-  pub forward : (n : ℕ) (next : List ℕ) (b : Bool) (h : List ℕ)
+  pub forward : (n : ℕ) (next : List ℕ) (x : Transition) (h : List ℕ)
       → n ≡ length ms
       → length ms ≤ 24
       → next ≡ nextComposition p e
       → e < size p
-      → Advances ms r (take n next) b h
+      → Advances ms r (take n next) x h
       → h ++ drop n next ≡ nextComposition p (e + 1)
   unfolding advanceOf
-  forward n next b h count few is room step =
+  forward n next x h count few is room step =
       let now : min (e + 1) (size p) ≡ e + 1 = omega arith in
       let g : List ℕ = compositionOf ms r (e + 1) in
       let cells : next ≡ cellsOf g = is ∙ at-serial e ∙ ap (λ (s : ℕ). cellsOf (compositionOf ms r s)) now in
@@ -45,18 +44,18 @@ module _ (p : Printing) (e : ℕ) where
       let long : n ≡ length g = count ∙ sym (valid .size) in
       let same : take n next ≡ g = rw (cells, long) (cells-back g) in
       let serial : serialOf ms r g ≡ e + 1 = serial-composition ms r (e + 1) (omega arith) (omega arith) in
-      let did : _≡_ {A = Bool × List ℕ} (b, h) (advanceOf ms r g) = rw same at (step .next few (rw same valid)) in
-      let to : h ≡ compositionOf ms r (min (e + 1 + 1) (size p)) = ap (λ (q : Bool × List ℕ). q .1) did ∙ reached serial in
+      let did : h ≡ advanceOf ms r g = rw same at (step .next few (rw same valid)) in
+      let to : h ≡ compositionOf ms r (min (e + 1 + 1) (size p)) = did ∙ reached serial in
       let valid′ : Composition ms r h = rw to (composition-is ms r (min (e + 1 + 1) (size p)) (omega arith) (omega arith)) in
       rw cells (cells-replaced g h n (sym long) (valid′ .size ∙ sym count)) ∙ ap cellsOf to ∙ sym (at-serial (e + 1))
     where
       reached : serialOf ms r (compositionOf ms r (e + 1)) ≡ e + 1
-          → advanceOf ms r (compositionOf ms r (e + 1)) .1 ≡ compositionOf ms r (min (e + 1 + 1) (size p))
+          → advanceOf ms r (compositionOf ms r (e + 1)) ≡ compositionOf ms r (min (e + 1 + 1) (size p))
       reached serial =
           on-less (e + 1) (size p)
           (λ l t.
           let more : e + 1 + 1 ≡ min (e + 1 + 1) (size p) = omega arith in
-          ap (λ (q : Bool × List ℕ). q .1) (advance-serial ms r (e + 1) (omega arith) l) ∙ ap (compositionOf ms r) more)
+          advance-serial ms r (e + 1) (omega arith) l ∙ ap (compositionOf ms r) more)
           (λ l t.
           let last : e + 1 ≡ size p = omega arith in
           let same : e + 1 ≡ min (e + 1 + 1) (size p) = omega arith in

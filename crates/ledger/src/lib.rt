@@ -4,12 +4,13 @@ use model::Answer;
 use model::Claimed;
 use model::Ledger;
 use model::Opened;
+use model::Peeked;
 ghost use mathlib.Core.Path.{_≡_};
 ghost use mathlib.Core.Bool.{true};
 ghost use Prim.Native.Nat.{_+_, _≤_, _<_};
 ghost use Rattle.model.specs.Printing.{size, nextComposition};
 ghost use Rattle.model.specs.Model.{Call};
-ghost use Rattle.model.specs.Record.{printingOf, blankLedger, opening, consistent, answered, calling, entriesOf};
+ghost use Rattle.model.specs.Record.{printingOf, blankLedger, opening, consistent, peeking, calling, entriesOf};
 ghost use Rattle.ledger.specs.Entering.{entering};
 
 // ---- opening
@@ -111,9 +112,9 @@ fn enter(
 
 // ---- the calls
 
-// document 01: look. The next serial with its composition; nothing is reserved.
-pub fn peek(ledger: Ledger, orders: &[u32]) -> Answer
-    ensures { λ r. ⌜ r ≡ answered ledger (now (orders .entry)) Call.peek ⌝ }
+// document 01: look. The next serial with its composition and its pair; nothing is reserved.
+pub fn peek(ledger: Ledger, orders: &[u32]) -> Peeked
+    ensures { λ r. ⌜ r ≡ peeking ledger (now (orders .entry)) ⌝ }
 {
     reply::peek(ledger, orders)
 }

@@ -3,10 +3,12 @@
 use mathlib.Core.Path.{_≡_}
 use mathlib.Core.List.{List, [], _∷_}
 use Prim.Native.Nat.{ℕ}
+use Rattle.walsh.specs.Transition.{none}
+use Rattle.walsh.specs.declared.Transition.{Transition}
 use Rattle.model.specs.Entry.{Entry, Lent as Column}
 use Rattle.model.specs.Printing.{Printing}
-use Rattle.model.specs.Model.{Call, event}
-use Rattle.model.specs.Record.{opening, answered, calling, Run}
+use Rattle.model.specs.Model.{Call}
+use Rattle.model.specs.Record.{opening, peekedBy, peeking, calling, Run}
 use Rattle.model.specs.declared.Answer.{Answer}
 use Rattle.model.specs.declared.Claimed.{Claimed}
 use Rattle.model.specs.declared.Ledger.{Ledger}
@@ -45,17 +47,18 @@ pub record ByValue (c : Call) (x : State) (a : Answer) (y : State) : Type 0 wher
 abbrev pub Lent : Call → State → Answer → State → Type 0
 Lent c x a y = (record { answer = a; ledger = y .ledger }, y .column) ≡ calling (x .ledger) (x .column) c
 
--- the record goes in, the column is lent to be read
-pub record Peeks (x : State) (a : Answer) (y : State) : Type 0 where
-  pub meets : a ≡ answered (x .ledger) (x .column) Call.peek
+-- the record goes in, the column is lent to be read; the pair t is answered too
+pub record Peeks (x : State) (a : Answer) (t : Transition) (y : State) : Type 0 where
+  pub meets : peekedBy a t ≡ peeking (x .ledger) (x .column)
   pub kept : y ≡ x
 
-abbrev pub Does : Invocation → State → Answer → State → Type 0
-Does peek = Peeks
-Does (claim s e) = ByValue (Call.claim s e)
-Does (void s) = ByValue (Call.void s)
-Does (claim-in s e) = Lent (Call.claim s e)
-Does (void-in s) = Lent (Call.void s)
+-- the other calls answer no pair
+abbrev pub Does : Invocation → State → Answer → Transition → State → Type 0
+Does peek x a t y = Peeks x a t y
+Does (claim s e) x a t y = ByValue (Call.claim s e) x a y × (t ≡ none)
+Does (void s) x a t y = ByValue (Call.void s) x a y × (t ≡ none)
+Does (claim-in s e) x a t y = Lent (Call.claim s e) x a y × (t ≡ none)
+Does (void-in s) x a t y = Lent (Call.void s) x a y × (t ≡ none)
 
 -- ---- a list of calls
 
@@ -63,8 +66,8 @@ Does (void-in s) = Lent (Call.void s)
 abbrev pub Runs : State → List Invocation → Run → Type 0
 Runs x [] w = w ≡ record { trace = []; ledger = x .ledger; column = x .column }
 Runs x (s ∷ ss) w =
-    (a : Answer) × (y : State) × (v : Run) × Does s x a y × Runs y ss v
-    × (w ≡ record { trace = event (callOf s) a ∷ v .trace; ledger = v .ledger; column = v .column })
+    (a : Answer) × (t : Transition) × (y : State) × (v : Run) × Does s x a t y × Runs y ss v
+    × (w ≡ record { trace = record { call = callOf s; reply = a; transition = t } ∷ v .trace; ledger = v .ledger; column = v .column })
 
 -- "the column and the record of an accepted opening"
 abbrev pub start : Printing → Column → State

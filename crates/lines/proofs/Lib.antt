@@ -2,6 +2,7 @@ pub mod Appends
 pub mod Lengths
 pub mod Lined
 pub mod Fitting
+pub mod Pairs
 pub mod Pieces
 pub mod Paged
 pub mod Refuses

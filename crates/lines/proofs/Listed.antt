@@ -8,7 +8,8 @@ use lib.Seq.{take-at}
 use borrow.Author.Tests.{lt-ltb, le-ltb}
 use Rattle.walsh.specs.Order.{countOf}
 use Rattle.walsh.specs.Serial.{compositionOf}
-use Rattle.walsh.proofs.Serials.{composition-is}
+use Rattle.walsh.specs.declared.Transition.{Transition}
+use Rattle.walsh.proofs.Serials.{composition-is, serial-composition}
 use Rattle.bounds.specs.Refusal.{refused, firstRefusal}
 use Rattle.bounds.specs.Edition.{editionChecks, cellsOf}
 use Rattle.bounds.specs.Places.{mostEntries, manyChecks}
@@ -19,6 +20,7 @@ use Rattle.rank.specs.Locate.{nearest, locateOf}
 use Rattle.rank.specs.declared.Located.{Located}
 use Rattle.rank.proofs.Calls.{clamp-in}
 use Rattle.rank.proofs.Locations.{located-refused, located-accepted}
+use Rattle.step.specs.Advance.{Retreats}
 use Rattle.lines.specs.Printed.{Output, refusal, copies, listChecks, listed}
 use Rattle.lines.specs.Page.{lineIn, pageIn, Ready, Filled}
 use Rattle.lines.specs.declared.Page.{Page}
@@ -100,16 +102,25 @@ module _ (ms : List ℕ) (r : ℕ) where
           unfolding cellsOf
           list-cells = rw cells (omega (arith, size, length-append (compositionOf ms r s) (replicate (24 - length (compositionOf ms r s)) 0)))
 
-          pub list-ready : Ready ms r s (x .count) (take (length ms) (x .composition))
+          here : take (length ms) (x .composition) ≡ compositionOf ms r s
           unfolding cellsOf
-          list-ready =
+          here = rw cells (take-at (compositionOf ms r s) _ (length ms) size)
+
+          -- the pair of the composition is that of the line
+          pub list-ready : (y : Transition) (l : List ℕ) → Retreats ms r (take (length ms) (x .composition)) y l
+              → Ready ms r s (x .count) (take (length ms) (x .composition)) y
+          list-ready y l back =
+              let few = edition-shapely ms r (told .0) .few in
+              let last : s ≤ countOf ms r = omega (arith, told .1) in
+              let valid = rw (← here) at (composition-is ms r s pos last) in
               record {
-                few = edition-shapely ms r (told .0) .few;
+                few = few;
                 small = h;
                 all = told .1;
                 low = pos;
                 high = high;
-                here = rw cells (take-at (compositionOf ms r s) _ (length ms) size);
+                here = here;
+                pair = back .pair few valid ∙ rw (here, serial-composition ms r s pos last);
               }
 
           pub list-put : (p : Page) (before after : List ℕ) → Filled ms r s (x .count) before after p

@@ -1,4 +1,5 @@
--- The longest line has 80 bytes: a serial of 7 digits, 24 spaces with two digits each, and the line feed.
+-- No line has more than 88 bytes: a serial of 7 digits, 24 spaces with two digits each, two spaces with a sign and two digits each, and the line
+-- feed.
 use mathlib.Core.Path.{_≡_, refl}
 use mathlib.Core.Bool.{Bool, true}
 use mathlib.Core.List.{List, [], _∷_}
@@ -11,6 +12,7 @@ use borrow.Author.Tests.{leb-true, ltb-false}
 use Rattle.walsh.specs.Tests.{both}
 use Rattle.walsh.specs.Order.{countOf}
 use Rattle.walsh.specs.Serial.{compositionOf}
+use Rattle.walsh.specs.Transition.{transitionAt}
 use Rattle.walsh.proofs.Cases.{on-test}
 use Rattle.walsh.proofs.Tests.{both-left, both-right}
 use Rattle.walsh.proofs.Serials.{composition-is}
@@ -21,17 +23,18 @@ use Rattle.bounds.proofs.Refusals.{passed}
 use Rattle.bounds.proofs.Chains.{accepts-split}
 use Rattle.bounds.proofs.Editions.{neither, edition-shapely}
 use Rattle.request.specs.Asked.{Asked, wants, nothing, askedOf}
-use Rattle.lines.specs.Lines.{lineAt}
+use Rattle.lines.specs.Lines.{pairEnd, lineAt}
 use Rattle.lines.specs.Printed.{Output, refusal, copies, listChecks, listed, outputFor, outputOf}
 use Rattle.lines.specs.Page.{lineIn, linesIn}
 use Rattle.lines.proofs.Lengths.{length-decimal}
-use Rattle.lines.proofs.Lined.{length-line, length-end}
+use Rattle.lines.proofs.Lined.{pair-end-short, length-counts, length-line}
+use Rattle.lines.proofs.Pairs.{kinds-most}
 use Rattle.lines.proofs.Refuses.{length-refusal}
 use Rattle.lines.proofs.Listed.{listed-refused, listed-copies}
 
 pub record Short (o : Output) : Type 0 where
   pub few : linesIn o ≤ mostEntries
-  pub short : (k : ℕ) → 0 < k → k ≤ linesIn o → length (lineIn o k) ≤ 80
+  pub short : (k : ℕ) → 0 < k → k ≤ linesIn o → length (lineIn o k) ≤ 88
 
 -- ---- a refusal: its number has at most two digits
 
@@ -69,7 +72,7 @@ module _ (ms : List ℕ) (r : ℕ) (accepted : firstRefusal (listChecks ms r) .n
   count-most : countOf ms r ≤ mostEntries
   count-most = ltb-false _ _ (passed _ _ refl (accepts-split (editionChecks ms r) _ refl accepted .1) .0)
 
-  copy-short : (s : ℕ) → 0 < s → s ≤ countOf ms r → length (lineAt ms r s) ≤ 80
+  copy-short : (s : ℕ) → 0 < s → s ≤ countOf ms r → length (lineAt ms r s) ≤ 88
   unfolding lineAt
   copy-short s low high =
       let shape = edition-shapely ms r (accepts-split (editionChecks ms r) _ refl accepted .0) in
@@ -77,8 +80,11 @@ module _ (ms : List ℕ) (r : ℕ) (accepted : firstRefusal (listChecks ms r) .n
       let valid = composition-is ms r s low high in
       let part : (i : ℕ) → i < length g → getD g i 0 < 100 =
       λ i b. omega (arith, valid .parts .fits i (omega (arith, valid .size)), inside-most ms 0 (shape .inside) i) in
-      let parts = length-end 2 g (λ i b. length-decimal 1 (getD g i 0) (part i b)) in
-      omega (arith, length-line s g, length-decimal 6 s (omega (arith, count-most)), parts, valid .size, shape .few)
+      let x = transitionAt ms r s in
+      let kinds = kinds-most ms r s low high in
+      let end = pair-end-short x (omega (arith, kinds .0, shape .few)) (omega (arith, kinds .1, shape .few)) in
+      let counts = length-counts 2 g (pairEnd x) (λ i b. length-decimal 1 (getD g i 0) (part i b)) in
+      omega (arith, length-line s g x, length-decimal 6 s (omega (arith, count-most)), counts, end, valid .size, shape .few)
 
   copies-short : Short (copies ms r)
   copies-short = record { few = count-most; short = copy-short }

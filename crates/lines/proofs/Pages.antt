@@ -68,8 +68,8 @@ module _ (s : List ℕ) where
           let split : suc count - k ≡ n + (suc count - (k + n)) = omega arith in
           rw (shown-is, e, next-more) (sym (ap (linesOf f k) split ∙ lines-append f k n (suc count - (k + n))))
 
-    -- a buffer of 80 bytes takes a line
-    some : k ≤ count → 80 ≤ length out → 0 < taken f count k (length out)
+    -- a buffer of 88 bytes takes a line
+    some : k ≤ count → 88 ≤ length out → 0 < taken f count k (length out)
     some h room =
         let left : suc count - k ≡ suc (count - k) = omega arith in
         rw (left, fitting-here f k (count - k) (length out) (omega (arith, printed-short s .short k low h))) (omega arith)
@@ -100,16 +100,16 @@ module _ (s : List ℕ) where
       let n : suc count - 1 ≡ count = omega arith in
       rest-is p (omega arith) ∙ ap (linesOf f 1) n ∙ sym whole
 
-  -- ---- and with a buffer of 80 bytes it ends
+  -- ---- and with a buffer of 88 bytes it ends
 
-  ends : (calls k : ℕ) (out : List ℕ) → 0 < k → suc count ≤ k + calls → 80 ≤ length out → Pages s out k (linesOf f k (suc count - k))
+  ends : (calls k : ℕ) (out : List ℕ) → 0 < k → suc count ≤ k + calls → 88 ≤ length out → Pages s out k (linesOf f k (suc count - k))
   ends zero k out low h room =
       let end : count < k + taken f count k (length out) = omega arith in
       last (next-last k out low end) (sym (shown-last k out low end))
   ends (suc calls) k out low h room =
       go (ends calls (pageOf s k out .0 .next) (pageOf s k out .1))
     where
-      go : (0 < pageOf s k out .0 .next → suc count ≤ pageOf s k out .0 .next + calls → 80 ≤ length (pageOf s k out .1)
+      go : (0 < pageOf s k out .0 .next → suc count ≤ pageOf s k out .0 .next + calls → 88 ≤ length (pageOf s k out .1)
           → Pages s (pageOf s k out .1) (pageOf s k out .0 .next)
           (linesOf f (pageOf s k out .0 .next) (suc count - pageOf s k out .0 .next)))
           → Pages s out k (linesOf f k (suc count - k))
@@ -122,7 +122,7 @@ module _ (s : List ℕ) where
           more _ (λ z. omega (arith, on)) (below (omega (arith, on)) (omega (arith, on, moved)) (omega (arith, size-is k out low)))
           (sym (shown-more k out low l refl)))
 
-  pub pages-whole : (out : List ℕ) → 80 ≤ length out → Pages s out 1 (printed s)
+  pub pages-whole : (out : List ℕ) → 88 ≤ length out → Pages s out 1 (printed s)
   pages-whole out room =
       let n : suc count - 1 ≡ count = omega arith in
       rw (whole, ← n) (ends count 1 out (omega arith) (omega arith) room)
@@ -149,7 +149,7 @@ module _ (s : List ℕ) (k : ℕ) (before after : List ℕ) (p : Page) (e : (p, 
           let ends = ap (λ (x : Page × List ℕ). x .0 .end) (e ∙ page-is s k before (omega (arith, z))) in
           omega (arith, ends, fitting-fits (lineIn (outputOf s)) k (suc (linesIn (outputOf s)) - k) (length before))
 
-  pub page-on : 80 ≤ length before → (p .next ≡ 0 → ⊥) → left (p .next) < left k
+  pub page-on : 88 ≤ length before → (p .next ≡ 0 → ⊥) → left (p .next) < left k
   page-on room ne = go (ℕ-discrete k 0)
     where
       go : Dec (k ≡ 0) → left (p .next) < left k

@@ -12,5 +12,5 @@ pub record Appended (before after : List ℕ) (at end : ℕ) (text : List ℕ) :
   pub size : length after ≡ length before
 
 -- two digits, leading zero included
-abbrev pub pairOf : ℕ → List ℕ
-pairOf n = (48 + n / 10) ∷ (48 + n % 10) ∷ []
+abbrev pub twoDigits : ℕ → List ℕ
+twoDigits n = (48 + n / 10) ∷ (48 + n % 10) ∷ []

@@ -7,13 +7,15 @@ use lib.Dec.{eqb, ltb}
 use lib.ListN.{length, take, drop, replicate}
 use Rattle.walsh.specs.Order.{order, listing, count, countOf}
 use Rattle.walsh.specs.Serial.{same, compositionOf}
+use Rattle.walsh.specs.Transition.{gainFrom, transitionAt}
+use Rattle.walsh.specs.declared.Transition.{Transition}
 use Rattle.bounds.specs.Refusal.{firstRefusal}
 use Rattle.bounds.specs.Edition.{firstOutside}
 use Rattle.bounds.specs.Places.{mostEntries}
-use Rattle.request.specs.Text.{digitsOf, decimal, lineEnd, line, refusalLine}
+use Rattle.request.specs.Text.{digitsOf, decimal, refusalLine}
 use Rattle.request.specs.Scan.{scan, grownOf}
 use Rattle.request.specs.Asked.{askedOf, example}
-use Rattle.lines.specs.Lines.{lineAt, linesOf, fitting}
+use Rattle.lines.specs.Lines.{countsThen, pairEnd, copyLine, lineAt, linesOf, fitting}
 use Rattle.lines.specs.Printed.{Output, refusal, copies, listed, outputOf}
 use Rattle.lines.specs.Append.{Appended}
 use Rattle.lines.specs.declared.Page.{Page}
@@ -55,15 +57,15 @@ pageIn o k out = pageFrom (lineIn o) (linesIn o) k out
 unfoldable pub pageOf : List ℕ → ℕ → List ℕ → Page × List ℕ
 pageOf s k out = pageIn (outputOf s) k out
 
--- the document's third and fourth line in a buffer of 20 bytes
-the-page : pageOf example 3 (replicate 20 0) ≡ (
-  record { next = 5; end = 16 },
-  51 ∷ 32 ∷ 48 ∷ 32 ∷ 50 ∷ 32 ∷ 49 ∷ 10
-      ∷ 52 ∷ 32 ∷ 49 ∷ 32 ∷ 49 ∷ 32 ∷ 49 ∷ 10
+-- the document's third and fourth line in a buffer of 32 bytes
+the-page : pageOf example 3 (replicate 32 0) ≡ (
+  record { next = 5; end = 28 },
+  51 ∷ 32 ∷ 48 ∷ 32 ∷ 50 ∷ 32 ∷ 49 ∷ 32 ∷ 43 ∷ 51 ∷ 32 ∷ 45 ∷ 49 ∷ 10
+      ∷ 52 ∷ 32 ∷ 49 ∷ 32 ∷ 49 ∷ 32 ∷ 49 ∷ 32 ∷ 43 ∷ 49 ∷ 32 ∷ 45 ∷ 50 ∷ 10
       ∷ 0 ∷ 0 ∷ 0 ∷ 0 ∷ [],
 )
 unfolding pageOf pageIn fitting listed askedOf same scan grownOf firstRefusal firstOutside countOf count
-    linesOf lineAt compositionOf order listing line lineEnd decimal digitsOf
+    linesOf lineAt copyLine countsThen pairEnd transitionAt gainFrom compositionOf order listing decimal digitsOf
 the-page = refl
 
 -- what a caller writes of it
@@ -79,13 +81,14 @@ pub data Pages (s : List ℕ) : List ℕ → ℕ → List ℕ → Type 0 where
 
 -- ---- for the code: where the listing goes on, and what it has done then
 
-pub record Ready (ms : List ℕ) (r s count : ℕ) (parts : List ℕ) : Type 0 where
+pub record Ready (ms : List ℕ) (r s count : ℕ) (parts : List ℕ) (x : Transition) : Type 0 where
   pub few : length ms ≤ 24
   pub small : count ≤ mostEntries
   pub all : count ≡ countOf ms r
   pub low : 0 < s
   pub high : s ≤ count
   pub here : parts ≡ compositionOf ms r s
+  pub pair : x ≡ transitionAt ms r s
 
 pub record Filled (ms : List ℕ) (r s count : ℕ) (before after : List ℕ) (p : Page) : Type 0 where
   pub next : p .next ≡ orNone count (s + taken (lineAt ms r) count s (length before))

@@ -5,13 +5,14 @@ use mathlib.Core.List.{List, [], _∷_, _++_}
 use Prim.Native.Nat.{ℕ}
 use Rattle.walsh.specs.Order.{order, listing, count, countOf}
 use Rattle.walsh.specs.Serial.{same, compositionOf}
+use Rattle.walsh.specs.Transition.{gainFrom, transitionAt}
 use Rattle.bounds.specs.Refusal.{Check, firstRefusal, decided}
 use Rattle.bounds.specs.Edition.{firstOutside, editionChecks}
 use Rattle.bounds.specs.Places.{manyChecks}
 use Rattle.request.specs.Text.{digitsOf, decimal, lineEnd, line, refusalLine}
 use Rattle.request.specs.Scan.{scan, grownOf}
 use Rattle.request.specs.Asked.{Asked, wants, nothing, askedOf, example}
-use Rattle.lines.specs.Lines.{lineAt, linesOf}
+use Rattle.lines.specs.Lines.{countsThen, pairEnd, copyLine, lineAt, linesOf}
 
 -- "A refusal prints one line and no copy"; or "one line for each copy"
 pub data Output : Type 0 where
@@ -41,18 +42,18 @@ textOf (copies ms r) = linesOf (lineAt ms r) 1 (countOf ms r)
 unfoldable pub printed : List ℕ → List ℕ
 printed s = textOf (outputOf s)
 
--- the document's slip and its seven lines
+-- the document's slip and its seven lines, each with its pair
 the-printed : printed example ≡
-    49 ∷ 32 ∷ 50 ∷ 32 ∷ 49 ∷ 32 ∷ 48 ∷ 10
-    ∷ 50 ∷ 32 ∷ 49 ∷ 32 ∷ 50 ∷ 32 ∷ 48 ∷ 10
-    ∷ 51 ∷ 32 ∷ 48 ∷ 32 ∷ 50 ∷ 32 ∷ 49 ∷ 10
-    ∷ 52 ∷ 32 ∷ 49 ∷ 32 ∷ 49 ∷ 32 ∷ 49 ∷ 10
-    ∷ 53 ∷ 32 ∷ 50 ∷ 32 ∷ 48 ∷ 32 ∷ 49 ∷ 10
-    ∷ 54 ∷ 32 ∷ 49 ∷ 32 ∷ 48 ∷ 32 ∷ 50 ∷ 10
-    ∷ 55 ∷ 32 ∷ 48 ∷ 32 ∷ 49 ∷ 32 ∷ 50 ∷ 10
+    49 ∷ 32 ∷ 50 ∷ 32 ∷ 49 ∷ 32 ∷ 48 ∷ 32 ∷ 43 ∷ 48 ∷ 32 ∷ 45 ∷ 48 ∷ 10
+    ∷ 50 ∷ 32 ∷ 49 ∷ 32 ∷ 50 ∷ 32 ∷ 48 ∷ 32 ∷ 43 ∷ 50 ∷ 32 ∷ 45 ∷ 49 ∷ 10
+    ∷ 51 ∷ 32 ∷ 48 ∷ 32 ∷ 50 ∷ 32 ∷ 49 ∷ 32 ∷ 43 ∷ 51 ∷ 32 ∷ 45 ∷ 49 ∷ 10
+    ∷ 52 ∷ 32 ∷ 49 ∷ 32 ∷ 49 ∷ 32 ∷ 49 ∷ 32 ∷ 43 ∷ 49 ∷ 32 ∷ 45 ∷ 50 ∷ 10
+    ∷ 53 ∷ 32 ∷ 50 ∷ 32 ∷ 48 ∷ 32 ∷ 49 ∷ 32 ∷ 43 ∷ 49 ∷ 32 ∷ 45 ∷ 50 ∷ 10
+    ∷ 54 ∷ 32 ∷ 49 ∷ 32 ∷ 48 ∷ 32 ∷ 50 ∷ 32 ∷ 43 ∷ 51 ∷ 32 ∷ 45 ∷ 49 ∷ 10
+    ∷ 55 ∷ 32 ∷ 48 ∷ 32 ∷ 49 ∷ 32 ∷ 50 ∷ 32 ∷ 43 ∷ 50 ∷ 32 ∷ 45 ∷ 49 ∷ 10
     ∷ []
 unfolding printed listed askedOf same scan grownOf firstRefusal firstOutside countOf count
-    linesOf lineAt compositionOf order listing line lineEnd decimal digitsOf
+    linesOf lineAt copyLine countsThen pairEnd transitionAt gainFrom compositionOf order listing decimal digitsOf
 the-printed = refl
 
 -- `mixes`, `2`, `3`: "total over the sum of ceilings", `refused 4`

@@ -1,11 +1,12 @@
-// The lines that the listing program prints (document 01, "Listing program").
+// The lines that the listing program prints (document 01, "Listing program"; document 02, (i)).
+use walsh::Transition;
 ghost use mathlib.Core.Path.{_≡_};
-ghost use mathlib.Core.List.{_∷_};
-ghost use Prim.Native.Nat.{_+_, _*_, _≤_, _<_};
+ghost use Prim.Native.Nat.{_+_, _≤_, _<_};
 ghost use lib.Dec.{leb};
 ghost use lib.ListN.{length};
-ghost use Rattle.request.specs.Text.{decimal, line};
-ghost use Rattle.lines.specs.Append.{Appended, pairOf};
+ghost use Rattle.request.specs.Text.{decimal};
+ghost use Rattle.lines.specs.Lines.{signed, pairEnd, copyLine};
+ghost use Rattle.lines.specs.Append.{Appended, twoDigits};
 ghost use Rattle.lines.specs.Printed.{refusal, listed};
 ghost use Rattle.lines.specs.Page.{pageIn, pageOf, Ready, Filled};
 
@@ -16,9 +17,9 @@ pub struct Page {
 }
 
 // Puts two digits into out from `at` on, and answers where they end.
-fn put_pair(n: u64, out: &mut [u8], at: usize) -> usize
+fn put_two(n: u64, out: &mut [u8], at: usize) -> usize
     requires { ⌜ (n < 100) × (at + 2 ≤ length (now out)) ⌝ }
-    ensures { λ e. ⌜ Appended (now (out .entry)) (now (out .exit)) at e (pairOf n) ⌝ }
+    ensures { λ e. ⌜ Appended (now (out .entry)) (now (out .exit)) at e (twoDigits n) ⌝ }
 {
     out[at] = 48 + (n / 10) as u8;
     out[at + 1] = 48 + (n % 10) as u8;
@@ -49,7 +50,7 @@ fn put_number(n: u64, out: &mut [u8], at: usize) -> usize
         return at + 1;
     }
     if n < 100 {
-        return put_pair(n, out, at);
+        return put_two(n, out, at);
     }
     put_decimal(n, out, at)
 }
@@ -63,14 +64,35 @@ fn put_serial(n: u64, out: &mut [u8], at: usize) -> usize
         return put_decimal(n, out, at);
     }
     let high = put_number(n / 10000, out, at);
-    let middle = put_pair(n / 100 % 100, out, high);
-    put_pair(n % 100, out, middle)
+    let middle = put_two(n / 100 % 100, out, high);
+    put_two(n % 100, out, middle)
 }
 
-// The line of a serial and its composition.
-fn put_line(serial: u64, parts: &[u8], out: &mut [u8], at: usize) -> usize
-    requires { ⌜ at + length (line (serial ∷ now parts)) ≤ length (now out) ⌝ }
-    ensures { λ e. ⌜ Appended (now (out .entry)) (now (out .exit)) at e (line (serial ∷ now (parts .entry))) ⌝ }
+// A space, a sign and a kind.
+fn put_signed(sign: u8, part: u32, out: &mut [u8], at: usize) -> usize
+    requires { ⌜ at + 2 + length (decimal part) ≤ length (now out) ⌝ }
+    ensures { λ e. ⌜ Appended (now (out .entry)) (now (out .exit)) at e (signed sign part) ⌝ }
+{
+    out[at] = 32;
+    out[at + 1] = sign;
+    put_number(part as u64, out, at + 2)
+}
+
+// The two kinds of a pair, and the line feed.
+fn put_end(pair: Transition, out: &mut [u8], at: usize) -> usize
+    requires { ⌜ at + length (pairEnd pair) ≤ length (now out) ⌝ }
+    ensures { λ e. ⌜ Appended (now (out .entry)) (now (out .exit)) at e (pairEnd pair) ⌝ }
+{
+    let gained = put_signed(43, pair.gain, out, at);
+    let end = put_signed(45, pair.loss, out, gained);
+    out[end] = 10;
+    end + 1
+}
+
+// The line of a serial, its composition and its pair.
+fn put_line(serial: u64, parts: &[u8], pair: Transition, out: &mut [u8], at: usize) -> usize
+    requires { ⌜ at + length (copyLine serial (now parts) pair) ≤ length (now out) ⌝ }
+    ensures { λ e. ⌜ Appended (now (out .entry)) (now (out .exit)) at e (copyLine serial (now (parts .entry)) pair) ⌝ }
 {
     let mut end = put_serial(serial, out, at);
     let mut i = 0;
@@ -79,8 +101,7 @@ fn put_line(serial: u64, parts: &[u8], out: &mut [u8], at: usize) -> usize
         end = put_number(walsh::wide(parts[i]) as u64, out, end + 1);
         i += 1;
     }
-    out[end] = 10;
-    end + 1
+    put_end(pair, out, end)
 }
 
 // How many digits n has.
@@ -96,52 +117,62 @@ fn digits(n: u64) -> usize
     count
 }
 
-// How many bytes the line of a serial and its composition has.
-fn line_len(serial: u64, parts: &[u8]) -> usize
-    requires { ⌜ length (now parts) ≤ 24 ⌝ }
-    ensures { λ r. ⌜ r ≡ length (line (serial ∷ now (parts .entry))) ⌝ }
+// How many bytes the end of a line has.
+fn end_len(pair: Transition) -> usize
+    ensures { λ r. ⌜ (r ≡ length (pairEnd pair)) × (r ≤ 45) ⌝ }
 {
-    let mut len = digits(serial) + 1;
+    5 + digits(pair.gain as u64) + digits(pair.loss as u64)
+}
+
+// How many bytes the line of a serial, its composition and its pair has.
+fn line_len(serial: u64, parts: &[u8], pair: Transition) -> usize
+    requires { ⌜ length (now parts) ≤ 24 ⌝ }
+    ensures { λ r. ⌜ r ≡ length (copyLine serial (now (parts .entry)) pair) ⌝ }
+{
+    let mut len = digits(serial);
     let mut i = 0;
     while i < parts.len() {
         len += 1 + digits(walsh::wide(parts[i]) as u64);
         i += 1;
     }
-    len
+    len + end_len(pair)
 }
 
-// Whether that line fits into `room` bytes. The longest possible line is tried first: 20 digits, 3 digits a part with a space in front, and the
-// line feed.
-fn fits(serial: u64, parts: &[u8], room: usize) -> bool
-    requires { ⌜ length (now parts) ≤ 24 ⌝ }
-    ensures { λ r. ⌜ r ≡ leb (length (line (serial ∷ now (parts .entry)))) room ⌝ }
+// Whether that line fits into `room` bytes. The longest possible line is tried first: 20 digits, 3 digits a part with a space in front, 2 digits a
+// kind with a space and a sign in front, and the line feed.
+fn fits(serial: u64, parts: &[u8], pair: Transition, room: usize) -> bool
+    requires { ⌜ (length (now parts) ≤ 24) × (pair .gain ≤ 24) × (pair .loss ≤ 24) ⌝ }
+    ensures { λ r. ⌜ r ≡ leb (length (copyLine serial (now (parts .entry)) pair)) room ⌝ }
 {
-    if 21 + 4 * parts.len() <= room {
+    if 29 + 4 * parts.len() <= room {
         return true;
     }
-    line_len(serial, parts) <= room
+    line_len(serial, parts, pair) <= room
 }
 
-// The lines from a serial on, as many as have room. The parts are its composition, and go on with the lines.
+// The lines from a serial on, as many as have room. The parts are its composition, and go on with the lines; `first` is its pair, and each step
+// gives that of the next line.
 fn put_lines(
     upper: &[u8],
     total: u32,
     serial: u64,
     count: u64,
     parts: &mut [u8],
+    first: Transition,
     out: &mut [u8],
 ) -> Page
-    requires { ⌜ Ready (now upper) total serial count (now parts) ⌝ }
+    requires { ⌜ Ready (now upper) total serial count (now parts) first ⌝ }
     ensures { λ p. ⌜ Filled (now (upper .entry)) total serial count (now (out .entry)) (now (out .exit)) p ⌝ }
 {
     let mut s = serial;
     let mut end = 0;
+    let mut pair = first;
     while s <= count {
-        if !fits(s, parts, out.len() - end) {
+        if !fits(s, parts, pair, out.len() - end) {
             return Page { next: s, end };
         }
-        end = put_line(s, parts, out, end);
-        step::advance(upper, total, parts);
+        end = put_line(s, parts, pair, out, end);
+        pair = step::advance(upper, total, parts);
         s += 1;
     }
     Page { next: 0, end }
@@ -193,12 +224,14 @@ fn list(upper: &[u8], total: u32, serial: u64, out: &mut [u8]) -> Page
     }
     let n = upper.len();
     let mut cells = l.composition;
-    put_lines(upper, total, serial, l.count, &mut cells[..n], out)
+    let mut before = l.composition;
+    let first = step::retreat(upper, total, &mut before[..n]);
+    put_lines(upper, total, serial, l.count, &mut cells[..n], first, out)
 }
 
 // Puts a page of what is printed for a text at the beginning of out: whole lines from line `at` on, as many as have room. The first page begins
-// at line 1, the next one where this one says. The longest line has 80 bytes: a buffer of so many always takes one. Where the buffer is too
-// small for line `at`, the page is empty and the next one begins at `at` again.
+// at line 1, the next one where this one says. No line has more than 88 bytes: a buffer of so many always takes one. Where the buffer is
+// too small for line `at`, the page is empty and the next one begins at `at` again.
 pub fn put_page(text: &[u8], at: u64, out: &mut [u8]) -> Page
     ensures { λ p. ⌜ (p, now (out .exit)) ≡ pageOf (now (text .entry)) at (now (out .entry)) ⌝ }
 {

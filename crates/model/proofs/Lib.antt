@@ -10,6 +10,7 @@ pub mod Orders
 pub mod Books
 pub mod Lines
 pub mod Places
+pub mod Pairs
 pub mod Records
 pub mod Replies
 pub mod Reasons

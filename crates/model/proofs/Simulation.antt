@@ -56,8 +56,9 @@ module _ (p : Printing) (col : Lent) (o : Opens p col) where
       ∙ ap (λ (m : List Entry). answer p m c) (own-lines l)
 
   own-event : (l : List Entry) → Reached p l → (c : Call)
-      → event c (answered (ledgerOf p l) (over col l) c) ≡ eventAt p l c
-  own-event l h c = ap (event c) (answers l h c)
+      → event (printingOf (ledgerOf p l)) c (answered (ledgerOf p l) (over col l) c) ≡ eventAt p l c
+  own-event l h c =
+      ap (event (printingOf (ledgerOf p l)) c) (answers l h c) ∙ ap (λ (q : Printing). event q c (answer p l c)) (own-printing l)
 
   more : (l es : List Entry) → advanced (ledgerOf p l) es ≡ ledgerOf p (l ++ es)
   more l es = rw (own-bounds, length-append l es, many-append (λ e. isVoided e) l es, many-append (λ e. not (isVoided e)) l es)

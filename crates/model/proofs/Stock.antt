@@ -5,13 +5,19 @@ use Prim.Native.Nat.{ℕ, suc, _-_, _<_}
 use native.Mathlib.Omega.{arith}
 use lib.ListN.{length, getD}
 use Rattle.walsh.specs.Order.{Composition}
+use Rattle.walsh.specs.Serial.{compositionOf}
 use Rattle.walsh.specs.Neighbours.{Adjacent}
 use Rattle.bounds.specs.Edition.{cellsOf}
 use Rattle.model.specs.Basics.{Distinct}
 use Rattle.model.specs.Printing.{Printing, blank, stock, compositionAt, serialAt, capacity}
-use Rattle.model.proofs.Compositions.{compositions-size, compositions-distinct, compositions-near, composition-place, place-composition}
+use Rattle.model.proofs.Compositions.{compositions-size, compositions-at, compositions-distinct, compositions-near, composition-place, place-composition}
 
 module _ (p : Printing) where
+  -- the composition of a serial, out of Walsh's order
+  pub serial-cells : (s : ℕ) → compositionAt p s ≡ cellsOf (compositionOf (p .bounds) (p .total) s)
+  unfolding compositionOf
+  serial-cells s = compositions-at (p .bounds) (p .total) (s - 1)
+
   pub stock-size : length (stock p) ≡ capacity p
   stock-size = compositions-size (p .bounds) (p .total)
 

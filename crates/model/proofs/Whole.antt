@@ -3,20 +3,21 @@ use mathlib.Core.Path.{_≡_, refl, sym, ap, _∙_}
 use mathlib.Core.Logic.{_≢_, _↔_, _⊎_, inl, inr}
 use mathlib.Core.Bool.{true}
 use mathlib.Core.List.{List, [], _∷_, _++_, List·Memᴰ, List·Memᴰ·cases-cons, List·Memᴰ·not-nil}
-use Prim.Native.Nat.{ℕ, suc, _≤_, _<_}
+use Prim.Native.Nat.{ℕ, suc, _-_, _≤_, _<_}
 use native.Mathlib.Nat.{zero-add, eq-or-lt-of-le}
 use native.Mathlib.Omega.{arith}
 use lib.ListN.{length, getD, take}
 use lib.Seq.{take-all, getD-take}
 use Rattle.walsh.specs.Order.{Composition}
 use Rattle.walsh.specs.Neighbours.{Adjacent}
+use Rattle.walsh.specs.Transition.{none, Carries}
 use Rattle.bounds.specs.Edition.{cellsOf}
 use Rattle.bounds.proofs.Chains.{Accepts}
 use Rattle.model.specs.declared.Answer.{Answer}
 use Rattle.model.specs.declared.Ledger.{Ledger}
 use Rattle.model.specs.Basics.{Once}
 use Rattle.model.specs.Entry.{Entry, voidEntry, Lent, over}
-use Rattle.model.specs.Printing.{Printing, blank, size, lowest, serialAt, capacity, stock}
+use Rattle.model.specs.Printing.{Printing, blank, size, compositionAt, lowest, serialAt, capacity, stock}
 use Rattle.model.specs.Model.{Call, peek, claim, void, next, callChecks, rowsBefore, given, answer, after, Event, eventAt, bookFrom}
 use Rattle.model.specs.Record.{ledgerOf, opened, opening, answered, run}
 use Rattle.model.specs.Trace.{writes, isClaim, isVoid, named, those, kept, writers, serials, entriesBy, peeked}
@@ -32,6 +33,7 @@ use Rattle.model.proofs.Books.{grown, Facts, facts, Stood, stood, claim
 use Rattle.model.proofs.Lines.{counts, distinct-lines}
 use Rattle.model.proofs.Places.{once-at, distinct-take, not-among, mem-count, count-mem}
 use Rattle.model.proofs.Reasons.{only-reason}
+use Rattle.model.proofs.Pairs.{told-none, told-some}
 use Rattle.model.proofs.Simulation.{answers, simulates}
 
 -- what holds of every call with the model's answer holds of every event
@@ -137,6 +139,17 @@ whole p col o cs =
     record {
       answers = sim .trace;
       never-16 = rw (sim .trace) (each-event p (λ x. x .reply .number ≢ 16) (λ l h c. not-16 p l c) cs [] start);
+      pair-some =
+          rw (sim .trace)
+          (each-event p
+          (λ x.
+          x .call ≡ peek
+          → 2 ≤ x .reply .serial
+          → Carries (length (p .bounds)) (compositionAt p (x .reply .serial - 1)) (x .reply .composition) (x .transition))
+          (λ l h c. told-some p l c) cs [] start);
+      pair-none =
+          rw (sim .trace)
+          (each-event p (λ x. (x .reply .serial < 2) ⊎ (x .call ≢ peek) → x .transition ≡ none) (λ l h c. told-none p l c) cs [] start);
       column = sim .column;
       entries = ap (λ (x : Ledger). x .entries) (sim .ledger);
       sold = ap (λ (x : Ledger). x .sold) (sim .ledger);

@@ -7,13 +7,17 @@ use mathlib.Core.List.{List, [], _∷_, _++_}
 use Prim.Native.Nat.{ℕ}
 use lib.Dec.{ltb, eqb}
 use lib.ListN.{length, getD}
+use Rattle.walsh.specs.Order.{order, listing}
+use Rattle.walsh.specs.Serial.{compositionOf}
+use Rattle.walsh.specs.Transition.{none, transitionAt, gainFrom}
+use Rattle.walsh.specs.declared.Transition.{Transition}
 use Rattle.bounds.specs.Refusal.{Check, check, firstRefusal, decided}
 use Rattle.bounds.specs.Places.{outside}
 use Rattle.bounds.specs.declared.Refusal.{Refusal}
 use Rattle.model.specs.declared.Answer.{Answer}
 use Rattle.model.specs.Basics.{firstPlace}
 use Rattle.model.specs.Entry.{Entry, voidEntry, orderOf, isVoided, sameOrder}
-use Rattle.model.specs.Printing.{Printing, blank, size, compositionAt, lowest, placeOf, serialAt}
+use Rattle.model.specs.Printing.{Printing, blank, size, compositionAt, transitionTo, lowest, placeOf, serialAt}
 
 -- the document's look; take, of a serial for an order; spoil, of a serial
 pub data Call : Type 0 where
@@ -115,17 +119,37 @@ after p l c = cond (accepted (answer p l c)) (l ++ appended c) l
 
 -- ---- a list of calls
 
--- a call with its answer
+-- document 02, (i), the pair that goes with an answer: "the paper register's look answers the pair too", that of its serial; a refused one has serial
+-- 0, and so none. A claim and a void answer no pair.
+abbrev pub told : Printing → Call → Answer → Transition
+told p peek a = transitionTo p (a .serial)
+told p (claim s e) a = none
+told p (void s) a = none
+
+-- for example, of the two copies 1 0 and 0 1 the second kind gains what the first loses
+twoOnes : Printing
+twoOnes = record { bounds = 1 ∷ 1 ∷ []; total = 1 }
+
+look-first : told twoOnes peek (given twoOnes 1) ≡ none
+unfolding twoOnes transitionAt
+look-first = refl
+
+look-second : told twoOnes peek (given twoOnes 2) ≡ record { gain = 2; loss = 1 }
+unfolding twoOnes transitionAt gainFrom compositionOf order listing
+look-second = refl
+
+-- a call with its answer and the pair
 pub record Event : Type 0 where
   pub call : Call
   pub reply : Answer
+  pub transition : Transition
 
-abbrev pub event : Call → Answer → Event
-event c a = record { call = c; reply = a }
+abbrev pub event : Printing → Call → Answer → Event
+event p c a = record { call = c; reply = a; transition = told p c a }
 
 -- a call on the list l, with the model's answer
 abbrev pub eventAt : Printing → List Entry → Call → Event
-eventAt p l c = event c (answer p l c)
+eventAt p l c = event p c (answer p l c)
 
 -- what a list of calls leaves: the calls with their answers, and the list of lines
 pub record Book : Type 0 where

@@ -3,6 +3,8 @@ use mathlib.Core.List.{List, map}
 use Prim.Native.Nat.{ℕ, _+_, _-_, min}
 use lib.ListN.{getD}
 use Rattle.walsh.specs.Order.{order, countOf}
+use Rattle.walsh.specs.Transition.{transitionAt}
+use Rattle.walsh.specs.declared.Transition.{Transition}
 pub use Rattle.bounds.specs.Edition.{blank}
 use Rattle.bounds.specs.Edition.{cellsOf}
 
@@ -25,6 +27,10 @@ size p = countOf (p .bounds) (p .total)
 -- the composition of serial s
 abbrev pub compositionAt : Printing → ℕ → List ℕ
 compositionAt p s = getD (listed p) (s - 1) blank
+
+-- document 02, (i): the pair of the copy of serial s, "measured from the copy before"
+abbrev pub transitionTo : Printing → ℕ → Transition
+transitionTo p s = transitionAt (p .bounds) (p .total) s
 
 -- ---- the lines
 

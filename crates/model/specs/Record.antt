@@ -6,6 +6,7 @@ use Prim.Native.Nat.{ℕ, _+_}
 use lib.Dec.{ltb, leb, eqb}
 use lib.ListN.{length, take}
 use Rattle.walsh.specs.Serial.{same}
+use Rattle.walsh.specs.declared.Transition.{Transition}
 use Rattle.bounds.specs.Refusal.{Check, check, firstRefusal, decided}
 use Rattle.bounds.specs.Edition.{editionChecks, recordChecks, cellsOf, boundsOf, blankBounds}
 use Rattle.bounds.specs.Places.{mostEntries, tooMany}
@@ -15,10 +16,11 @@ use Rattle.model.specs.declared.Answer.{Answer}
 use Rattle.model.specs.declared.Claimed.{Claimed}
 use Rattle.model.specs.declared.Ledger.{Ledger}
 use Rattle.model.specs.declared.Opened.{Opened}
+use Rattle.model.specs.declared.Peeked.{Peeked}
 use Rattle.model.specs.Basics.{all}
 use Rattle.model.specs.Entry.{Entry, soldIn, voidedIn, Lent, room, firstEntries, put}
 use Rattle.model.specs.Printing.{Printing, blank, placeOf, capacity, nextComposition}
-use Rattle.model.specs.Model.{Call, callChecks, granted, answerBy, accepted, appended, Event, event}
+use Rattle.model.specs.Model.{Call, peek, callChecks, granted, answerBy, accepted, appended, told, Event, event}
 
 -- ---- the edition of a record
 
@@ -109,6 +111,21 @@ grantedBy r col c = granted (printingOf r) (written r col) c
 unfoldable pub answered : Ledger → Lent → Call → Answer
 answered r col c = answerBy (firstRefusal (ledgerChecks r col c)) (printingOf r) (grantedBy r col c)
 
+-- a peek: its answer and the pair
+abbrev pub peekedBy : Answer → Transition → Peeked
+peekedBy a t =
+    record {
+      number = a .number;
+      detail = a .detail;
+      serial = a .serial;
+      composition = a .composition;
+      gain = t .gain;
+      loss = t .loss;
+    }
+
+unfoldable pub peeking : Ledger → Lent → Peeked
+peeking r col = peekedBy (answered r col peek) (told (printingOf r) peek (answered r col peek))
+
 -- the record with the lines es more
 abbrev pub advanced : Ledger → List Entry → Ledger
 advanced r es =
@@ -156,4 +173,4 @@ unfoldable pub run : Ledger → Lent → List Call → Run
 run r col [] = record { trace = []; ledger = r; column = col }
 run r col (c ∷ cs) =
     let rest = run (recordAfter r col c) (columnAfter r col c) cs in
-    record { trace = event c (answered r col c) ∷ rest .trace; ledger = rest .ledger; column = rest .column }
+    record { trace = event (printingOf r) c (answered r col c) ∷ rest .trace; ledger = rest .ledger; column = rest .column }

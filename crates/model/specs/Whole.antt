@@ -2,18 +2,19 @@
 -- also none, with any arguments. They start from the column and the record of an accepted opening."
 use mathlib.Core.Path.{_≡_}
 use mathlib.Core.Bool.{true}
-use mathlib.Core.Logic.{_≢_, _↔_}
+use mathlib.Core.Logic.{_≢_, _↔_, _⊎_}
 use mathlib.Core.List.{List, [], _∷_, _++_, List·Memᴰ}
-use Prim.Native.Nat.{ℕ, suc, _+_, _<_}
+use Prim.Native.Nat.{ℕ, suc, _+_, _-_, _≤_, _<_}
 use lib.ListN.{length, getD, take}
 use Rattle.walsh.specs.Order.{Composition}
 use Rattle.walsh.specs.Neighbours.{Adjacent}
+use Rattle.walsh.specs.Transition.{none, Carries}
 use Rattle.bounds.specs.Refusal.{firstRefusal}
 use Rattle.bounds.specs.Edition.{cellsOf, boundsOf}
 use Rattle.model.specs.declared.Answer.{Answer}
 use Rattle.model.specs.Basics.{Distinct, Once}
 use Rattle.model.specs.Entry.{Entry, voidEntry, DistinctOrders, soldIn, voidedIn, Lent, firstEntries, over}
-use Rattle.model.specs.Printing.{Printing, blank, lowest, serialAt, capacity, stock, nextComposition}
+use Rattle.model.specs.Printing.{Printing, blank, compositionAt, lowest, serialAt, capacity, stock, nextComposition}
 use Rattle.model.specs.Model.{Call, peek, claim, void, callChecks, rowsBefore, given, Event, Book, bookFrom}
 use Rattle.model.specs.Record.{opened, answered, Run, run}
 use Rattle.model.specs.Trace.{writes, isClaim, isVoid, named, those, writers, serials, entriesBy, answeredCompositions}
@@ -38,9 +39,15 @@ secondList w = peeked (writers (w .trace))
 -- Of an opening for p over the column col: w is the run of the list cs, v the run of its second list. First what document 01 says by the paper
 -- register, then what it comes to by the calls and their answers alone.
 pub record Whole (p : Printing) (col : Lent) (cs : List Call) (w v : Run) : Type 0 where
-  -- "The answer of each call (number and detail, serial, mix) is the paper register's." "So 16 never comes up there."
+  -- "The answer of each call (number and detail, serial, mix) is the paper register's"; document 02, (i): "the paper register's look answers the pair
+  -- too". "So 16 never comes up there."
   pub answers : w .trace ≡ book p cs .trace
   pub never-16 : (x : Event) → List·Memᴰ x (w .trace) → x .reply .number ≢ 16
+  -- "Look gives the same pair for its serial, measured from the copy before": of the kinds that it names the copy answered has one more and one fewer
+  pub pair-some : (x : Event) → List·Memᴰ x (w .trace) → x .call ≡ peek → 2 ≤ x .reply .serial
+      → Carries (length (p .bounds)) (compositionAt p (x .reply .serial - 1)) (x .reply .composition) (x .transition)
+  -- "serial 1 has 0 and 0, and so has a refused call", whose serial is 0; claims and voids have no pair
+  pub pair-none : (x : Event) → List·Memᴰ x (w .trace) → (x .reply .serial < 2) ⊎ (x .call ≢ peek) → x .transition ≡ none
   -- "the column begins with the paper register's list"; "Other entries of the column keep their values."
   pub column : w .column ≡ over col (book p cs .entries)
   -- "the record's three counts are that register's"

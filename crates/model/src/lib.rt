@@ -24,6 +24,17 @@ pub struct Answer {
     pub composition: [u8; 24],
 }
 
+// What a peek answers: also the kinds, counted from 1, that gain and lose a unit against the composition before (document 02, request (i)).
+#[repr(C)]
+pub struct Peeked {
+    pub number: u32,
+    pub detail: u64,
+    pub serial: u64,
+    pub composition: [u8; 24],
+    pub gain: u32,
+    pub loss: u32,
+}
+
 // What a claim or a void answers, with the record after it.
 #[repr(C)]
 pub struct Claimed {

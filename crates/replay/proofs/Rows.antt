@@ -5,8 +5,8 @@ use mathlib.Core.List.{List, [], _∷_, _++_, map, append-assoc, append-nil}
 use Prim.Native.Nat.{ℕ, suc, _+_, _-_, _*_, _/_, _≤_}
 use native.Mathlib.Nat.{add-zero}
 use native.Mathlib.Omega.{arith}
-use lib.ListN.{length, getD, take, drop, set, length-append}
-use lib.Seq.{drop-cons, drop-drop, getD-drop, take-length, drop-length, take-at, drop-at}
+use lib.ListN.{length, getD, take, drop, set, length-append, length-set, drop-of-length-le}
+use lib.Seq.{drop-cons, drop-drop, drop-set-add, getD-drop, getD-append-add, drop-append-add, length-take-le, take-at, drop-at}
 use lib.Dec.{eqb}
 use borrow.Author.Tests.{eq-eqb, ne-eqb}
 use Rattle.walsh.proofs.Cases.{on-test}
@@ -78,45 +78,61 @@ every-list (void s ∷ cs) = ap (λ (l : List Call). Call.void s ∷ l) (every-l
 
 -- ---- the answers
 
--- each answer of a trace has a row of that width
+abbrev pub row : Event → List ℕ
+row x = rowOf (x .reply) (x .transition)
+
+-- each event of a trace has a row of that width
 abbrev pub Full : List Event → Type 0
 Full [] = Unit
-Full (x ∷ t) = (length (rowOf (x .reply)) ≡ rowWidth) × Full t
+Full (x ∷ t) = (length (row x) ≡ rowWidth) × Full t
 
-pub full-snoc : (t : List Event) (x : Event) → Full t → length (rowOf (x .reply)) ≡ rowWidth → Full (t ++ (x ∷ []))
+pub full-snoc : (t : List Event) (x : Event) → Full t → length (row x) ≡ rowWidth → Full (t ++ (x ∷ []))
 full-snoc [] x f h = (h, tt)
 full-snoc (y ∷ t) x f h = (f .0, full-snoc t x (f .1) h)
 
 pub rows-length : (t : List Event) → Full t → length (rowsOf t) ≡ length t * rowWidth
 rows-length [] f = refl
-rows-length (x ∷ t) f = length-append (rowOf (x .reply)) (rowsOf t) ∙ omega (arith, f .0, rows-length t (f .1))
+rows-length (x ∷ t) f = length-append (row x) (rowsOf t) ∙ omega (arith, f .0, rows-length t (f .1))
 
-rows-snoc : (t : List Event) (x : Event) → rowsOf (t ++ (x ∷ [])) ≡ rowsOf t ++ rowOf (x .reply)
-rows-snoc [] x = append-nil (rowOf (x .reply))
+rows-snoc : (t : List Event) (x : Event) → rowsOf (t ++ (x ∷ [])) ≡ rowsOf t ++ row x
+rows-snoc [] x = append-nil (row x)
 rows-snoc (y ∷ t) x =
-    ap (λ (l : List ℕ). rowOf (y .reply) ++ l) (rows-snoc t x) ∙ sym (append-assoc (rowOf (y .reply)) (rowsOf t) (rowOf (x .reply)))
+    ap (λ (l : List ℕ). row y ++ l) (rows-snoc t x) ∙ sym (append-assoc (row y) (rowsOf t) (row x))
 
--- a row filled: three numbers, and the cells copied over the rest
-abbrev pub begun : List ℕ → (n e s : ℕ) → List ℕ
-begun d n e s = set (set (set d 0 n) 1 e) 2 s
+-- a row filled: three numbers, the pair at its end, and the cells copied between them
+abbrev pub begun : List ℕ → (n e s gain : ℕ) → List ℕ
+begun d n e s gain = set (set (set (set d 0 n) 1 e) 2 s) 27 gain
 
-pub row-filled : (d : List ℕ) (n e s : ℕ) (m part : List ℕ) → length d ≡ rowWidth → length m ≡ 24
-    → part ≡ copied m (take (length (begun d n e s) - 3) (drop 3 (begun d n e s)))
-    → take 3 (begun d n e s) ++ (part ++ drop (length (begun d n e s) - 3) (drop 3 (begun d n e s))) ≡ n ∷ e ∷ s ∷ m
-row-filled [] n e s m part h k p = absurd (omega (arith, h))
-row-filled (x ∷ []) n e s m part h k p = absurd (omega (arith, h))
-row-filled (x ∷ y ∷ []) n e s m part h k p = absurd (omega (arith, h))
-row-filled (x ∷ y ∷ z ∷ d) n e s m part h k p =
-    let size : suc (suc (suc (length d))) - 3 ≡ length d = omega arith in
-    rw (p, size, take-length d, copied-same m d (omega arith), drop-length d, append-nil m)
+abbrev pub numbered : List ℕ → (n e s gain loss : ℕ) → List ℕ
+numbered d n e s gain loss = set (begun d n e s gain) 28 loss
+
+ended : (d : List ℕ) (gain loss : ℕ) → length d ≡ 26 → drop 24 (set (set d 24 gain) 25 loss) ≡ gain ∷ loss ∷ []
+ended d gain loss h =
+    let over : length d ≤ 26 = omega arith in
+    drop-set-add 24 (set d 24 gain) 1 loss
+    ∙ ap (λ (l : List ℕ). set l 1 loss) (drop-set-add 24 d 0 gain)
+    ∙ rw (drop-cons d 24 0 (omega arith), drop-cons d 25 0 (omega arith), drop-of-length-le d over)
+
+pub row-filled : (d : List ℕ) (n e s gain loss : ℕ) (m part : List ℕ) → length d ≡ rowWidth → length m ≡ 24
+    → part ≡ copied m (take 24 (drop 3 (numbered d n e s gain loss)))
+    → take 3 (numbered d n e s gain loss) ++ (part ++ drop 24 (drop 3 (numbered d n e s gain loss)))
+    ≡ n ∷ e ∷ s ∷ (m ++ (gain ∷ loss ∷ []))
+row-filled [] n e s gain loss m part h k p = absurd (omega (arith, h))
+row-filled (x ∷ []) n e s gain loss m part h k p = absurd (omega (arith, h))
+row-filled (x ∷ y ∷ []) n e s gain loss m part h k p = absurd (omega (arith, h))
+row-filled (x ∷ y ∷ z ∷ d) n e s gain loss m part h k p =
+    let y = set (set d 24 gain) 25 loss in
+    let size : length y ≡ 26 = simp length-set (omega arith) in
+    let cells : length (take 24 y) ≡ 24 = length-take-le 24 y (omega arith) in
+    rw (p, copied-same m (take 24 y) (omega arith), ended d gain loss (omega arith))
 
 -- a row behind those of a trace
-pub rows-more : (d : List ℕ) (t : List Event) (x : Event) (at : ℕ) → Full t → length (rowOf (x .reply)) ≡ rowWidth → at ≡ length t * rowWidth
-    → take at (replaced d (rowsOf t)) ++ (rowOf (x .reply) ++ drop (at + rowWidth - at) (drop at (replaced d (rowsOf t))))
+pub rows-more : (d : List ℕ) (t : List Event) (x : Event) (at : ℕ) → Full t → length (row x) ≡ rowWidth → at ≡ length t * rowWidth
+    → take at (replaced d (rowsOf t)) ++ (row x ++ drop (at + rowWidth - at) (drop at (replaced d (rowsOf t))))
     ≡ replaced d (rowsOf (t ++ (x ∷ [])))
 rows-more d t x at f h e =
     let l = rowsOf t in
-    let m = rowOf (x .reply) in
+    let m = row x in
     let size : length l ≡ at = rows-length t f ∙ sym e in
     let wide : at + rowWidth - at ≡ length m = omega arith in
     rw (
@@ -129,15 +145,28 @@ rows-more d t x at f h e =
       append-assoc l m (drop (length l + length m) d),
     )
 
+-- what stands behind n numbers
+module _ (m q : List ℕ) (n i : ℕ) (e : length m ≡ n) where
+  getD-behind : getD (m ++ q) (n + i) 0 ≡ getD q i 0
+  getD-behind = rw (← e) (getD-append-add m q i 0)
+
+  drop-behind : drop (n + i) (m ++ q) ≡ drop i q
+  drop-behind = rw (← e) (drop-append-add m q i)
+
 -- rows show the trace
 pub read-back : (t : List Event) (rest : List ℕ) → Full t → shown (map (λ x. x .call) t) (rowsOf t ++ rest) ≡ t
 read-back [] rest f = refl
 read-back (x ∷ t) rest f =
     let m = x .reply .composition in
-    let size : length m ≡ 24 = omega (arith, f .0) in
+    let pair = x .transition .gain ∷ x .transition .loss ∷ [] in
+    let size : length m ≡ 24 = omega (arith, f .0, length-append m pair) in
+    let q = rowsOf t ++ rest in
     rw (
-      append-assoc m (rowsOf t) rest,
-      take-at m (rowsOf t ++ rest) 24 size,
-      drop-at m (rowsOf t ++ rest) 24 size,
+      append-assoc (m ++ pair) (rowsOf t) rest,
+      append-assoc m pair q,
+      take-at m (pair ++ q) 24 size,
+      getD-behind m (pair ++ q) 24 0 size,
+      getD-behind m (pair ++ q) 24 1 size,
+      drop-behind m (pair ++ q) 24 2 size,
       read-back t rest (f .1),
     )

@@ -9,9 +9,10 @@ use lib.Seq.{length-take-le}
 use borrow.Author.Tests.{eqb-true}
 use Rattle.model.specs.Basics.{replaced, all}
 use Rattle.model.specs.Entry.{Lent}
-use Rattle.model.specs.Model.{Call, Event, event}
-use Rattle.model.specs.Record.{answered, recordAfter, columnAfter, calling, Run, run}
+use Rattle.model.specs.Model.{Call, told, Event, event}
+use Rattle.model.specs.Record.{printingOf, answered, recordAfter, columnAfter, calling, Run, run}
 use Rattle.model.specs.declared.Claimed.{Claimed}
+use Rattle.walsh.specs.declared.Transition.{Transition}
 use Rattle.model.specs.declared.Ledger.{Ledger}
 use Rattle.model.proofs.Lists.{length-snoc, snoc-append, length-replaced}
 use Rattle.model.proofs.Records.{each}
@@ -40,11 +41,11 @@ behind t w = record { trace = t ++ w .trace; ledger = w .ledger; column = w .col
 
 behind-next : (t : List Event) (l : Ledger) (col : Lent) (c : Call) (cs : List Call)
     → behind t (run l col (c ∷ cs))
-    ≡ behind (t ++ (event c (answered l col c) ∷ [])) (run (recordAfter l col c) (columnAfter l col c) cs)
+    ≡ behind (t ++ (event (printingOf l) c (answered l col c) ∷ [])) (run (recordAfter l col c) (columnAfter l col c) cs)
 unfolding run
 behind-next t l col c cs =
     let w = run (recordAfter l col c) (columnAfter l col c) cs in
-    let e = sym (snoc-append t (event c (answered l col c)) (w .trace)) in
+    let e = sym (snoc-append t (event (printingOf l) c (answered l col c)) (w .trace)) in
     λ i. record { trace = e i; ledger = w .ledger; column = w .column }
 
 run-calls : (r : Ledger) (col : Lent) (cs : List Call) → map (λ x. x .call) (run r col cs .trace) ≡ cs
@@ -78,7 +79,7 @@ start r x b =
     }
 
 -- a call more, of which the code did a step and put the answer into its row
-module _ (r : Ledger) (x : Script) (b b′ b″ : Buffers) (l : Ledger) (used i : ℕ) (t : Claimed) (o used′ : ℕ) (row : List ℕ) where
+module _ (r : Ledger) (x : Script) (b b′ b″ : Buffers) (l : Ledger) (used i : ℕ) (t : Claimed) (x′ : Transition) (o used′ : ℕ) (part : List ℕ) where
   abbrev which : ℕ
   which = getD (x .rows) (i * callWidth) 0
 
@@ -96,13 +97,14 @@ module _ (r : Ledger) (x : Script) (b b′ b″ : Buffers) (l : Ledger) (used i 
       → o ≡ getD (x .orders) used 0
       → used′ ≡ used + uses which
       → _≡_ {A = Claimed × Lent} (t, b″ .column) (calling l (b′ .column) made)
-      → row ≡ rowOf (t .answer)
-      → length row ≡ length (take long (drop (i * rowWidth) (b′ .answers)))
-      → b″ .answers ≡ take (i * rowWidth) (b′ .answers) ++ (row ++ drop long (drop (i * rowWidth) (b′ .answers)))
+      → x′ ≡ told (printingOf l) made (t .answer)
+      → part ≡ rowOf (t .answer) x′
+      → length part ≡ length (take long (drop (i * rowWidth) (b′ .answers)))
+      → b″ .answers ≡ take (i * rowWidth) (b′ .answers) ++ (part ++ drop long (drop (i * rowWidth) (b′ .answers)))
       → length (b″ .column) ≡ length (b′ .column)
       → Progress r x b b″ (t .ledger) used′ (i + 1)
   unfolding calling
-  onward f w h of up g is wide put kept =
+  onward f w h of up g pair is wide put kept =
       let col = b′ .column in
       let cs = callsIn (drop ((i + 1) * callWidth) (x .rows)) (drop used′ (x .orders)) in
       let ahead : callsIn (drop (i * callWidth) (x .rows)) (drop used (x .orders)) ≡ made ∷ cs =
@@ -110,10 +112,10 @@ module _ (r : Ledger) (x : Script) (b b′ b″ : Buffers) (l : Ledger) (used i 
       let answer : t .answer ≡ answered l col made = ap (λ (p : Claimed × Lent). p .0 .answer) g in
       let ledger : t .ledger ≡ recordAfter l col made = ap (λ (p : Claimed × Lent). p .0 .ledger) g in
       let column : b″ .column ≡ columnAfter l col made = ap (λ (p : Claimed × Lent). p .1) g in
-      let last = event made (t .answer) in
+      let last : Event = record { call = made; reply = t .answer; transition = x′ } in
       let lent : length (take long (drop (i * rowWidth) (b′ .answers))) ≡ rowWidth =
       length-take-le long _ (omega (arith, length-drop (i * rowWidth) (b′ .answers), w .for-answers, f .room)) ∙ omega arith in
-      let whole : length (rowOf (t .answer)) ≡ rowWidth = ap length (sym is) ∙ wide ∙ lent in
+      let whole : length (rowOf (t .answer) x′) ≡ rowWidth = ap length (sym is) ∙ wide ∙ lent in
       let trace = w .trace ++ (last ∷ []) in
       let full = full-snoc (w .trace) last (w .full) whole in
       let count : length trace ≡ i + 1 = length-snoc (w .trace) last ∙ omega arith in
@@ -125,7 +127,7 @@ module _ (r : Ledger) (x : Script) (b b′ b″ : Buffers) (l : Ledger) (used i 
             w .so-far
             ∙ ap (λ (y : List Call). behind (w .trace) (run l col y)) ahead
             ∙ behind-next (w .trace) l col made cs
-            ∙ rw (answer, ledger, column);
+            ∙ rw (pair, answer, ledger, column);
         rows = rows;
         full = full;
         count = count;

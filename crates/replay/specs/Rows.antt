@@ -6,7 +6,9 @@ use mathlib.Core.List.{List, [], _∷_, _++_}
 use Prim.Native.Nat.{ℕ}
 use lib.Dec.{eqb}
 use lib.ListN.{length, getD, take, drop}
-use Rattle.model.specs.Model.{Call, peek, claim, void, refusedWith, Event, event}
+use Rattle.walsh.specs.Transition.{none}
+use Rattle.walsh.specs.declared.Transition.{Transition}
+use Rattle.model.specs.Model.{Call, peek, claim, void, refusedWith, Event}
 use Rattle.model.specs.declared.Answer.{Answer}
 
 -- ---- the script
@@ -35,30 +37,36 @@ in-turn = refl
 
 -- ---- the answers
 
--- the columns of an answer: number, detail, serial, and the 24 cells of the composition
+-- the columns of an answer: number, detail, serial, the 24 cells of the composition, and the pair, 0 and 0 where the call answers none
 abbrev pub rowWidth : ℕ
-rowWidth = 27
+rowWidth = 29
 
-abbrev pub rowOf : Answer → List ℕ
-rowOf a = a .number ∷ a .detail ∷ a .serial ∷ a .composition
+abbrev pub rowOf : Answer → Transition → List ℕ
+rowOf a x = a .number ∷ a .detail ∷ a .serial ∷ (a .composition ++ (x .gain ∷ x .loss ∷ []))
 
--- the answer that the first of some rows shows
+-- the answer and the pair that the first of some rows shows
 abbrev pub answerIn : List ℕ → Answer
 answerIn rows = record { number = getD rows 0 0; detail = getD rows 1 0; serial = getD rows 2 0; composition = take 24 (drop 3 rows) }
 
--- for example, a refusal
-whole-row : length (rowOf (refusedWith 18 1007)) ≡ rowWidth
+abbrev pub transitionIn : List ℕ → Transition
+transitionIn rows = record { gain = getD rows 27 0; loss = getD rows 28 0 }
+
+-- for example, a refusal; and any pair
+whole-row : length (rowOf (refusedWith 18 1007) none) ≡ rowWidth
 whole-row = refl
 
-back-again : answerIn (rowOf (refusedWith 18 1007)) ≡ refusedWith 18 1007
+back-again : answerIn (rowOf (refusedWith 18 1007) none) ≡ refusedWith 18 1007
 back-again = refl
 
--- the rows of a trace's answers, one behind the other
+pair-again : (x : Transition) → transitionIn (rowOf (refusedWith 18 1007) x) ≡ x
+pair-again x = refl
+
+-- the rows of a trace, one behind the other
 abbrev pub rowsOf : List Event → List ℕ
 rowsOf [] = []
-rowsOf (x ∷ t) = rowOf (x .reply) ++ rowsOf t
+rowsOf (x ∷ t) = rowOf (x .reply) (x .transition) ++ rowsOf t
 
--- the answers that rows show for the calls of a list, in turn
+-- the trace that rows show for the calls of a list, in turn
 abbrev pub shown : List Call → List ℕ → List Event
 shown [] rows = []
-shown (c ∷ cs) rows = event c (answerIn rows) ∷ shown cs (drop rowWidth rows)
+shown (c ∷ cs) rows = record { call = c; reply = answerIn rows; transition = transitionIn rows } ∷ shown cs (drop rowWidth rows)

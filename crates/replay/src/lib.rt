@@ -4,34 +4,74 @@ use model::Answer;
 use model::Claimed;
 use model::Ledger;
 use model::Opened;
+use walsh::Transition;
 ghost use mathlib.Core.Path.{_≡_};
 ghost use mathlib.Core.Bool.{true};
 ghost use Prim.Native.Nat.{_/_};
 ghost use lib.ListN.{length, getD};
 ghost use Rattle.bounds.specs.Places.{copied};
 ghost use Rattle.model.specs.Basics.{all};
-ghost use Rattle.model.specs.Record.{calling};
+ghost use Rattle.walsh.specs.Transition.{none};
+ghost use Rattle.model.specs.Model.{Call, told};
+ghost use Rattle.model.specs.Record.{printingOf, answered, calling};
 ghost use Rattle.replay.specs.Rows.{callWidth, callOf, uses, rowWidth, rowOf};
 ghost use Rattle.replay.specs.Replay.{scripted, buffers, callsOf, sizesOf, sizes, Ran, Replays};
 
 // The columns of a call in the script: which call, serial.
 const CALL: usize = 2;
 
-// The columns of an answer: number, detail, serial, and the 24 cells of the composition.
-const ROW: usize = 27;
+// The columns of an answer: number, detail, serial, the 24 cells of the composition, gain and loss.
+const ROW: usize = 29;
+
+// What a call answers, the record after it, and the pair.
+struct Called {
+    claimed: Claimed,
+    pair: Transition,
+}
+
+// A peek's answer and its pair, with the record as it is.
+fn look(ledger: Ledger, column: &[u32]) -> Called
+    ensures { λ r.
+        ⌜ (r .claimed ≡ record { answer = answered ledger (now (column .entry)) Call.peek; ledger = ledger })
+        × (r .pair ≡ told (printingOf ledger) Call.peek (r .claimed .answer)) ⌝ }
+{
+    let seen = ledger::peek(ledger, column);
+    let composition = seen.composition;
+    let answer = Answer {
+        number: seen.number,
+        detail: seen.detail,
+        serial: seen.serial,
+        composition,
+    };
+    let claimed = Claimed { answer, ledger };
+    let pair = Transition {
+        gain: seen.gain,
+        loss: seen.loss,
+    };
+    Called { claimed, pair }
+}
+
+// A claim or a void: it answers no pair.
+fn unpaired(claimed: Claimed) -> Called
+    ensures { λ r. ⌜ (r .claimed ≡ claimed) × (r .pair ≡ none) ⌝ }
+{
+    let pair = Transition { gain: 0, loss: 0 };
+    Called { claimed, pair }
+}
 
 // One call: 0 is a peek, 1 a claim, any other a void.
-fn call(ledger: Ledger, column: &mut [u32], which: u64, serial: u64, order: u32) -> Claimed
-    ensures { λ r. ⌜ (r, now (column .exit)) ≡ calling ledger (now (column .entry)) (callOf which serial order) ⌝ }
+fn call(ledger: Ledger, column: &mut [u32], which: u64, serial: u64, order: u32) -> Called
+    ensures { λ r.
+        ⌜ ((r .claimed, now (column .exit)) ≡ calling ledger (now (column .entry)) (callOf which serial order))
+        × (r .pair ≡ told (printingOf ledger) (callOf which serial order) (r .claimed .answer)) ⌝ }
 {
     if which == 0 {
-        let answer = ledger::peek(ledger, column);
-        return Claimed { answer, ledger };
+        return look(ledger, column);
     }
     if which == 1 {
-        return ledger::claim(ledger, column, serial, order);
+        return unpaired(ledger::claim(ledger, column, serial, order));
     }
-    ledger::void(ledger, column, serial)
+    unpaired(ledger::void(ledger, column, serial))
 }
 
 // How many orders of the pool a call uses up.
@@ -63,16 +103,18 @@ fn widen(cells: &[u8], out: &mut [u64])
     }
 }
 
-// The row of an answer.
-fn put(answer: Answer, row: &mut [u64])
+// The row of an answer and the pair.
+fn put(answer: Answer, pair: Transition, row: &mut [u64])
     requires { ⌜ length (now row) ≡ rowWidth ⌝ }
-    ensures { λ _. ⌜ now (row .exit) ≡ rowOf answer ⌝ }
+    ensures { λ _. ⌜ now (row .exit) ≡ rowOf answer pair ⌝ }
 {
     row[0] = answer.number as u64;
     row[1] = answer.detail;
     row[2] = answer.serial;
+    row[27] = pair.gain as u64;
+    row[28] = pair.loss as u64;
     let cells = answer.composition;
-    widen(&cells, &mut row[3..]);
+    widen(&cells, &mut row[3..27]);
 }
 
 // The calls in turn, each on the record and the column as the one before it left them.
@@ -96,11 +138,11 @@ fn run(
         let which = script[from];
         let order = order_at(orders, next);
         let done = call(l, column, which, script[from + 1], order);
-        let answer = done.answer;
+        let claimed = done.claimed;
         let at = i * ROW;
         let end = at + ROW;
-        put(answer, &mut answers[at..end]);
-        l = done.ledger;
+        put(claimed.answer, done.pair, &mut answers[at..end]);
+        l = claimed.ledger;
         next += uses(which);
         i += 1;
     }
@@ -121,7 +163,7 @@ fn fits(rows: usize, answers: usize) -> bool
 }
 
 // A list of calls on a newly opened ledger over `column`. The script has a row of two numbers for each call, and each claim is for the next order of
-// the pool `orders`, for order 0 where that is used up. The answers go into the lent buffer, a row of 27 numbers each. A refusal writes nothing.
+// the pool `orders`, for order 0 where that is used up. The answers go into the lent buffer, a row of 29 numbers each. A refusal writes nothing.
 pub fn replay(
     upper: &[u8],
     total: u32,

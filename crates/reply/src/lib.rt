@@ -2,13 +2,15 @@
 // the calls.
 use model::Answer;
 use model::Ledger;
+use model::Peeked;
 ghost use mathlib.Core.Path.{_≡_};
 ghost use mathlib.Core.Bool.{true};
 ghost use Prim.Native.Nat.{_+_, _<_};
+ghost use Rattle.walsh.specs.Transition.{none};
 ghost use Rattle.bounds.specs.Places.{mostEntries};
 ghost use Rattle.model.specs.Printing.{blank, size};
-ghost use Rattle.model.specs.Model.{Call, answer};
-ghost use Rattle.model.specs.Record.{printingOf, written, consistent, answered};
+ghost use Rattle.model.specs.Model.{Call, refusedWith, answer};
+ghost use Rattle.model.specs.Record.{printingOf, written, consistent, answered, peekedBy, peeking};
 
 fn refused(number: u32, detail: u64) -> Answer
     ensures { λ r. ⌜ r ≡ record { number = number; detail = detail; serial = 0; composition = blank } ⌝ }
@@ -35,18 +37,46 @@ fn accepted(ledger: Ledger) -> Answer
     }
 }
 
-// document 01: look. The next serial with its composition; nothing is reserved.
-pub fn peek(ledger: Ledger, orders: &[u32]) -> Answer
-    ensures { λ r. ⌜ r ≡ answered ledger (now (orders .entry)) Call.peek ⌝ }
+// A refused peek has no pair.
+fn unseen(number: u32, detail: u64) -> Peeked
+    ensures { λ r. ⌜ r ≡ peekedBy (refusedWith number detail) none ⌝ }
+{
+    Peeked {
+        number,
+        detail,
+        serial: 0,
+        composition: [0; 24],
+        gain: 0,
+        loss: 0,
+    }
+}
+
+// document 01: look. The next serial with its composition; nothing is reserved. Document 02, (i): and the pair of that serial, by one step back from
+// the record's composition.
+pub fn peek(ledger: Ledger, orders: &[u32]) -> Peeked
+    ensures { λ r. ⌜ r ≡ peeking ledger (now (orders .entry)) ⌝ }
 {
     let seen = integrity::examine(ledger, orders);
     if !seen.fits {
-        return refused(16, 0);
+        return unseen(16, 0);
     }
     if seen.count <= ledger.entries {
-        return refused(21, 0);
+        return unseen(21, 0);
     }
-    accepted(ledger)
+    let serial = ledger.entries + 1;
+    let n = ledger.bounds.parts;
+    let upper = ledger.bounds.upper;
+    let composition = ledger.next;
+    let mut before = ledger.next;
+    let pair = step::retreat(&upper[..n], ledger.bounds.total, &mut before[..n]);
+    Peeked {
+        number: 0,
+        detail: 0,
+        serial,
+        composition,
+        gain: pair.gain,
+        loss: pair.loss,
+    }
 }
 
 // An entry's 32 bits as a detail's 64.

@@ -9,7 +9,7 @@ use lib.Seq.{getD-take, getD-drop}
 use Rattle.walsh.specs.Order.{countOf}
 use Rattle.walsh.specs.Serial.{serialOf, compositionOf}
 use Rattle.walsh.proofs.Serials.{composition-is, serial-composition}
-use Rattle.bounds.specs.Edition.{editionChecks, cellsOf}
+use Rattle.bounds.specs.Edition.{editionChecks}
 use Rattle.bounds.specs.Places.{lentChecks, filling}
 use Rattle.bounds.specs.declared.Refusal.{Refusal}
 use Rattle.bounds.proofs.Chains.{accepts-split}
@@ -19,7 +19,7 @@ use Rattle.rank.specs.declared.Ranking.{Ranking}
 use Rattle.rank.specs.declared.Ranking.the-variants.{Serial}
 use Rattle.rank.proofs.RoundTrips.{rank-accepted, rank-accepts, unrank-accepted}
 use Rattle.rank.proofs.Consequences.{serial-case}
-use Rattle.step.specs.Steps.{nextSerial, stepOf, successorOf, predecessorOf}
+use Rattle.step.specs.Steps.{nextSerial, stepOf, successorOf, predecessorOf, backFrom}
 use Rattle.step.specs.Batch.{batchChecks, copiesOf, batchOf}
 use Rattle.step.specs.declared.Stepped.{Stepped}
 use Rattle.step.proofs.Steps.{step-to, forward-backward, backward-forward}
@@ -36,16 +36,16 @@ module _ (ms : List ℕ) (r : ℕ) where
   pub successor-then-predecessor : (g : List ℕ) (x y : Stepped)
       → x ≡ successorOf ms r g → x .number ≡ 0
       → y ≡ predecessorOf ms r (take (length ms) (x .composition))
-      → y ≡ record { number = 0; detail = 0; composition = cellsOf g }
+      → y ≡ backFrom x g
   successor-then-predecessor g x y e ok f =
-      f ∙ ap (λ (z : Stepped). predecessorOf ms r (partsOf z)) e ∙ forward-backward ms r g (rw e at ok)
+      f ∙ ap (λ (z : Stepped). predecessorOf ms r (partsOf z)) e ∙ forward-backward ms r g (rw e at ok) ∙ ap (λ (z : Stepped). backFrom z g) (sym e)
 
   pub predecessor-then-successor : (g : List ℕ) (x y : Stepped)
       → x ≡ predecessorOf ms r g → x .number ≡ 0
       → y ≡ successorOf ms r (take (length ms) (x .composition))
-      → y ≡ record { number = 0; detail = 0; composition = cellsOf g }
+      → y ≡ backFrom x g
   predecessor-then-successor g x y e ok f =
-      f ∙ ap (λ (z : Stepped). successorOf ms r (partsOf z)) e ∙ backward-forward ms r g (rw e at ok)
+      f ∙ ap (λ (z : Stepped). successorOf ms r (partsOf z)) e ∙ backward-forward ms r g (rw e at ok) ∙ ap (λ (z : Stepped). backFrom z g) (sym e)
 
   -- ---- a step between two calls of `rank`: "one serial on or back"
 

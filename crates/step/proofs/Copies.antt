@@ -63,13 +63,10 @@ module _ (ms : List ℕ) (r : ℕ) where
   copies-next s c = rw add-one
 
   -- a turn from the composition of serial s
-  pub turn-next : (s : ℕ) → 0 < s → s < countOf ms r → {g : List ℕ} {b : Bool} {h : List ℕ} → g ≡ compositionOf ms r s
-      → _≡_ {A = Bool × List ℕ} (b, h) (turnOf ms r g)
-      → h ≡ compositionOf ms r (s + 1)
-  turn-next s some l {g} {b} {h} e t =
+  pub turn-next : (s : ℕ) → 0 < s → s < countOf ms r → {g h : List ℕ} → g ≡ compositionOf ms r s → h ≡ turnOf ms r g → h ≡ compositionOf ms r (s + 1)
+  turn-next s some l e t =
       let valid = composition-is ms r s some (omega arith) in
-      ap (λ (p : Bool × List ℕ). p .1)
-      (t ∙ ap (turnOf ms r) e ∙ turn-forward ms r (compositionOf ms r s) valid ∙ advance-serial ms r s some l)
+      t ∙ ap (turnOf ms r) e ∙ turn-forward ms r (compositionOf ms r s) valid ∙ advance-serial ms r s some l
 
   -- "copy j of the batch, j from 0, is written from byte j × n"
   module _ (s : ℕ) (some : 0 < s) where

@@ -1,4 +1,6 @@
-pub mod Refills
+pub mod Others
+pub mod Trades
+pub mod Notes
 pub mod Pivots
 pub mod Turns
 pub mod Ways

@@ -1,5 +1,5 @@
 -- The first part that can move: of any bytes, and in the code's numbers.
-use mathlib.Core.Path.{_≡_, _∙_}
+use mathlib.Core.Path.{_≡_, sym, _∙_}
 use mathlib.Core.Bool.{Bool, true, false, cond}
 use mathlib.Core.Logic.{_⊎_, inl, inr}
 use mathlib.Core.List.{List}
@@ -11,8 +11,30 @@ use lib.Dec.{ltb}
 use lib.ListN.{length, getD}
 use Rattle.walsh.specs.Sums.{sumTo}
 use Rattle.walsh.specs.Order.{isOdd}
-use Rattle.walsh.proofs.Cases.{on-test}
+use borrow.Author.Tests.{lt-ltb, le-ltb}
+use Rattle.walsh.proofs.Cases.{on-test, on-less}
 use Rattle.step.specs.Advance.{canMove, movingFrom, pivotOf}
+
+-- ---- whether a part of value v and bound m can move, where the parts before it sum to `before` and their bounds to `left`
+
+module _ (v m before left : ℕ) where
+  pub falls : before < left → ltb 0 v ≡ ltb (before + v - left) v
+  falls room =
+      on-less 0 v
+      (λ l t. t ∙ sym (lt-ltb (before + v - left) v (omega arith)))
+      (λ l t. t ∙ sym (le-ltb (before + v - left) v (omega arith)))
+
+  pub falls-not : left ≤ before → false ≡ ltb (before + v - left) v
+  falls-not full = sym (le-ltb (before + v - left) v (omega arith))
+
+  pub rises : 0 < before → ltb v m ≡ ltb v (min m (before + v))
+  rises some =
+      on-less v m
+      (λ l t. t ∙ sym (lt-ltb v (min m (before + v)) (omega arith)))
+      (λ l t. t ∙ sym (le-ltb v (min m (before + v)) (omega arith)))
+
+  pub rises-not : before ≡ 0 → false ≡ ltb v (min m (before + v))
+  rises-not none = sym (le-ltb v (min m (before + v)) (omega arith))
 
 module _ (ms : List ℕ) (w : ℕ) (g : List ℕ) where
   -- ---- the search goes on, or stops
@@ -35,10 +57,10 @@ module _ (ms : List ℕ) (w : ℕ) (g : List ℕ) where
   moving-end i l = let n : length ms - i ≡ 0 = omega arith in rw n
 
   -- what the calls of a turn of `pivot` answer
-  pub can-here : (i left before m v right lo hi : ℕ) (falling can : Bool) → left ≡ sumTo ms i → before ≡ sumTo g i → m ≡ getD ms i 0 → v ≡ getD g i 0
-      → right ≡ w - (before + v) → lo ≡ before + v - left → hi ≡ min m (before + v) → falling ≡ isOdd right → can ≡ cond falling (ltb lo v) (ltb v hi)
+  pub can-here : (i left before m v right : ℕ) (falling can : Bool) → left ≡ sumTo ms i → before ≡ sumTo g i → m ≡ getD ms i 0 → v ≡ getD g i 0
+      → right ≡ w - (before + v) → falling ≡ isOdd right → can ≡ cond falling (ltb (before + v - left) v) (ltb v (min m (before + v)))
       → can ≡ canMove ms w g i
-  can-here i left before m v right lo hi falling can el eb em ev er elo ehi ef e = e ∙ rw (ef, er, elo, ehi, el, eb, em, ev)
+  can-here i left before m v right falling can el eb em ev er ef e = e ∙ rw (ef, er, el, eb, em, ev)
 
   -- ---- what was found
 

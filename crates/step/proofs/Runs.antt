@@ -24,7 +24,7 @@ use Rattle.step.specs.Batch.{copiesOf}
 use Rattle.step.specs.Turn.{Begins}
 use Rattle.step.specs.declared.PivotSums.{PivotSums}
 use Rattle.step.specs.declared.batch.Run.{Run}
-use Rattle.step.proofs.Refills.{sum-one, refill-end}
+use Rattle.step.proofs.Others.{sum-one, refill-end}
 use Rattle.step.proofs.Pivots.{can-here, moving-on}
 use Rattle.step.proofs.Turns.{first-stays, part-moves, upTo}
 use Rattle.step.proofs.Ways.{moving}
@@ -164,8 +164,8 @@ module _ (ms : List ℕ) (r : ℕ) (x : Run) (parts : List ℕ) (run : Running m
 
   can-one : cond (x .falling) (ltb lowest (x .second)) (ltb (x .second) highest) ≡ canMove ms r shows 1
   can-one =
-      can-here ms r shows 1 (getD ms 0 0) (x .first) (getD ms 1 0) (x .second) (r - sumOf x) lowest highest (x .falling) _
-      (sym (sum-one ms 1 refl)) (sym (sum-one shows 1 refl)) refl refl refl refl refl (run .way) refl
+      can-here ms r shows 1 (getD ms 0 0) (x .first) (getD ms 1 0) (x .second) (r - sumOf x) (x .falling) _
+      (sym (sum-one ms 1 refl)) (sym (sum-one shows 1 refl)) refl refl refl (run .way) refl
 
   run-on : 0 < x .more → canMove ms r shows 1 ≡ true
   run-on more = sym can-one ∙ left-moves lowest highest (x .second) (x .more) (x .falling) more (run .left)

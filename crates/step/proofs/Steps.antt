@@ -1,35 +1,27 @@
--- What follows for the answers of `successor` and `predecessor`: each undoes the other, a step takes one unit from one part to another, and no two
--- compositions have the same successor. So "a step that always hands out the same mix" (document 01, "Serial and mix") has not these answers.
+-- What follows for the answers of `successor` and `predecessor`: each undoes the other, with the pair exchanged, a step takes one unit from one part
+-- to another, which its pair names, and no two compositions have the same successor. So "a step that always hands out the same mix" (document 01, "Serial and mix") has not these answers.
 use mathlib.Core.Path.{_≡_, refl, sym, ap, _∙_}
 use mathlib.Core.Bool.{Bool, true, false, cond, not}
 use mathlib.Core.List.{List, _++_}
-use Prim.Native.Nat.{ℕ, suc, _+_, _-_, _≤_, _<_}
-use native.Mathlib.Omega.{arith}
+use Prim.Native.Nat.{ℕ, _≤_, _<_}
 use lib.Dec.{eqb}
 use lib.ListN.{length, take}
 use lib.Seq.{take-at}
-use borrow.Author.Tests.{eqb-false, ne-eqb}
 use Rattle.walsh.specs.Order.{Composition, countOf}
 use Rattle.walsh.specs.Serial.{serialOf, compositionOf}
-use Rattle.walsh.specs.Neighbours.{Adjacent}
-use Rattle.walsh.proofs.Serials.{count-length, composition-is, serial-composition, composition-serial, serial-pos, serial-le}
-use Rattle.walsh.proofs.Gray.{gray, neighbours-sym}
+use Rattle.walsh.specs.Transition.{transition, Carries}
+use Rattle.walsh.proofs.Serials.{composition-is, serial-composition, composition-serial, serial-pos, serial-le}
 use Rattle.bounds.specs.Refusal.{refused, firstRefusal}
 use Rattle.bounds.specs.Edition.{editionChecks, cellsOf}
 use Rattle.bounds.specs.Places.{compositionChecks}
 use Rattle.bounds.proofs.Refusals.{is-accepted, passed}
 use Rattle.bounds.proofs.Chains.{Accepts, accepts-split}
 use Rattle.bounds.proofs.Compositions.{composition-passed, composition-passes}
-use Rattle.step.specs.Steps.{endChecks, nextSerial, stepOf, successorOf, predecessorOf}
+use Rattle.step.specs.Steps.{endChecks, nextSerial, steppedBy, stepOf, successorOf, predecessorOf, pairOf, backFrom}
 use Rattle.step.specs.declared.Stepped.{Stepped}
 use Rattle.step.proofs.Answers.{step-goes}
+use Rattle.step.proofs.Ways.{to-inside, to-on, to-back, to-carries}
 use Rattle.step.proofs.Cells.{cells-front}
-
-near-serial : (ms : List ℕ) (r s : ℕ) → 0 < s → s < countOf ms r → Adjacent (length ms) (compositionOf ms r s) (compositionOf ms r (s + 1))
-unfolding compositionOf
-near-serial ms r s some l =
-    let at : s + 1 - 1 ≡ suc (s - 1) = omega arith in
-    rw at (gray ms r (s - 1) (omega (arith, count-length ms r)))
 
 -- ---- an accepted step, either way
 
@@ -49,7 +41,7 @@ module _ (back : Bool) (ms : List ℕ) (r : ℕ) (g : List ℕ) where
     edition : Accepts (editionChecks ms r)
     valid : Composition ms r g
     on : eqb (serialOf ms r g) (cond back 1 (countOf ms r)) ≡ false
-    is : stepOf back ms r g ≡ record { number = 0; detail = 0; composition = cellsOf (compositionOf ms r (nextSerial back (serialOf ms r g))) }
+    is : stepOf back ms r g ≡ steppedBy (refused 0 0) g (compositionOf ms r (nextSerial back (serialOf ms r g)))
 
   step : stepOf back ms r g .number ≡ 0 → Step
   unfolding stepOf
@@ -58,29 +50,6 @@ module _ (back : Bool) (ms : List ℕ) (r : ℕ) (g : List ℕ) where
       let p = accepts-split (editionChecks ms r) (compositionChecks ms r g ++ endChecks back ms r g) refl (a .0) in
       let q = accepts-split (compositionChecks ms r g) (endChecks back ms r g) refl (p .1) in
       record { edition = p .0; valid = composition-passed ms r g (q .0); on = passed _ _ refl (q .1) .0; is = a .1 }
-
--- the serial that a step goes to is one of 1..n, the way back from it does not end there and leads to s, and the two are next to each other
-module _ (ms : List ℕ) (r s : ℕ) (some : 0 < s) (most : s ≤ countOf ms r) where
-  to-inside : (back : Bool) → eqb s (cond back 1 (countOf ms r)) ≡ false → (0 < nextSerial back s) × (nextSerial back s ≤ countOf ms r)
-  to-inside true e = let ne = eqb-false s 1 e in (omega arith, omega arith)
-  to-inside false e = let ne = eqb-false s (countOf ms r) e in (omega arith, omega arith)
-
-  to-on : (back : Bool) → eqb (nextSerial back s) (cond (not back) 1 (countOf ms r)) ≡ false
-  to-on true = ne-eqb (s - 1) (countOf ms r) (λ e. omega arith)
-  to-on false = ne-eqb (s + 1) 1 (λ e. omega arith)
-
-  to-back : (back : Bool) → nextSerial (not back) (nextSerial back s) ≡ s
-  to-back true = omega arith
-  to-back false = omega arith
-
-  to-near : (back : Bool) → eqb s (cond back 1 (countOf ms r)) ≡ false
-      → Adjacent (length ms) (compositionOf ms r s) (compositionOf ms r (nextSerial back s))
-  to-near true e =
-      let ne = eqb-false s 1 e in
-      let at : s - 1 + 1 ≡ s = omega arith in
-      let (gain, loss, g, l, n) = rw at at (near-serial ms r (s - 1) (omega arith) (omega arith)) in
-      (loss, gain, l, g, neighbours-sym n)
-  to-near false e = let ne = eqb-false s (countOf ms r) e in near-serial ms r s some (omega arith)
 
 module _ (back : Bool) (ms : List ℕ) (r : ℕ) (g : List ℕ) (ok : stepOf back ms r g .number ≡ 0) where
   at : Step back ms r g
@@ -97,8 +66,12 @@ module _ (back : Bool) (ms : List ℕ) (r : ℕ) (g : List ℕ) (ok : stepOf bac
       × (answer back ms r g ≡ compositionOf ms r (to back ms r g))
   step-to = (at .edition, inside .0, inside .1, answer-is)
 
-  -- the step the other way leads back
-  returned : stepOf (not back) ms r (answer back ms r g) ≡ record { number = 0; detail = 0; composition = cellsOf g }
+  -- the pair is that from g to the answer
+  pair-is : pairOf (stepOf back ms r g) ≡ transition g (answer back ms r g)
+  pair-is = rw (answer-is, at .is)
+
+  -- the step the other way leads back, and its pair is exchanged
+  returned : stepOf (not back) ms r (answer back ms r g) ≡ backFrom (stepOf back ms r g) g
   returned =
       let h = compositionOf ms r (to back ms r g) in
       let serial : serialOf ms r h ≡ to back ms r g = serial-composition ms r (to back ms r g) (inside .0) (inside .1) in
@@ -108,12 +81,13 @@ module _ (back : Bool) (ms : List ℕ) (r : ℕ) (g : List ℕ) (ok : stepOf bac
       rw answer-is
       (sym (step-goes (not back) ms r h (firstRefusal (editionChecks ms r)) refl (at .edition) (refused 0 0)
       (sym (composition-passes ms r h valid)) refl (rw serial (to-on ms r (s back ms r g) pos le back)))
-      ∙ rw (serial, to-back ms r (s back ms r g) pos le back, composition-serial ms r g (at .valid)))
+      ∙ rw (serial, to-back ms r (s back ms r g) pos le back, composition-serial ms r g (at .valid), at .is))
 
-  near : Adjacent (length ms) g (answer back ms r g)
-  near =
-      let n = to-near ms r (s back ms r g) (serial-pos ms r g (at .valid)) (serial-le ms r g (at .valid)) back (at .on) in
-      rw answer-is (rw (composition-serial ms r g (at .valid)) at n)
+  -- and it names the two kinds that the step changes
+  carries : Carries (length ms) g (answer back ms r g) (pairOf (stepOf back ms r g))
+  carries =
+      let c = to-carries ms r (s back ms r g) (serial-pos ms r g (at .valid)) (serial-le ms r g (at .valid)) back (at .on) in
+      rw (pair-is, answer-is) (rw (composition-serial ms r g (at .valid)) at c)
 
 -- ---- the theorems
 
@@ -125,17 +99,18 @@ module _ (ms : List ℕ) (r : ℕ) (g : List ℕ) where
   abbrev pub before : List ℕ
   before = take (length ms) (predecessorOf ms r g .composition)
 
-  pub forward-backward : successorOf ms r g .number ≡ 0 → predecessorOf ms r after ≡ record { number = 0; detail = 0; composition = cellsOf g }
+  pub forward-backward : successorOf ms r g .number ≡ 0 → predecessorOf ms r after ≡ backFrom (successorOf ms r g) g
   forward-backward ok = returned false ms r g ok
 
-  pub backward-forward : predecessorOf ms r g .number ≡ 0 → successorOf ms r before ≡ record { number = 0; detail = 0; composition = cellsOf g }
+  pub backward-forward : predecessorOf ms r g .number ≡ 0 → successorOf ms r before ≡ backFrom (predecessorOf ms r g) g
   backward-forward ok = returned true ms r g ok
 
-  pub forward-near : successorOf ms r g .number ≡ 0 → Adjacent (length ms) g after
-  forward-near ok = near false ms r g ok
+  -- the answer has one tile more of the gaining kind, one fewer of the losing kind, and as many of each other
+  pub forward-pair : successorOf ms r g .number ≡ 0 → Carries (length ms) g after (pairOf (successorOf ms r g))
+  forward-pair ok = carries false ms r g ok
 
-  pub backward-near : predecessorOf ms r g .number ≡ 0 → Adjacent (length ms) g before
-  backward-near ok = near true ms r g ok
+  pub backward-pair : predecessorOf ms r g .number ≡ 0 → Carries (length ms) g before (pairOf (predecessorOf ms r g))
+  backward-pair ok = carries true ms r g ok
 
 -- two compositions with the same successor are the same
 pub forward-once : (ms : List ℕ) (r : ℕ) (g h : List ℕ) → successorOf ms r g .number ≡ 0 → successorOf ms r h .number ≡ 0

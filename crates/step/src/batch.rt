@@ -124,6 +124,7 @@ fn behind(upper: &[u8], run: Run) -> PivotSums
         left: wide(upper[0]) + wide(upper[1]),
         sum: wide(run.first) + wide(run.second),
         right: 0,
+        falling: false,
     }
 }
 

@@ -92,7 +92,7 @@ fn unrank(s: &[u8], from: usize) -> usize
     size.at
 }
 
-// step: s forward or p backward, upper, total, composition: number, detail, 24 cells
+// step: s forward or p backward, upper, total, composition: number, detail, 24 cells, gain, loss
 fn step(s: &[u8], from: usize, back: bool) -> usize
     ensures { λ r. ⌜ from ≤ r ⌝ }
 {

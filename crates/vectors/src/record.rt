@@ -57,7 +57,7 @@ pub(crate) fn opening(s: &[u8], from: usize) -> usize
 // What a call answers, and the record after it: 0 peek, 1 claim, any other void.
 fn called(ledger: Ledger, column: &mut [u32], which: u64, serial: u64, order: u32) {
     if which == 0 {
-        show::answer(ledger::peek(ledger, column));
+        show::peeked(ledger::peek(ledger, column));
         show::ledger(ledger);
         return;
     }
@@ -68,7 +68,8 @@ fn called(ledger: Ledger, column: &mut [u32], which: u64, serial: u64, order: u3
     show::claimed(ledger::void(ledger, column, serial));
 }
 
-// call: k, record, column, which call, serial, order: the entries before; number, detail, serial, 24 cells; the record; the column
+// call: k, record, column, which call, serial, order: the entries before; number, detail, serial, 24 cells, of a peek gain and loss too; the record;
+// the column
 pub(crate) fn call(s: &[u8], from: usize) -> usize
     ensures { λ r. ⌜ from ≤ r ⌝ }
 {

@@ -12,10 +12,10 @@ pub(crate) fn words() -> [u32; 2048]
 }
 
 // For 2,048 rows of answers, and for a script.
-pub(crate) fn longs() -> [u64; 55296]
-    ensures { λ r. ⌜ 55296 ≡ length r ⌝ }
+pub(crate) fn longs() -> [u64; 59392]
+    ensures { λ r. ⌜ 59392 ≡ length r ⌝ }
 {
-    [7; 55296]
+    [7; 59392]
 }
 
 // The first n entries, or all.

@@ -49,6 +49,8 @@ pub(crate) fn stepped(answer: step::Stepped) {
     first(answer.number as u64);
     next(answer.detail);
     bytes(&composition);
+    next(answer.gain as u64);
+    next(answer.loss as u64);
     end();
 }
 
@@ -109,7 +111,19 @@ pub(crate) fn answer(answer: model::Answer) {
     end();
 }
 
-// The same, and the record after the call.
+// The same of a peek, with its pair.
+pub(crate) fn peeked(answer: model::Peeked) {
+    let composition = answer.composition;
+    first(answer.number as u64);
+    next(answer.detail);
+    next(answer.serial);
+    bytes(&composition);
+    next(answer.gain as u64);
+    next(answer.loss as u64);
+    end();
+}
+
+// A line of a call's answer, and the record after the call.
 pub(crate) fn claimed(done: model::Claimed) {
     answer(done.answer);
     ledger(done.ledger);

@@ -223,7 +223,7 @@ moved ms i rem t (suc u) d true low high ne =
     rw (max-less, sub-one, add-suc t u, first-period ms i (rem - suc u) (t + u), one-less rem u above) (back .0, neighbours-sym (back .1))
 
 -- a step takes one unit from one part to another
-step-neighbours : (ms : List ℕ) (r : ℕ) (g : List ℕ) (i : ℕ) → i < length g
+pub step-neighbours : (ms : List ℕ) (r : ℕ) (g : List ℕ) (i : ℕ) → i < length g
     → CompositionTo ms (suc i) (sumTo g (suc i)) g → sumTo g (suc i) ≤ r → Pivot ms r g i
     → (otherPart ms r g i < i) × Neighbours g (stepAt ms r g i) (gainPart ms r g i) (lossPart ms r g i)
 unfolding stepAt otherPart gainPart lossPart

@@ -16,3 +16,4 @@ pub mod Ends
 pub mod Steps
 pub mod Successors
 pub mod Gray
+pub mod Transitions

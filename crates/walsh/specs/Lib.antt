@@ -7,3 +7,4 @@ pub mod Ending
 pub mod Compare
 pub mod Rank
 pub mod Step
+pub mod Transition

@@ -3,7 +3,13 @@
 ghost use mathlib.Core.Path.{_≡_};
 ghost use Prim.Native.Nat.{_-_, _≤_, min};
 ghost use Rattle.walsh.specs.Order.{isOdd};
-ghost use Rattle.walsh.specs.Step.{firstValue, nextValue};
+ghost use Rattle.walsh.specs.Step.{firstValue};
+
+// Document 02, request (i): the kind that gains a unit and the kind that loses one, counted from 1; 0 and 0 where there is no step.
+pub struct Transition {
+    pub gain: u32,
+    pub loss: u32,
+}
 
 pub fn wide(x: u8) -> usize
     ensures { λ r. ⌜ (r ≡ x) × (r ≤ 255) ⌝ }
@@ -36,15 +42,4 @@ pub fn first_value(lo: usize, hi: usize, falling: bool) -> usize
     ensures { λ r. ⌜ r ≡ firstValue lo hi falling ⌝ }
 {
     if falling { hi } else { lo }
-}
-
-// The value after v.
-pub fn next_value(v: u8, falling: bool) -> usize
-    ensures { λ r. ⌜ r ≡ nextValue falling v ⌝ }
-{
-    if falling {
-        over(wide(v), 1)
-    } else {
-        wide(v) + 1
-    }
 }

@@ -1,28 +1,35 @@
 -- `lines::line_len` meets its contract.
 use mathlib.Core.Path.{_≡_, ap}
-use mathlib.Core.List.{_∷_}
 use Prim.Native.Nat.{_+_, _-_, _*_, _≤_}
 use native.Mathlib.Omega.{arith}
 use denote.Ref.{now}
 use lib.ListN.{length, drop}
 use borrow.Author.Needs.{needs}
-use Rattle.request.specs.Text.{decimal, lineEnd, line}
+use Rattle.request.specs.Text.{decimal}
+use Rattle.lines.specs.Lines.{countsThen, pairEnd, copyLine}
 use Rattle.lines.proofs.Lined.{length-next, length-last, length-line}
 use Rattle.lines.proofs.line_len.Statement.{statement}
 use Rattle.lines.proofs.line_len.Tie as tie
 
 abbrev Inv-loop : tie.InvT-loop
-Inv-loop serial parts len₀ i₀ len i =
-    (i ≤ length parts) × (len + length (lineEnd (drop i parts)) ≡ length (line (serial ∷ parts)) + 1) × (len ≤ 21 + 21 * i)
+Inv-loop serial parts pair len₀ i₀ len i =
+    (i ≤ length parts) × (len + length (countsThen (drop i parts) (pairEnd pair)) ≡ length (copyLine serial parts pair)) × (len ≤ 20 + 21 * i)
 
 abbrev μ-loop : tie.MeasureT-loop
-μ-loop serial parts len₀ i₀ len i = length parts - i
+μ-loop serial parts pair len₀ i₀ len i = length parts - i
 
 loop-again : tie.Need-loop-again Inv-loop μ-loop
 loop-again c =
     let at = c .before .before .before .before in
-    let next = length-next (now (at .before .before .before .args .parts)) (at .loop .i) (omega arith) in
+    let x = at .before .before .before .args in
+    let next = length-next (now (x .parts)) (pairEnd (x .pair)) (at .loop .i) (omega arith) in
     (omega arith, omega (arith, c .digits2 .ensures .0, ap (λ x. length (decimal x)) (c .before .wide .ensures .0), next), omega arith)
+
+returns : tie.Need-returns Inv-loop μ-loop
+returns c =
+    let at = c .before .before in
+    let x = at .before .before .before .args in
+    omega (arith, c .end-len .ensures .0, length-last (now (x .parts)) (pairEnd (x .pair)) (at .loop .i) (omega arith))
 
 pub line-len-spec : {M : Type 1} → statement M
 line-len-spec =
@@ -31,10 +38,9 @@ line-len-spec =
     Inv-loop
     μ-loop
     (λ c κs. search needs)
-    (λ c. search needs)
     (λ c.
     let x = c .before .before .args in
-    (omega arith, omega (arith, length-line (x .serial) (now (x .parts)), c .digits .ensures .0), omega arith))
+    (omega arith, omega (arith, length-line (x .serial) (now (x .parts)) (x .pair), c .digits .ensures .0), omega arith))
     (λ c. search needs)
     (λ c κs. search needs)
     (λ c κs. search needs)
@@ -43,4 +49,6 @@ line-len-spec =
     (λ c. search needs)
     (λ c. search needs)
     loop-again
-    (λ c. let l = c .before .loop in omega (arith, length-last (now (c .before .before .before .before .args .parts)) (l .i) (omega arith))))
+    (λ c κs. search needs)
+    (λ c. omega (arith, c .end-len .ensures .1))
+    returns)

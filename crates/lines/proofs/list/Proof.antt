@@ -42,16 +42,19 @@ returns-4 c =
 
 put-lines-requires : tie.Need-put-lines-requires
 put-lines-requires c κs =
-    let some = c .before .before .before .before .before in
+    let pair = c .before .before .before in
+    let some = pair .before .before .before .before .before .before in
     let found = some .before .before .before .before .before in
-    list-ready _ _ _ _ (found .locate .ensures) (omega arith) (omega arith) (some .if3 .left) (omega arith)
+    list-ready _ _ _ _ (found .locate .ensures) (omega arith) (omega arith) (some .if3 .left) (omega arith) _ _ (pair .retreat .ensures)
 
 returns-5 : tie.Need-returns-5
 returns-5 c =
     let lines = c .before .before .before in
-    let some = lines .before .before .before .before .before .before in
+    let within = lines .before .before .before .before .before .before .before .before in
+    let some = within .before .before in
     let found = some .before .before .before .before .before in
-    list-put _ _ _ _ (found .locate .ensures) (omega arith) (omega arith) (some .if3 .left) (omega arith) _ _ _ (lines .put-lines .ensures)
+    list-put _ _ _ _ (found .locate .ensures) (omega arith) (omega arith) (some .if3 .left) (omega (arith, within .if4 .left)) _ _ _
+    (lines .put-lines .ensures)
 
 pub list-spec : {M : Type 1} → statement M
 list-spec =
@@ -68,8 +71,11 @@ list-spec =
     returns-3
     (λ c κs. search needs)
     returns-4
-    (λ c. cells c)
-    (λ c. sym (length-take-le _ _ (cells (c .before))))
+    (λ c. cells (c .before))
+    (λ c. sym (length-take-le _ _ (cells (c .before .before))))
+    (λ c κs. search needs)
+    (λ c. cells (c .before .before .before .before))
+    (λ c. sym (length-take-le _ _ (cells (c .before .before .before .before .before))))
     put-lines-requires
-    (λ c. c .before .before .before .put-lines .kept .1 .1 .1 .1 .1 .0)
+    (λ c. c .before .before .before .put-lines .kept .1 .1 .1 .1 .1 .1 .0)
     returns-5)

@@ -1,22 +1,23 @@
 -- `lines::put_line` meets its contract.
 use mathlib.Core.Path.{_≡_, ap, _∙_}
-use Prim.Native.Nat.{_+_, _-_, _≤_, _<_}
+use Prim.Native.Nat.{_+_, _-_, _≤_}
 use native.Mathlib.Omega.{arith}
 use denote.Ref.{now}
 use lib.ListN.{length, drop, length-set}
 use borrow.Author.Needs.{needs}
-use Rattle.request.specs.Text.{decimal, lineEnd}
+use Rattle.request.specs.Text.{decimal}
+use Rattle.lines.specs.Lines.{countsThen, pairEnd}
 use Rattle.lines.proofs.Appends.{one, retold}
 use Rattle.lines.proofs.Lined.{Lined, lined-none, lined-next, lined-end, length-next, length-last, length-line}
 use Rattle.lines.proofs.put_line.Statement.{statement}
 use Rattle.lines.proofs.put_line.Tie as tie
 
 abbrev Inv-loop : tie.InvT-loop
-Inv-loop serial parts out₀ at end₀ i₀ out end i =
-    (i ≤ length parts) × (end + length (lineEnd (drop i parts)) ≤ length out) × Lined parts out₀ out end₀ end i
+Inv-loop serial parts pair out₀ at end₀ i₀ out end i =
+    (i ≤ length parts) × (end + length (countsThen (drop i parts) (pairEnd pair)) ≤ length out) × Lined parts (pairEnd pair) out₀ out end₀ end i
 
 abbrev μ-loop : tie.MeasureT-loop
-μ-loop serial parts out₀ at end₀ i₀ out end i = length parts - i
+μ-loop serial parts pair out₀ at end₀ i₀ out end i = length parts - i
 
 -- the buffer keeps its length
 sizes : (c : tie.At-loop Inv-loop μ-loop) →
@@ -27,21 +28,23 @@ loop-holds : tie.Need-loop-holds Inv-loop μ-loop
 loop-holds c =
     let p = c .before .before .put-serial in
     let start = c .before .before .before .before .before .before in
-    let line = length-line (start .args .serial) (now (start .args .parts)) in
-    (omega arith, omega (arith, p .ensures .ends, p .ensures .size, line, start .pre), lined-none _ _ _)
+    let line = length-line (start .args .serial) (now (start .args .parts)) (start .args .pair) in
+    (omega arith, omega (arith, p .ensures .ends, p .ensures .size, line, start .pre), lined-none _ _ _ _)
 
 put-number-requires : tie.Need-put-number-requires Inv-loop μ-loop
 put-number-requires c κs =
     let at = c .before .before .before .before in
     let l = at .loop in
-    let next = length-next (now (at .before .before .before .before .before .before .before .args .parts)) (l .i) (omega arith) in
+    let x = at .before .before .before .before .before .before .before .args in
+    let next = length-next (now (x .parts)) (pairEnd (x .pair)) (l .i) (omega arith) in
     omega (arith, length-set (l .out) (l .end) 32, ap (λ n. length (decimal n)) (c .before .wide .ensures .0), next)
 
 loop-again : tie.Need-loop-again Inv-loop μ-loop
 loop-again c =
     let at = c .before .before .before .before .before .before .before in
     let l = at .loop in
-    let next = length-next (now (at .before .before .before .before .before .before .before .args .parts)) (l .i) (omega arith) in
+    let x = at .before .before .before .before .before .before .before .args in
+    let next = length-next (now (x .parts)) (pairEnd (x .pair)) (l .i) (omega arith) in
     let w = c .before .before .before .before .wide in
     let p = c .before .before .put-number .ensures in (
       omega arith,
@@ -49,11 +52,18 @@ loop-again c =
       lined-next (l .inv .2) (omega arith) (one (l .out) (l .end) 32 (omega (arith, next))) (retold (ap decimal (w .ensures .0)) p),
     )
 
--- the line feed has room
-room : (c : tie.After-loop Inv-loop μ-loop) → c .before .loop .end < length (c .before .loop .out)
-room c =
-    let start = c .before .before .before .before .before .before .before .before in
-    omega (arith, length-last (now (start .args .parts)) (c .before .loop .i) (omega arith))
+put-end-requires : tie.Need-put-end-requires Inv-loop μ-loop
+put-end-requires c κs =
+    let at = c .before .before in
+    let x = at .before .before .before .before .before .before .before .args in
+    omega (arith, length-last (now (x .parts)) (pairEnd (x .pair)) (at .loop .i) (omega arith))
+
+returns : tie.Need-returns Inv-loop μ-loop
+returns c =
+    let at = c .before .before .before .before .before in
+    let serial = at .before .before .before in
+    let x = serial .before .before .before .before .args in
+    lined-end (x .serial) (x .pair) (serial .put-serial .ensures) (at .loop .inv .2) (omega arith) (c .before .before .put-end .ensures)
 
 pub put-line-spec : {M : Type 1} → statement M
 put-line-spec =
@@ -63,24 +73,21 @@ put-line-spec =
     μ-loop
     (λ c κs.
     let start = c .before .before .before in
-    omega (arith, length-line (start .args .serial) (now (start .args .parts)), start .pre))
+    omega (arith, length-line (start .args .serial) (now (start .args .parts)) (start .args .pair), start .pre))
     loop-holds
     (λ c.
-    let start = c .before .before .before .before .before .before .before .before in
-    omega (arith, length-next (now (start .args .parts)) (c .before .loop .i) (omega arith)))
+    let x = c .before .before .before .before .before .before .before .before .args in
+    omega (arith, length-next (now (x .parts)) (pairEnd (x .pair)) (c .before .loop .i) (omega arith)))
     (λ c. search needs)
     (λ c κs. search needs)
     (λ c.
     let at = c .before .before .before .before in
-    omega (arith, length-next (now (at .before .before .before .before .before .before .before .args .parts)) (at .loop .i) (omega arith), sizes at))
+    let x = at .before .before .before .before .before .before .before .args in
+    omega (arith, length-next (now (x .parts)) (pairEnd (x .pair)) (at .loop .i) (omega arith), sizes at))
     put-number-requires
     (λ c. search needs)
     (λ c. search needs)
     loop-again
-    (λ c. room c)
-    (λ c. omega (arith, room c, sizes (c .before)))
-    (λ c. length-set (c .before .loop .out) (c .before .loop .end) 10 ∙ sizes (c .before))
-    (λ c.
-    let serial = c .before .before .before .before in
-    let start = serial .before .before .before .before in
-    lined-end (start .args .serial) (serial .put-serial .ensures) (c .before .loop .inv .2) (omega arith) (one _ _ 10 (room c))))
+    put-end-requires
+    (λ c. c .before .before .put-end .kept .1 .0 ∙ sizes (c .before .before .before .before .before))
+    returns)

@@ -5,7 +5,7 @@ use native.Mathlib.Omega.{arith}
 use borrow.Author.Needs.{needs}
 use Rattle.request.proofs.Decimals.{decimal-small}
 use Rattle.lines.proofs.Appends.{one, retold}
-use Rattle.lines.proofs.Lengths.{decimal-pair, length-small, length-pair}
+use Rattle.lines.proofs.Lengths.{decimal-two, length-small, length-two}
 use Rattle.lines.proofs.put_number.Statement.{statement}
 use Rattle.lines.proofs.put_number.Tie as tie
 
@@ -27,11 +27,11 @@ put-number-spec =
     returns
     (λ c κs.
     let start = c .before .before .before .before in
-    (omega arith, omega (arith, length-pair (start .args .n) (omega arith) (omega arith), start .pre)))
+    (omega arith, omega (arith, length-two (start .args .n) (omega arith) (omega arith), start .pre)))
     (λ c. search needs)
     (λ c.
     let start = c .before .before .before .before .before .before .before in
-    retold (sym (decimal-pair (start .args .n) (omega arith) (omega arith))) (c .before .before .put-pair .ensures))
+    retold (sym (decimal-two (start .args .n) (omega arith) (omega arith))) (c .before .before .put-two .ensures))
     (λ c κs. search needs)
     (λ c. search needs)
     (λ c. search needs))

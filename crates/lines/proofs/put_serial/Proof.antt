@@ -8,20 +8,20 @@ use Rattle.lines.proofs.put_serial.Statement.{statement}
 use Rattle.lines.proofs.put_serial.Tie as tie
 
 -- room for the second pair, and for the last
-put-pair-requires : tie.Need-put-pair-requires
-put-pair-requires c κs =
+put-two-requires : tie.Need-put-two-requires
+put-two-requires c κs =
     let high = c .before .before .before in
     let start = high .before .before .before .before in
     let p = high .put-number .ensures in
     (omega arith, omega (arith, p .ends, p .size, start .pre, length-myriad (start .args .n) (omega arith)))
 
-put-pair-requires-2 : tie.Need-put-pair-requires-2
-put-pair-requires-2 c κs =
+put-two-requires-2 : tie.Need-put-two-requires-2
+put-two-requires-2 c κs =
     let middle = c .before .before .before in
     let high = middle .before .before .before .before in
     let start = high .before .before .before .before in
     let p = high .put-number .ensures in
-    let q = middle .put-pair .ensures in
+    let q = middle .put-two .ensures in
     (omega arith, omega (arith, p .ends, p .size, q .ends, q .size, start .pre, length-myriad (start .args .n) (omega arith)))
 
 same-length-2 : tie.Need-same-length-2
@@ -29,7 +29,7 @@ same-length-2 c =
     let last = c .before .before in
     let middle = last .before .before .before .before in
     let high = middle .before .before .before .before in
-    last .put-pair2 .kept .1 .0 ∙ middle .put-pair .kept .1 .0 ∙ high .put-number .kept .1 .0
+    last .put-two2 .kept .1 .0 ∙ middle .put-two .kept .1 .0 ∙ high .put-number .kept .1 .0
 
 returns-2 : tie.Need-returns-2
 returns-2 c =
@@ -38,7 +38,7 @@ returns-2 c =
     let high = middle .before .before .before .before in
     let start = high .before .before .before .before in
     retold (sym (decimal-myriad (start .args .n) (omega arith)))
-    (joined (high .put-number .ensures) (joined (middle .put-pair .ensures) (last .put-pair2 .ensures)))
+    (joined (high .put-number .ensures) (joined (middle .put-two .ensures) (last .put-two2 .ensures)))
 
 pub put-serial-spec : {M : Type 1} → statement M
 put-serial-spec =
@@ -48,7 +48,7 @@ put-serial-spec =
     (λ c. search needs)
     (λ c. search needs)
     (λ c κs. omega (arith, c .before .before .before .pre, length-myriad (c .before .before .before .args .n) (omega arith)))
-    put-pair-requires
-    put-pair-requires-2
+    put-two-requires
+    put-two-requires-2
     same-length-2
     returns-2)

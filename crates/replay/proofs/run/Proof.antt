@@ -59,8 +59,8 @@ loop-again c =
     let call = c .before .before .before .before .before .before .before .before .before .call in
     let put = c .before .before .before .before .put in
     onward (s .args .ledger) (asked s) (lent s) (buffers (at .column) (at .answers)) (buffers (call .last .1 .0) _) (at .l) (at .next) (at .i)
-    (call .result) (order .result) _ _ (fit s) (at .inv) (test .loop-test .taken) (order .ensures)
-    (ap (λ (n : ℕ). at .next + n) (c .uses .ensures)) (call .ensures) (put .ensures) (put .kept .1 .0) refl (call .kept .1 .0)
+    (call .result .claimed) (call .result .pair) (order .result) _ _ (fit s) (at .inv) (test .loop-test .taken) (order .ensures)
+    (ap (λ (n : ℕ). at .next + n) (c .uses .ensures)) (call .ensures .0) (call .ensures .1) (put .ensures) (put .kept .1 .1 .0) refl (call .kept .1 .0)
 
 returns : tie.Need-returns Inv-loop μ-loop
 returns c =

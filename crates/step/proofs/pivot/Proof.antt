@@ -1,5 +1,5 @@
 -- `step::pivot` meets its contract. The search from part i on finds what the whole search finds.
-use Prim.Native.Nat.{_-_, _*_, _≤_, _<_}
+use Prim.Native.Nat.{suc, _-_, _*_, _≤_, _<_}
 use mathlib.Core.Path.{_≡_, sym, _∙_}
 use native.Mathlib.Omega.{arith}
 use lib.ListN.{length}
@@ -26,11 +26,11 @@ loop-holds c =
 
 -- what the calls of a turn answer is whether the part can move
 here : (c : tie.After-moves Inv-loop μ-loop) →
-    let turn = c .before .before .before .before .before .before .before .before .before .before in
+    let turn = c .before .before .before .before .before .before .before .before in
     let start = turn .before .before .before in
     c .moves .result ≡ canMove (start .args .upper .now) (start .args .total) (start .args .parts .now) (turn .loop .i)
 here c =
-    let part = c .before .before .before .before .before in
+    let part = c .before .before .before in
     let bound = part .before .before in
     let turn = bound .before .before .before in
     let start = turn .before .before .before in
@@ -43,38 +43,38 @@ here c =
     (turn .loop .sum)
     (bound .wide .result)
     (part .wide2 .result)
-    (c .before .before .before .before .over .result)
-    (c .before .before .before .over2 .result)
-    (c .before .before .lesser .result)
+    (c .before .before .over .result)
     (c .before .is-odd .result)
     (c .moves .result)
     (turn .loop .inv .2)
     (turn .loop .inv .3)
     (bound .wide .ensures .0)
     (part .wide2 .ensures .0)
-    (c .before .before .before .before .over .ensures)
-    (c .before .before .before .over2 .ensures)
-    (c .before .before .lesser .ensures)
+    (c .before .before .over .ensures)
     (c .before .is-odd .ensures)
     (c .moves .ensures)
 
 returns : tie.Need-returns Inv-loop μ-loop
 returns c =
-    let part = c .before .before .before .before .before .before in
+    let odd = c .before .before in
+    let part = odd .before .before in
     let turn = part .before .before .before .before .before in
     let start = turn .before .before .before in
     let inside : turn .loop .i < length (start .args .upper .now) = omega (arith, part .before .before .before .before .loop-test .taken) in
+    let right : odd .before .over .result ≡ start .args .total - sumTo (start .args .parts .now) (suc (turn .loop .i)) =
+    odd .before .over .ensures ∙ omega (arith, part .wide2 .ensures) in
     record {
       first = moving-stop _ _ _ (turn .loop .i) inside (sym (here (c .before)) ∙ c .if1 .taken) ∙ turn .loop .inv .6;
       left = turn .loop .inv .2;
       small = turn .loop .inv .4;
       sum = λ l. omega (arith, part .wide2 .ensures);
-      right = λ l. c .before .before .before .before .before .over .ensures ∙ (omega (arith, part .wide2 .ensures));
+      right = λ l. right;
+      way = λ l. odd .is-odd .ensures ∙ rw right;
     }
 
 loop-again : tie.Need-loop-again Inv-loop μ-loop
 loop-again c =
-    let part = c .before .before .before .before .before .before in
+    let part = c .before .before .before .before in
     let bound = part .before .before in
     let turn = bound .before .before .before in
     let start = turn .before .before .before in
@@ -100,6 +100,7 @@ returns-2 c =
       small = turn .loop .inv .4;
       sum = λ l. absurd (omega arith);
       right = λ l. absurd (omega arith);
+      way = λ l. absurd (omega arith);
     }
 
 pub pivot-spec : {M : Type 1} → statement M
@@ -117,9 +118,9 @@ pivot-spec =
     (λ c κs. search needs)
     (λ c κs. search needs)
     (λ c κs. search needs)
-    (λ c κs. search needs)
-    (λ c κs. search needs)
+    (λ c. search needs)
     returns
+    (λ c. search needs)
     (λ c. search needs)
     (λ c. search needs)
     (λ c. search needs)

@@ -66,7 +66,7 @@ returns-2 c =
       running = new .2;
       next = λ k some l is.
           rw (new .0, new .1) (two-parts h wide)
-          ∙ turn-next (a .upper .now) (a .total) k some l (stored-at ended ∙ is) (t .turn-from .ensures);
+          ∙ turn-next (a .upper .now) (a .total) k some l (stored-at ended ∙ is) (t .turn-from .ensures .0);
     }
 
 pub onward-spec : {M : Type 1} → statement M

@@ -1,13 +1,13 @@
--- `lines::put_pair` meets its contract.
+-- `lines::put_two` meets its contract.
 use native.Mathlib.Omega.{arith}
 use lib.ListN.{length-set}
 use borrow.Author.Needs.{needs}
 use Rattle.lines.proofs.Appends.{two}
-use Rattle.lines.proofs.put_pair.Statement.{statement}
-use Rattle.lines.proofs.put_pair.Tie as tie
+use Rattle.lines.proofs.put_two.Statement.{statement}
+use Rattle.lines.proofs.put_two.Tie as tie
 
-pub put-pair-spec : {M : Type 1} → statement M
-put-pair-spec =
+pub put-two-spec : {M : Type 1} → statement M
+put-two-spec =
     tie.close
     (tie.spec
     (λ c. search needs)
