@@ -81,11 +81,11 @@ module _ (ms g : List ℕ) where
   other-last i rem t e = rw e
 
 -- "g1 is then r minus the rest"
-pub refill-end : (ms g : List ℕ) (i rem t : ℕ) → i ≡ 1 → 0 < length g → rem ≤ sumTo ms i → set g 0 rem ≡ firstOf ms i rem t ++ drop i g
+pub leftover-part : (ms g : List ℕ) (i rem t : ℕ) → i ≡ 1 → 0 < length g → rem ≤ sumTo ms i → set g 0 rem ≡ firstOf ms i rem t ++ drop i g
 unfolding firstOf
-refill-end ms (x ∷ g) i rem t e some fits = rw e (ap (λ (v : ℕ). v ∷ g) (go (isOdd t)))
+leftover-part ms (x ∷ g) i rem t e some fits = rw e (ap (λ (v : ℕ). v ∷ g) (go (isOdd t)))
   where
     go : (b : Bool) → rem ≡ firstValue (rem - 0) (min (getD ms 0 0) rem) b
     go true = omega (arith, rw e at fits)
     go false = omega arith
-refill-end ms [] i rem t e some fits = absurd (omega arith)
+leftover-part ms [] i rem t e some fits = absurd (omega arith)

@@ -24,7 +24,7 @@ use Rattle.step.specs.Batch.{copiesOf}
 use Rattle.step.specs.Turn.{Begins}
 use Rattle.step.specs.declared.PivotSums.{PivotSums}
 use Rattle.step.specs.declared.batch.Run.{Run}
-use Rattle.step.proofs.Others.{sum-one, refill-end}
+use Rattle.step.proofs.Others.{sum-one, leftover-part}
 use Rattle.step.proofs.Pivots.{can-here, moving-on}
 use Rattle.step.proofs.Turns.{first-stays, part-moves, upTo}
 use Rattle.step.proofs.Ways.{moving}
@@ -149,7 +149,7 @@ unfolding stepAt
 step-one ms r a b rest u eu fits =
     let rem : ℕ = sumTo (a ∷ b ∷ rest) 2 in
     let sum : rem - u ≡ a + b - u = omega arith in
-    rw (← eu) (sym (refill-end ms (0 ∷ u ∷ rest) 1 (rem - u) (r - rem + u) refl (omega arith) fits) ∙ ap (λ (v : ℕ). v ∷ u ∷ rest) sum)
+    rw (← eu) (sym (leftover-part ms (0 ∷ u ∷ rest) 1 (rem - u) (r - rem + u) refl (omega arith) fits) ∙ ap (λ (v : ℕ). v ∷ u ∷ rest) sum)
 
 -- part 1 of the composition of a run can move, or cannot
 module _ (ms : List ℕ) (r : ℕ) (x : Run) (parts : List ℕ) (run : Running ms r x) where

@@ -17,7 +17,7 @@ use Rattle.walsh.proofs.Cases.{on-test}
 use Rattle.walsh.proofs.Ends.{length-first}
 use Rattle.walsh.proofs.Gray.{step-neighbours}
 use Rattle.step.specs.Advance.{nextAt, restAt, otherOf, tradeAt}
-use Rattle.step.proofs.Others.{drop-set, first-small, refill-end}
+use Rattle.step.proofs.Others.{drop-set, first-small, leftover-part}
 
 -- two lists that differ at part k at most
 set-one : (g h : List ℕ) (k : ℕ) → k < length g → length g ≡ length h → ((i : ℕ) → (i ≡ k → ⊥) → getD h i 0 ≡ getD g i 0)
@@ -34,7 +34,7 @@ module _ (ms : List ℕ) where
       → ((i : ℕ) → (i ≡ j → ⊥) → getD (firstOf ms (suc k) rem t ++ d) i 0 ≡ getD g i 0)
       → set g (otherOf ms g k rem t .part - 1) (otherOf ms g k rem t .value) ≡ firstOf ms (suc k) rem t ++ d
   unfolding otherOf firstOf
-  settles zero rem t g d j l e fits same = refill-end ms g 1 rem t refl l fits ∙ rw e
+  settles zero rem t g d j l e fits same = leftover-part ms g 1 rem t refl l fits ∙ rw e
   settles (suc k) rem t g d j l e fits same =
       on-test (eqb v (getD g (suc k) 0))
       (λ q. rw q (settles k (rem - v) (t + v) g (v ∷ d) j (omega arith) (behind (eqb-true v (getD g (suc k) 0) q)) left (λ i n. rw (← split) (same i n)) ∙ sym split))
