@@ -1,6 +1,7 @@
 // An edition with its number N (document 01, "Editions and their number"): the checks 1 to 5, of lent bounds and of a record that nobody has checked.
 ghost use mathlib.Core.Path.{_≡_};
 ghost use mathlib.Core.Bool.{true};
+ghost use mathlib.Core.List.{List};
 ghost use Prim.Native.Nat.{ℕ, _*_, _≤_, _<_};
 ghost use lib.ListN.{length};
 ghost use Rattle.bounds.specs.Refusal.{firstRefusal};
@@ -16,9 +17,6 @@ pub mod row;
 
 // 2^55: a smaller number times 256 is within the limit.
 const SMALL: u64 = 36_028_797_018_963_968;
-
-// The largest sum whose compositions into 24 parts, without bounds, are within the limit: there are 8,249,183,865,278,257,824.
-const FREE: usize = 51;
 
 // An accepted edition and N, or the refusal, with all else 0.
 #[repr(C)]
@@ -97,6 +95,15 @@ fn few_values(upper: &[u8], most: usize) -> usize
     k
 }
 
+// A sum whose compositions into up to n parts are within the limit whatever the bounds, as those of smaller sums are: 51 for 24 parts, and 3, 4, 5, ..
+// more for each part fewer. From 18 parts on it is the largest.
+fn free_sum(n: usize) -> usize
+    requires { ⌜ n ≤ 24 ⌝ }
+    ensures { λ r. ⌜ ((ms : List ℕ) → (k : ℕ) → k ≤ n → UpTo ms r k) ⌝ }
+{
+    399 - n * (53 - n) / 2
+}
+
 // Of how many first parts a bound that costs nothing says that every number of the band is within the limit. There are as many compositions of the
 // total as of what it leaves of the bounds' sum `all` (each part taken from its bound), so the smaller of the two counts.
 fn few_parts(upper: &[u8], total: usize, all: usize) -> usize
@@ -104,7 +111,7 @@ fn few_parts(upper: &[u8], total: usize, all: usize) -> usize
     ensures { λ r. ⌜ (r ≤ length (now (upper .entry))) × ((k : ℕ) → k ≤ r → Within (now (upper .entry)) total k) ⌝ }
 {
     let smaller = walsh::lesser(total, all - total);
-    if smaller <= FREE {
+    if smaller <= free_sum(upper.len()) {
         return upper.len();
     }
     few_values(upper, smaller)
