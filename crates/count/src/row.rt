@@ -70,7 +70,7 @@ fn top(upper: &[u8], total: usize, part: Part, cells: &[u64], careful: bool) -> 
     requires { ⌜ Passing (now upper) total part × (length (now cells) ≡ 256)
         × Row-counts (now upper) total (now cells) (part .k) 0 256 × (careful ≡ false → Within (now upper) total (part .k + 1)) ⌝ }
     ensures { λ r. ⌜ (r < cap → Slid (now (upper .entry)) total (part .k) (part .next .high + 1) r)
-        × (cap ≤ r → cap ≤ count (now (upper .entry)) (length (now (upper .entry))) total) ⌝ }
+        × (cap ≤ r → cap ≤ count (now (upper .entry)) (length (now (upper .entry))) total) × (careful ≡ false → r < cap) ⌝ }
 {
     let row = part.row;
     let next = part.next;
@@ -128,7 +128,7 @@ fn fall(
     requires { ⌜ Passing (now upper) total part × Stretch (part .row) (part .next) (part .m) (at .t) end enters leaves
         × Passed (now upper) total (part .k) (at .t) (at .window) (now cells) × (careful ≡ false → Within (now upper) total (part .k + 1)) ⌝ }
     ensures { λ r. ⌜ (r .window < cap → (r .t ≡ min (at .t) end) × Passed (now (upper .entry)) total (part .k) (r .t) (r .window) (now (cells .exit)))
-        × (cap ≤ r .window → cap ≤ count (now (upper .entry)) (length (now (upper .entry))) total) ⌝ }
+        × (cap ≤ r .window → cap ≤ count (now (upper .entry)) (length (now (upper .entry))) total) × (careful ≡ false → r .window < cap) ⌝ }
 {
     let mut w = at.window;
     let mut t = at.t;
@@ -178,7 +178,7 @@ fn pass(upper: &[u8], total: usize, part: Part, cells: &mut [u64], careful: bool
         × (r ≡ false → cap ≤ count (now (upper .entry)) (length (now (upper .entry))) total) ⌝ }
 {
     let w = top(upper, total, part, cells, careful);
-    if LIMIT < w {
+    if is_over(w, careful) {
         return false;
     }
     let s = stretches_of(part);
@@ -187,17 +187,17 @@ fn pass(upper: &[u8], total: usize, part: Part, cells: &mut [u64], careful: bool
         window: w,
     };
     let at = fall(upper, total, part, cells, at, s.first, true, false, careful);
-    if LIMIT < at.window {
+    if is_over(at.window, careful) {
         return false;
     }
     let both = s.both;
     let at = fall(upper, total, part, cells, at, s.second, both, both, careful);
-    if LIMIT < at.window {
+    if is_over(at.window, careful) {
         return false;
     }
     let low = part.next.low;
     let at = fall(upper, total, part, cells, at, low, false, true, careful);
-    at.window <= LIMIT
+    !is_over(at.window, careful)
 }
 
 // The number of compositions, or 2^63 where that is less. Numbers are looked at only from the first row on that `few_parts` does not bound.

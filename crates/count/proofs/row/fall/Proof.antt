@@ -108,8 +108,10 @@ less l e = omega arith
 
 returns : tie.Need-returns Inv-loop μ-loop
 returns c =
+    let s = start (c .before .before .before .before .before .before .before) in
     let o = c .before .is-over .ensures .0 (c .if1 .taken) in
-    (λ h. absurd (omega (arith, h, o)), moved-at (c .before .before) .over)
+    let v = moved-at (c .before .before) in
+    (λ h. absurd (omega (arith, h, o)), v .over, λ e. v .within (s .pre .3 e))
 
 loop-again : tie.Need-loop-again Inv-loop μ-loop
 loop-again c =
@@ -130,8 +132,11 @@ is-min a b c = omega arith
 
 returns-2 : tie.Need-returns-2 Inv-loop μ-loop
 returns-2 c =
-    let l = c .before .loop in
-    (λ h. (is-min (l .inv .0) (l .inv .1) (c .loop-test .left), l .inv .2), λ h. absurd (omega (arith, h, l .inv .2 .small)))
+    let l = c .before .loop in (
+      λ h. (is-min (l .inv .0) (l .inv .1) (c .loop-test .left), l .inv .2),
+      λ h. absurd (omega (arith, h, l .inv .2 .small)),
+      λ h. l .inv .2 .small,
+    )
 
 pub fall-spec : {M : Type 1} → statement M
 fall-spec =

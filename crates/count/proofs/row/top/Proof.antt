@@ -90,8 +90,10 @@ within-at c =
 
 returns : tie.Need-returns Inv-loop μ-loop
 returns c =
+    let s = c .before .before .before .before .before .before .before .before .before .before .before .before .before in
     let o = c .before .is-over .ensures .0 (c .if1 .taken) in
-    (λ h. absurd (omega (arith, h, o)), within-at (c .before .before) .1)
+    let v = within-at (c .before .before) in
+    (λ h. absurd (omega (arith, h, o)), v .1, λ e. v .0 (s .pre .3 e))
 
 loop-again : tie.Need-loop-again Inv-loop μ-loop
 loop-again c =
@@ -108,7 +110,8 @@ returns-2 c =
     let l = c .before .loop in
     let f = count (now (a .upper)) (a .part .k) in
     let e = l .inv .3 ∙ sum-at f _ _ (le-antisymm (l .inv .1) (c .loop-test .left)) in
-    (λ h. top-slid (now (a .upper)) (a .total) (a .part) (s .pre .0) _ _ (first-is (c .before .before)) e, λ h. absurd (omega (arith, h, l .inv .2)))
+    let slid = top-slid (now (a .upper)) (a .total) (a .part) (s .pre .0) _ _ (first-is (c .before .before)) e in
+    (λ h. slid, λ h. absurd (omega (arith, h, l .inv .2)), λ h. l .inv .2)
 
 pub top-spec : {M : Type 1} → statement M
 top-spec =
