@@ -19,6 +19,17 @@ impl Random {
         self.next() % n
     }
 
+    /// In some editions bounds of 0: before a part, from it on, or now and then.
+    fn withdraw(&mut self, upper: &mut [u8]) {
+        let at = self.below(upper.len() as u64 + 1) as usize;
+        match self.below(9) {
+            0 => upper[..at].fill(0),
+            1 => upper[at..].fill(0),
+            2 | 3 => upper.iter_mut().for_each(|m| *m *= (self.below(3) > 0) as u8),
+            _ => {}
+        }
+    }
+
     /// Mostly an edition that is accepted or whose N is over the limit.
     fn edition(&mut self) -> (Vec<u8>, u32) {
         let n = [1, 2, 3, 11, 15, 16, 20, 24, 24, 25][self.below(10) as usize];
@@ -27,6 +38,7 @@ impl Random {
         if self.below(20) == 0 {
             upper[0] = [0, 61, 255][self.below(3) as usize];
         }
+        self.withdraw(&mut upper);
         let all: u64 = upper.iter().map(|&m| m as u64).sum();
         let total = [self.below(all + 2), all - self.below(all + 1).min(9), self.below(60), self.below(300)][self.below(4) as usize];
         (upper, total as u32)

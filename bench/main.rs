@@ -73,24 +73,41 @@ fn counts(table: &mut Table, e: &Edition) {
     table.row(&format!("count: {}", e.name), beside(ours, theirs));
 }
 
-fn serials(table: &mut Table, e: &Edition) {
+/// Of a function with a row for the same work done in another way too: whether that is printed.
+#[derive(Clone, Copy, PartialEq)]
+enum Rows {
+    Both,
+    First,
+}
+
+fn unranks(table: &mut Table, e: &Edition, rows: Rows) {
     let (u, r, n) = (&e.upper, e.total, e.upper.len());
-    let (serials, given) = (e.serials(), e.compositions());
+    let serials = e.serials();
     let (mut a, mut b) = (vec![0; n], vec![0; n]);
-    for (s, g) in serials.iter().zip(&given) {
-        assert_eq!(engine::unrank(u, r, *s, &mut a).number, 0);
-        assert_eq!((&a, engine::rank(u, r, g)), (g, peer::rank::<false>(u, r, g)));
+    for (s, g) in serials.iter().zip(&e.compositions()) {
+        assert_eq!((engine::unrank(u, r, *s, &mut a).number, &a), (0, g));
     }
     let serial = |i: usize| black_box(serials[i % INPUTS as usize]);
     let mut ours = |i| seen(engine::unrank(u, r, serial(i), &mut a));
     let theirs = |i| seen(peer::unrank::<false>(u, r, serial(i), &mut b));
     table.row(&format!("unrank: {}", e.name), beside(&mut ours, theirs));
-    let cleared = |i| seen(peer::unrank::<true>(u, r, serial(i), &mut b));
-    table.row("  the same, the peer's table cleared first", beside(&mut ours, cleared));
+    if rows == Rows::Both {
+        let cleared = |i| seen(peer::unrank::<true>(u, r, serial(i), &mut b));
+        table.row("  the same, the peer's table cleared first", beside(&mut ours, cleared));
+    }
+}
+
+fn ranks(table: &mut Table, e: &Edition, rows: Rows) {
+    let (u, r, given) = (&e.upper, e.total, e.compositions());
+    for g in &given {
+        assert_eq!(engine::rank(u, r, g), peer::rank::<false>(u, r, g));
+    }
     let ours = |i| seen(engine::rank(u, r, at(&given, i)));
     table.row(&format!("rank: {}", e.name), beside(ours, |i| seen(peer::rank::<false>(u, r, at(&given, i)))));
-    let cleared = |i| seen(peer::rank::<true>(u, r, at(&given, i)));
-    table.row("  the same, the peer's table cleared first", beside(ours, cleared));
+    if rows == Rows::Both {
+        let cleared = |i| seen(peer::rank::<true>(u, r, at(&given, i)));
+        table.row("  the same, the peer's table cleared first", beside(ours, cleared));
+    }
 }
 
 /// A rank of parts with another sum, and an unrank into a part of another length.
@@ -114,20 +131,25 @@ fn refusals(table: &mut Table, e: &Edition) {
     table.row(&format!("unrank, refused 13: {}", e.name), beside(ours, theirs));
 }
 
-fn steps(table: &mut Table, e: &Edition) {
-    let (u, r) = (&e.upper, e.total);
-    let given = e.compositions();
+fn successors(table: &mut Table, e: &Edition) {
+    let (u, r, given) = (&e.upper, e.total, e.compositions());
     for g in &given {
         assert_eq!(engine::successor(u, r, g), peer::successor(u, r, g));
-        assert_eq!(engine::predecessor(u, r, g), peer::predecessor(u, r, g));
     }
     let ours = |i| seen(engine::successor(u, r, at(&given, i)));
     table.row(&format!("successor: {}", e.name), beside(ours, |i| seen(peer::successor(u, r, at(&given, i)))));
+}
+
+fn predecessors(table: &mut Table, e: &Edition) {
+    let (u, r, given) = (&e.upper, e.total, e.compositions());
+    for g in &given {
+        assert_eq!(engine::predecessor(u, r, g), peer::predecessor(u, r, g));
+    }
     let ours = |i| seen(engine::predecessor(u, r, at(&given, i)));
     table.row(&format!("predecessor: {}", e.name), beside(ours, |i| seen(peer::predecessor(u, r, at(&given, i)))));
 }
 
-fn batches(table: &mut Table, e: &Edition, copies: u64, name: &str) {
+fn batches(table: &mut Table, e: &Edition, copies: u64, name: &str, rows: Rows) {
     let (u, r, n) = (&e.upper, e.total, e.upper.len());
     let serial = 1 + (e.count - copies) / 3;
     let (mut a, mut b) = (vec![1; n * copies as usize], vec![2; n * copies as usize]);
@@ -136,8 +158,10 @@ fn batches(table: &mut Table, e: &Edition, copies: u64, name: &str) {
     let mut ours = |_| seen(engine::batch(u, r, serial, copies, &mut a));
     let theirs = |_| seen(peer::batch::<true>(u, r, serial, copies, &mut b));
     table.row(&format!("batch of {name}: {}", e.name), beside(&mut ours, theirs));
-    let narrow = |_| seen(peer::batch::<false>(u, r, serial, copies, &mut b));
-    table.row("  the same, the peer copies no byte too many", beside(&mut ours, narrow));
+    if rows == Rows::Both {
+        let narrow = |_| seen(peer::batch::<false>(u, r, serial, copies, &mut b));
+        table.row("  the same, the peer copies no byte too many", beside(&mut ours, narrow));
+    }
 }
 
 fn permutations(table: &mut Table, e: &Edition) {
@@ -182,6 +206,7 @@ fn conversions(table: &mut Table) {
     let six = edition("24 x 6, total 72", vec![6; 24], 72);
     let ten = edition("24 x 10, total 239", vec![10; 24], 239);
     let five = edition("24 x 5, total 60", vec![5; 24], 60);
+    let twenty = edition("20 x 6, total 60", vec![6; 20], 60);
     let twelve = edition("12 sheets, 33 inversions", stairs(11), 33);
     let sheets = edition("25 sheets, 57 inversions", stairs(24), 57);
     let few = edition("25 sheets, 8 inversions", stairs(24), 8);
@@ -189,21 +214,44 @@ fn conversions(table: &mut Table) {
         counts(table, e);
     }
     for e in [&six, &twelve] {
-        serials(table, e);
+        unranks(table, e, Rows::Both);
+        ranks(table, e, Rows::Both);
     }
     for e in [&six, &twelve] {
         refusals(table, e);
     }
-    for e in [&twelve, &five, &ten, &six] {
-        steps(table, e);
+    for e in [&twelve, &five, &twenty, &ten, &six] {
+        successors(table, e);
+        predecessors(table, e);
     }
     for e in [&six, &twelve] {
-        batches(table, e, 1_000_000, "a million");
+        batches(table, e, 1_000_000, "a million", Rows::Both);
     }
-    batches(table, &six, 1_000, "a thousand");
+    let front = edition("12 sheets, 33 inversions, behind four withdrawn", four_zeros(&twelve.upper), 33);
+    let second = edition("12 sheets, 33 inversions, one withdrawn after the first", [&[11, 0], &twelve.upper[1..]].concat(), 33);
+    for e in [&front, &second] {
+        batches(table, e, 1_000_000, "a million", Rows::First);
+    }
+    batches(table, &six, 1_000, "a thousand", Rows::Both);
     for e in [&few, &sheets, &twelve] {
         permutations(table, e);
     }
+}
+
+/// The rows of an edition behind four withdrawn kinds, each after that of the edition without them.
+fn withdrawn(table: &mut Table) {
+    let five = edition("20 x 5, total 50", vec![5; 20], 50);
+    let behind = edition("20 x 5, total 50, behind four withdrawn", four_zeros(&five.upper), 50);
+    let both = [&five, &behind];
+    both.iter().for_each(|e| counts(table, e));
+    both.iter().for_each(|e| unranks(table, e, Rows::First));
+    both.iter().for_each(|e| ranks(table, e, Rows::First));
+    both.iter().for_each(|e| successors(table, e));
+    both.iter().for_each(|e| batches(table, e, 1_000_000, "a million", Rows::First));
+}
+
+fn four_zeros(upper: &[u8]) -> Vec<u8> {
+    [&[0; 4], upper].concat()
 }
 
 fn main() {
@@ -212,6 +260,7 @@ fn main() {
     agree::check(20_000);
     let mut table = Table::new("Rust");
     conversions(&mut table);
+    withdrawn(&mut table);
     let million = edition("8 kinds, N = 1000000", vec![5, 4, 11, 6, 13, 2, 20, 18], 29);
     let mut upper = vec![1; 12];
     upper.extend([2, 3, 3, 3, 3, 5, 60, 60, 60, 60, 60, 60]);

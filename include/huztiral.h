@@ -20,14 +20,14 @@
 extern "C" {
 #endif
 
-#define HUZ_VERSION 1000 /* of this header, 0.10.0: major * 10000 + minor * 100 + patch */
+#define HUZ_VERSION 1100 /* of this header, 0.11.0: major * 10000 + minor * 100 + patch */
 #define HUZ_PARTS 24 /* the most kinds of an edition; the arrays in the structures have as many cells, and those past n are 0 */
 
 /* The numbers of answers: what each means, and its detail where that is not 0. */
 enum huz_number {
     HUZ_ACCEPTED = 0,              /* the call is accepted */
     HUZ_PARTS_OUT_OF_RANGE = 1,    /* the edition has no kinds, or more than 24 */
-    HUZ_UPPER_OUT_OF_RANGE = 2,    /* a ceiling is outside 1 to 60; detail: the first such kind, from 1 */
+    HUZ_UPPER_OUT_OF_RANGE = 2,    /* a ceiling is over 60; detail: the first such kind, from 1 */
     HUZ_TOTAL_OUT_OF_RANGE = 3,    /* the total is over 255 */
     HUZ_TOTAL_ABOVE_SUM = 4,       /* the total is over the sum of the ceilings */
     HUZ_COUNT_TOO_LARGE = 5,       /* the edition has more than 9,223,372,036,854,775,807 mixes */
@@ -136,7 +136,8 @@ typedef struct {
 uint32_t huz_version(void);
 
 /* Editions, serials and mixes. `upper`, `parts` and `total` are the edition: its ceilings, how many they are (n), and the
- * total. Refusals are named in the order in which they are checked. */
+ * total. A ceiling of 0 is that of a kind withdrawn after the artwork is fixed: the kinds keep their numbers, each mix has
+ * 0 there, and the order is that of the edition without it. Refusals are named in the order in which they are checked. */
 
 /* Checks an edition: its record and its number of mixes, N. Refusals: 1 to 5. */
 huz_checked huz_check(const uint8_t *upper, size_t parts, uint32_t total);

@@ -4,8 +4,8 @@
     python3 tests/differential.py [--rounds ROUNDS] [--seed SEED] [--seconds SECONDS]
 
 Every lent part has guard bytes around it and is compared whole after each call. After SECONDS no further round begins, but for the FLOOR that has to
-be run. The test fails on any difference, and where an answer that a function can give (reference.ANSWERS) has not come up. The last line is
-`differential: N cases, 0 differences`.
+be run. The test fails on any difference, and where an answer that a function can give (reference.ANSWERS) has not come up, or has not with a kind
+withdrawn (reference.WITHDRAWN). The last line is `differential: N cases, 0 differences`.
 """
 import argparse
 import random
@@ -20,15 +20,15 @@ from lent import Lent, LentRecord, Null, call, flat, huztiral, ledger_of
 FILL = 170
 FLOOR = 150  # rounds
 cases = Counter()
-came_up = Counter()  # by function and number
+came_up = Counter()  # by function, number, and whether a kind is withdrawn
 differences = []
 
 
 def compare(name, given, answer, expected, *parts):
-    """one case; parts are lent parts with what they have to hold"""
+    """one case; of a function's, `given` begins with the ceilings; parts are lent parts with what they have to hold"""
     cases[name] += 1
     if name in ref.ANSWERS:
-        came_up[name, expected[0]] += 1
+        came_up[name, expected[0], 0 in given[0]] += 1
     if answer != expected:
         differences.append(f"{name} {given}: {answer}, expected {expected}")
     for lent, values in parts:
@@ -105,7 +105,7 @@ def on_record(rng, record, column, name, *arguments):
     """one call; a take or a spoil by value and on a lent record"""
     lent = lend(rng, column, 4)
     answer, record_after, column_after = ref.call(record, column, name, arguments)
-    given = (record, column[:40], arguments)
+    given = (record[1][:record[0]], record, column[:40], arguments)
     function = CALLS[name]
     got = call(function, ledger_of(record), lent, *arguments)
     compare(function, given, got, answer if name == "look" else (*answer, *record_after), (lent, column_after))
@@ -154,7 +154,7 @@ def agree(running, paper, name, arguments, given):
     expected, before = getattr(paper, name)(*arguments), running.place.raw()
     got, function = running.call(name, *arguments)
     state = ref.record_of(paper.ms, paper.r, paper.lines)
-    compare(function, (given, len(paper.lines), arguments), (*got, *flat(running.place.ledger)), (*expected, *state),
+    compare(function, (*given, len(paper.lines), arguments), (*got, *flat(running.place.ledger)), (*expected, *state),
             (running.column, paper.lines + running.values[len(paper.lines):]), (running.place, before if expected[0] or name == "look" else None))
     return expected
 
@@ -238,10 +238,41 @@ def copies_of_the_document():
     register = edition([1, 1], 1).open()
     compare("document", "J", (register.void(1), refused(register.claim, 1, 1007)), ((1, [1, 0]), (18, 0)))
     compare("document", "N", (edition(range(11, 0, -1), 33).count, edition([10] * 24, 239).count), (25598186, 24))
-    for ms, r in ((2, 2, 2), 3), ((3, 2, 1), 3), ((4, 1, 2, 3, 1), 6), ((1,) * 9, 4), ((2, 5, 3), 5):  # the reference is at one with its own listing
+
+
+def a_tile_withdrawn():
+    """request (ii)"""
+    edition = huztiral.Edition
+    seven = [[g[0], 0, *g[1:]] for g in edition([2, 2, 2], 3).batch(1, 7)]
+    gap = edition([2, 0, 2, 2], 3)
+    compare("document", "2 0 2 2", (gap.count, gap.batch(1, 7), [gap.rank(g) for g in seven]), (7, seven, [1, 2, 3, 4, 5, 6, 7]))
+    compare("document", "its pairs", [gap.successor(g)[1:] for g in seven[:-1]], [(3, 1), (4, 1), (1, 3), (1, 3), (4, 1), (3, 1)])
+    for zeros in [0], [0] * 2, [0] * 24:
+        none, register = edition(zeros, 0), edition(zeros, 0).open()
+        compare("document", zeros, (none.count, none.unrank(1), none.rank(zeros), refused(none.successor, zeros), refused(none.predecessor, zeros)),
+                (1, zeros, 1, (9, 0), (9, 0)))
+        compare("document", zeros, (register.peek(), register.claim(1, 1007), refused(register.peek), register.entries(), refused(edition, zeros, 1)),
+                ((1, zeros, 0, 0), (1, zeros), (21, 0), [1007], (4, 0)))
+    for ms, r, refusal in ([0, 61], 1, (2, 2)), ([1, 0, 61], 256, (2, 3)), ([1] * 24 + [0], 3, (1, 0)), ([0] * 25, 0, (1, 0)):
+        compare("document", (ms, r), refused(edition, ms, r), refusal)
+    for ms in [2, 1, 0], [2, 0, 1], [0, 2, 1], [0]:
+        e = edition(ms, sum(ms) // 2)
+        orders = e.unrank(1), [2, 1, 3], [2, 1, 3, 4]
+        compare("document", ms, [refused(f, p) for f in (e.permutation, e.inversions) for p in orders], [(10, 0)] * 6)
+    # a record in which n was damaged upwards, over cells that are 0, is that of the edition with kinds withdrawn behind
+    for n, number in (3, 0), (4, 0), (24, 0), (2, 16), (25, 16), (0, 16):
+        record = (n, *ref.record_of((2, 2, 2), 3, [1007, 0])[1:])
+        compare("document", (n, "kinds"), call("huz_peek", ledger_of(record), Lent([1007, 0] + [7] * 5, 4))[0], number)
+
+
+def the_reference():
+    """it is at one with its own listing, and the rule of document 01, read with ceilings of 0, gives the same"""
+    for ms, r in ((2, 2, 2), 3), ((3, 2, 1), 3), ((4, 1, 2, 3, 1), 6), ((1,) * 9, 4), ((2, 5, 3), 5), *inputs.WITHDRAWN:
         n = ref.number(ms, r)
-        compare("document", (ms, r), [ref.mix_at(ms, r, s) for s in range(1, n + 1)], list(ref.listing(ms, r)))
-        compare("document", (ms, r), [ref.serial_of(ms, r, g) for g in ref.listing(ms, r)], list(range(1, n + 1)))
+        if inputs.accepted(ms, r) and n < 2000:
+            compare("reference", (ms, r), [ref.mix_at(ms, r, s) for s in range(1, n + 1)], list(ref.listing(ms, r)))
+            compare("reference", (ms, r), [ref.serial_of(ms, r, g) for g in ref.listing(ms, r)], list(range(1, n + 1)))
+            compare("reference", (ms, r), list(ref.walk(ms, r)), list(ref.listing(ms, r)))
 
 
 def refused(function, *arguments):
@@ -288,6 +319,15 @@ def whole_edition(rng):
         step(rng, ms, r, bytes(mix))
 
 
+def full_tray(rng):
+    """some copies of an accepted edition, or all from a serial on"""
+    ms, r = inputs.sound(rng)
+    n = ref.number(ms, r)
+    serial = rng.choice((1, rng.randint(1, n), rng.randint(1, n), max(1, n - 20)))
+    copies = min(n - serial + 1, rng.randint(1, 60))
+    batch(rng, ms, r, serial, copies, copies * len(ms))
+
+
 def round_of(rng):
     for _ in range(40):
         ms, r = inputs.any_edition(rng)
@@ -302,21 +342,28 @@ def round_of(rng):
         opening(rng, *inputs.opening(rng))
     for _ in range(40):
         any_call(rng)
+    for _ in range(5):
+        full_tray(rng)
     whole_edition(rng)
     interleaving(rng)
 
 
+KINDS, WORDS = {False: ref.ANSWERS, True: ref.WITHDRAWN}, {False: " with all kinds", True: " with a kind withdrawn"}
+
+
 def missing():
-    """what keeps the test from passing though nothing differs: a pair that has not come up, or one that the header does not name"""
-    for name, numbers in ref.ANSWERS.items():
-        yield from (f"{name} has not answered {number}" for number in numbers if not came_up[name, number])
-    yield from (f"{name} is not expected to answer {number}" for name, number in came_up if number not in ref.ANSWERS[name])
+    """what keeps the test from passing though nothing differs: an answer that has not come up, or one that the header does not name"""
+    for where, answers in KINDS.items():
+        for name, numbers in answers.items():
+            yield from (f"{name} has not answered {number}{WORDS[where]}" for number in numbers if not came_up[name, number, where])
+    yield from (f"{name} is not expected to answer {number}{WORDS[where]}" for name, number, where in came_up if number not in KINDS[where][name])
 
 
 def report(rounds):
     print(f"{rounds} rounds;", ", ".join(f"{name} {count}" for name, count in sorted(cases.items())))
-    for name, numbers in ref.ANSWERS.items():
-        print(f"{name}: answered", ", ".join(f"{number} {came_up[name, number]} times" for number in numbers))
+    for name in ref.ANSWERS:
+        for where, answers in KINDS.items():
+            print(f"{name}{WORDS[where]}: answered", ", ".join(f"{number} {came_up[name, number, where]} times" for number in answers[name]))
 
 
 def main():
@@ -327,6 +374,8 @@ def main():
     options = parser.parse_args()
     start, rng = time.monotonic(), random.Random(options.seed)
     copies_of_the_document()
+    a_tile_withdrawn()
+    the_reference()
     edges(rng)
     large_register(rng)
     rounds = 0

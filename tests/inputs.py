@@ -11,7 +11,8 @@ def stairs(n):
 def limits():
     """editions on both sides of number 5's limit"""
     found = []
-    for ms in [(m,) * n for n in (16, 20, 24) for m in (3, 6, 10, 20, 60)] + [stairs(n) for n in range(20, 25)]:
+    even = [(m,) * n for n in (16, 20, 24) for m in (3, 6, 10, 20, 60)] + [(0, 0) + (m,) * 20 + (0, 0) for m in (6, 20, 60)]
+    for ms in even + [stairs(n) for n in range(20, 25)] + [(0, *stairs(22)[:9], 0, *stairs(22)[9:])]:
         over = [r for r in range(min(255, sum(ms)) + 1) if ref.number(ms, r) > ref.LIMIT]
         if over:
             found += [(ms, r) for r in (over[0] - 1, over[0], over[-1], over[-1] + 1) if r <= min(255, sum(ms))]
@@ -19,17 +20,33 @@ def limits():
 
 
 LIMITS = limits()
-# editions that document 01 names, and those at the ends of each range
+# editions that the documents name, and those at the ends of each range
 NAMED = [
     ((10,) * 24, 239), (stairs(11), 33), ((5,), 5), ((5,), 6), ((2, 2), 0), ((2, 2), 4), ((2, 2), 5), ((), 0), ((1,) * 25, 3), ((0,), 0),
     ((3, 0, 61), 1), ((60,), 60), ((61,), 1), ((255,), 1), ((2, 2), 255), ((60,) * 5, 255), ((60,) * 5, 256), ((2, 2), 256), ((2, 2), LARGEST >> 32),
     ((1, 0, 61), 256), ((255,) * 25, LARGEST >> 32), ((60,) * 24, 255), ((6,) * 24, 72), ((12,) * 24, 255),
+    ((2, 0, 2, 2), 3), ((0, 0), 0), ((0, 0), 1), ((0, 61), 1), ((1,) * 24 + (0,), 3), ((0,) * 24, 0), ((0,) * 25, 0), ((2, 1, 0), 1), ((2, 0, 1), 1),
 ]
-EDGES = NAMED + [
+# kinds withdrawn, in front, behind, in runs, all but two or one, all: with the totals 0, the sum, one more, and one between
+GAPS = [
+    (0, 2, 1), (0, 0, 0, 3, 2, 4), (3, 2, 4, 0, 0), (1, 0, 0, 0, 2, 0, 0, 3), (0, 4, 0, 0, 60, 3, 0), (2,) + (0,) * 22 + (3,), (0,) * 22 + (60, 60),
+    (5, 3) + (0,) * 22, (0,) * 23 + (60,), (7,) + (0,) * 23, (0,) * 11 + (4,) + (0,) * 12, (0,) * 4 + (6,) * 20, (60,) * 23 + (0,), (0,) * 24,
+]
+WITHDRAWN = [(ms, r) for ms in GAPS for r in sorted({0, min(sum(ms), 6) // 2, min(sum(ms), 255), sum(ms) + 1})]
+EDGES = NAMED + WITHDRAWN + [
     ((), LARGEST >> 32), ((60,) * 4, 240), ((60,) * 4, 241), ((2, 2), 257), ((60,) * 5, 4), ((60,) * 24, 2), ((1,) * 24, 12), ((1,) * 24, 24),
-    ((1,), 0), ((1,), 1), ((60,) * 24, 0), ((60,) * 24, 1), ((0,) * 24, 0), ((1,) * 100, 5), ((60,) * 23 + (61,), 3), ((60,) * 23 + (0,), 3),
-    (stairs(24), 57), (stairs(24), 58), (stairs(24), 242), (stairs(24), 243), (stairs(24), 255),
+    ((1,), 0), ((1,), 1), ((60,) * 24, 0), ((60,) * 24, 1), ((1,) * 100, 5), ((60,) * 23 + (61,), 3), ((0,) * 23 + (61,), 0), ((0,), 256),
+    (stairs(24), 57), (stairs(24), 58), (stairs(24), 242), (stairs(24), 243), (stairs(24), 255), ((0,) * 4 + (6,) * 20, 60), ((0,) * 25, 3),
 ]
+
+
+def withdraw(rng, ms):
+    """the first kinds withdrawn, the last ones, a run, some here and there, all but two, all but one, or all"""
+    n = len(ms)
+    a, b = sorted((rng.randint(0, n), rng.randint(0, n)))
+    run, some, two = [*range(a), *range(b, n)], [k for k in range(n) if rng.random() < 0.7], rng.sample(range(n), min(n, 2))
+    kept = rng.choice((range(a, n), range(a, n), range(b), run, run, some, some, some, two, two, two[:1], ()))
+    return tuple(m if k in kept else 0 for k, m in enumerate(ms))
 
 
 def sound(rng, small=False):
@@ -46,8 +63,10 @@ def sound(rng, small=False):
             ms = stairs(n)[::-1]
         else:
             ms = tuple(rng.randint(1, top) for _ in range(n))
+        if rng.random() < 0.5:
+            ms = withdraw(rng, ms)
         most = min(255, sum(ms))
-        r = rng.choice((rng.randint(0, most), rng.randint(0, most), rng.randint(0, min(most, 8)), most - rng.randint(0, min(most, 4))))
+        r = rng.choice((rng.randint(0, most), rng.randint(0, most), rng.randint(0, min(most, 8)), most - rng.randint(0, min(most, 4)), most // 2))
         if ref.number(ms, r) <= (2000 if small else ref.LIMIT):
             return ms, r
 
@@ -166,8 +185,11 @@ def puzzle(rng):
     n = rng.choice((1, 2, 3, 4, 5, 24, rng.randint(1, 24)))
     ms = list(stairs(n))
     r = rng.choice((rng.randint(0, min(255, sum(ms))), rng.randint(0, min(57, sum(ms)))))
-    if rng.random() < 0.1:
-        ms[rng.randrange(n)] = rng.randint(1, 60)
+    change = rng.random()
+    if change < 0.1:
+        ms[rng.randrange(n)] = rng.randint(0, 60)
+    elif change < 0.2 and n < 24:  # the kinds that are left are a puzzle's
+        ms.insert(rng.randint(0, n), 0)
     return tuple(ms), r
 
 
@@ -189,16 +211,17 @@ def register(rng):
 
 
 def damaged(rng, record, column):
-    """the same with something changed in the record or the column"""
+    """the same with something changed in the record or the column. With another n it may be the record of another edition: a cell past n is 0, and so
+    is a withdrawn kind's."""
     n, upper, r, lines, sold, spoilt, mix = record
     upper, mix, column = list(upper), list(mix), list(column)
     near = lambda x: rng.choice((x + 1, x - 1 if x else LARGEST, 0, LARGEST, x + (1 << 32), 1 << 63))
     field = rng.randrange(14)
     if field == 0:
-        n = rng.choice((0, n - 1, n + 1, 24, 25, 26, 1 << 32, LARGEST, n + (1 << 32)))
+        n = rng.choice((0, n - 1, n + 1, n + 2, rng.randint(n, 24), 24, 25, 26, 1 << 32, LARGEST, n + (1 << 32)))
     elif field == 1:
         at = rng.randrange(n)
-        upper[at] = rng.choice((upper[at] + 1, upper[at] - 1, 0, 61, 255))
+        upper[at] = rng.choice((upper[at] + 1, max(upper[at] - 1, 0), 0, 61, 255))
     elif field == 2:
         upper[rng.randrange(n, 24) if n < 24 else 23] = rng.choice((1, 60, 255))
     elif field == 3:

@@ -1,9 +1,9 @@
 """Lists of ledger calls for crates/vectors, as several workers make them in turn.
 
-The lists are document 01's copies I and J, pools that are used up early or have orders left over, openings that are refused, scripts and buffers that
-do not fit, orders that stand in the column past the lines, the Saturday of copy 212, and interleavings of several workers, each of whom peeks and then
-claims or voids what it saw, at times too late, with an order that stands already, with no order, or with a serial out of nowhere. A list is (ceilings,
-total, column before, script, pool of orders, length of the buffer for the answers).
+The lists are document 01's copies I and J, pools that are used up early or have orders left over, editions with kinds withdrawn, openings that are
+refused, scripts and buffers that do not fit, orders that stand in the column past the lines, the Saturday of copy 212, and interleavings of several
+workers, each of whom peeks and then claims or voids what it saw, at times too late, with an order that stands already, with no order, or with a
+serial out of nowhere. A list is (ceilings, total, column before, script, pool of orders, length of the buffer for the answers).
 """
 import random
 
@@ -86,9 +86,16 @@ def lists(seed=212):
     yield fitting(small, after, [], [1007, 1014])
     # any other number is a void
     yield fitting(small, after, [(3, 1, 0), (2 ** 64 - 1, 2, 0), (256, 2, 0)], [1007])
+    # kinds withdrawn: in front, between, behind; all of them, with a register of one line
+    for edition in ((0, 1, 0, 1, 0), 1), ((0, 0, 1, 1), 1), ((1, 1, 0), 1):
+        yield fitting(edition, after, [peek, (CLAIM, 1, 1007), peek, (CLAIM, 1, 1014), (CLAIM, 2, 1007), (VOID, 2, 0), peek])
+    for zeros in (0,), (0,) * 24:
+        yield fitting((zeros, 0), after, [peek, (CLAIM, 2, 1007), (CLAIM, 1, 1007), peek, (VOID, 1, 0), (CLAIM, 1, 1014)])
     # openings that are refused
     yield fitting(small, [7], [peek])
-    for edition in ((1, 1), 3), ((1, 61), 1), ((9,) * 8, 36), ((), 0), ((1, 1), 256), ((60,) * 24, 255):
+    yield fitting(((1, 0, 1), 1), [7], [peek])
+    for edition in ((1, 1), 3), ((1, 61), 1), ((9,) * 8, 36), ((), 0), ((1, 1), 256), ((60,) * 24, 255), \
+            ((0, 0), 1), ((0, 61), 1), ((0,) + (9,) * 8, 36), ((0,) * 25, 0), ((0,), 256), ((0,) + (60,) * 23, 255):
         yield fitting(edition, after, [peek])
     # a script with part of a row, and buffers by one number or one row longer or shorter, or empty; an opening is refused before them
     script, orders = written([peek, (CLAIM, 1, 1007), (CLAIM, 1, 1014)])
@@ -113,9 +120,8 @@ def lists(seed=212):
         if order and rng.random() < 0.5:
             column[min(line + rng.randrange(1, 9), n + 2)] = order
     yield fitting(large, column, calls)
-    # three workers whose orders give out, or are not all used
-    middle = (3, 3, 2), 4
-    for share in 0.5, 2:
+    # three workers whose orders give out, or are not all used, the second time with kinds withdrawn
+    for middle, share in (((3, 3, 2), 4), 0.5), (((0, 3, 0, 0, 3, 2, 0), 4), 2):
         calls = list(interleaving(*middle, rng, workers=3))
         pool = written(calls)[1]
         yield fitting(middle, [rng.getrandbits(32) for _ in range(ref.number(*middle))], calls, (pool * 2)[:int(share * len(pool))])

@@ -21,7 +21,9 @@ TOP = os.path.dirname(os.path.dirname(os.path.abspath(__file__)))
 PROGRAM = os.path.join(TOP, "target", "bin", "list")
 SCRIPT = os.path.join(TOP, "list")
 MANY = 20_000  # the most lines that are listed but for near_the_million
-REFUSALS = 1, 2, 3, 4, 5, 14, 22
+# by whether a ceiling is 0, which is said only of a slip that has the form
+REFUSALS = {False: (1, 2, 3, 4, 5, 14, 22), True: (1, 2, 3, 4, 5, 14)}
+WORDS = {False: "no ceiling of 0", True: "a ceiling of 0"}
 
 
 def slip(ms, r):
@@ -36,7 +38,7 @@ TWENTY_FOUR = slip((1, 12, 3, 60, 2, 9) * 4, 1)
 # ---- slips, each alone or with the lengths after which it comes in a further piece
 
 def editions():
-    """those of document 01, and those at the ends of each range; where a number has four digits, the slip is 22"""
+    """those of the documents, and those at the ends of each range; where a number has four digits, the slip is 22"""
     yield DOCUMENT
     for ms, r in ((2, 2, 2), 5), ((3, 2, 1), 3), ((2, 1), 1), ((1, 1), 1), ((4, 3, 2, 1), 5):
         yield slip(ms, r)
@@ -50,6 +52,10 @@ def editions():
         for ms in (1,) * n, (60,) * n, inputs.stairs(n):
             yield slip(ms, 0)
             yield slip(ms, sum(ms))
+        for r in range(3):
+            yield slip((0,) * n, r)
+            yield slip((0,) * (n - 1) + (2,), r)
+            yield slip((2,) + (0,) * (n - 1), r)
 
 
 def numbers():
@@ -60,6 +66,7 @@ def numbers():
     for word in (b"00 01 03 07 007 010 000 0000 0060 9999 10000 65538 4294967298 18446744073709551618 1000000000000000000000 -1 -0 +2 2. 2.0 2, 2;2 "
                  b"0x2 2e0 / : x 2x x2 2- \xb2 \xd9\xa2 \xb2\xb2 2\0 \0 \x002 2\r 2\t 2\x0b 2\xa0").split(b" "):
         yield b"mixes\n%s 2 2\n3\n" % word
+        yield b"mixes\n0 %s 0\n0\n" % word
         yield b"mixes\n2 %s 2\n3\n" % word
         yield b"mixes\n2 2 %s\n3\n" % word
         yield b"mixes\n%s\n3\n" % word
@@ -71,7 +78,8 @@ def forms():
     for word in (b"", b"Mixes", b"MIXES", b"mixe", b"mixess", b"mixed", b"ixes", b" mixes", b"mixes ", b"mixes\r", b"mixes\0", b"\0mixes",
                  b"\xef\xbb\xbfmixes", b"mixes:", b"mixes 2 2 2", b"mixes\n", b"\nmixes", b"mixes\nmixes", b"refused 22", b"2 2 2"):
         yield word + b"\n2 2 2\n3\n"
-    for ceilings in b"", b" ", b"  ", b"2  2", b" 2 2", b"2 2 ", b"2 2  2 2", b"2\t2", b"2,2", b"2, 2", b"2 2\r", b"2 2\0", b"\0", b"2\n2", b"2\n":
+    for ceilings in b"", b" ", b"  ", b"2  2", b" 2 2", b"2 2 ", b"2 2  2 2", b"2\t2", b"2,2", b"2, 2", b"2 2\r", b"2 2\0", b"\0", b"2\n2", b"2\n", \
+            b"0 0 ", b" 0 2", b"0  2", b"00 2", b"2 00", b"2 0 \0", b"-0 2":
         yield b"mixes\n" + ceilings + b"\n3\n"
     for total in b"", b" ", b"3 ", b" 3", b"3 1", b"3\r", b"3\0", b"\0", b"\n3", b"3\t", b"mixes":
         yield b"mixes\n2 2 2\n" + total + b"\n"
@@ -95,6 +103,7 @@ def lengths():
     """25 ceilings and more, and slips on both sides of 256 bytes"""
     for n in range(24, 130):
         yield slip((1,) * n, 1)
+        yield slip((0,) * n, 0)
     for ceiling in 7, 60, 61, 100, 999:
         for n in range(25, 130):
             if 250 < len(slip((ceiling,) * n, 10)) < 262:
@@ -107,8 +116,9 @@ def lengths():
 
 
 def near_the_million():
-    """one line fewer than may be listed, as many, and one more (14), then a listing of long lines"""
-    for ms, r in ((37, 27, 47, 46, 43), 74), ((47, 53, 33, 20, 46), 81), ((37, 38, 50, 26, 38), 78), ((60,) * 24, 5):
+    """one line fewer than may be listed, as many, and one more (14), at times with kinds withdrawn, then a listing of long lines"""
+    more = 37, 38, 50, 26, 38
+    for ms, r in ((37, 27, 47, 46, 43), 74), ((47, 0, 53, 33, 20, 0, 46), 81), (more, 78), ((0, *more), 78), ((60,) * 24, 5):
         yield slip(ms, r)
 
 
@@ -168,6 +178,12 @@ def run(program, text, cuts):
         return process.communicate()[0], error
 
 
+def withdrawn(text):
+    """whether it is the slip of an edition with a withdrawn kind"""
+    given = ref.slip(text)
+    return given is not None and 0 in given[0]
+
+
 def compare(program, text, cuts):
     """the refusal's number, or 0, and how the program differs, if it does"""
     number, expected = ref.printed(text)
@@ -215,11 +231,26 @@ def failures():
 
 def all_of(rng, seconds, rounds=250):
     start = time.monotonic()
-    for slips in editions, numbers, forms, lengths, near_the_million:
+    for slips in editions, numbers, forms, lengths:
         yield from slips()
     for _ in range(rounds):
         if time.monotonic() - start < seconds:
             yield from drawn(rng)
+    yield from near_the_million()
+
+
+def said(number):
+    return f"refused {number}" if number else "listed"
+
+
+def missing(cases):
+    for where, numbers in REFUSALS.items():
+        yield from (f"no slip with {WORDS[where]} is {said(number)}" for number in (0, *numbers) if not cases[where, number])
+
+
+def summary(cases):
+    for where, words in WORDS.items():
+        yield f"slips with {words}: " + ", ".join(f"{said(number)} {count}" for (there, number), count in sorted(cases.items()) if there == where)
 
 
 def main(seed=1, program=PROGRAM, seconds=30):
@@ -230,16 +261,15 @@ def main(seed=1, program=PROGRAM, seconds=30):
     for text in all_of(random.Random(int(seed)), float(seconds)):
         text, *cuts = text if isinstance(text, tuple) else (text,)
         number, difference = compare(program, text, cuts)
-        cases[number] += 1
+        cases[withdrawn(text), number] += 1
         if difference:
             differences.append(difference)
         if len(differences) > 50:
             break
     else:
-        differences += [f"no slip is refused {number}" for number in REFUSALS if not cases[number]]
-    listed = cases.pop(0, 0)
-    print("\n".join(differences[:10]) or f"listed {listed}, " + ", ".join(f"refused {number} {count}" for number, count in sorted(cases.items())))
-    print(f"listing: {listed + sum(cases.values())} slips, {len(differences)} differences")
+        differences += missing(cases)
+    print("\n".join(differences[:10]) or "\n".join(summary(cases)))
+    print(f"listing: {sum(cases.values())} slips, {len(differences)} differences")
     return 1 if differences else 0
 
 

@@ -20,6 +20,7 @@ from huztiral import Edition, Number, Refused, Register
 
 SEVEN = Edition([2, 2, 2], 3)  # seven mixes, of which [0, 2, 1] is the third
 PUZZLE = Edition([2, 1], 1)
+GAP = Edition([2, 0, 2, 2], 3)  # the same seven, with kind 2 withdrawn
 VAST = Edition([20] * 16, 120)  # some 10^18 mixes
 
 
@@ -41,9 +42,12 @@ class Sentences(unittest.TestCase):
     def test_editions(self):
         self.refused(1, 0, "an edition has 1 to 24 kinds, and this one has 0", Edition, [], 3)
         self.refused(1, 0, "an edition has 1 to 24 kinds, and this one has 25", Edition, [1] * 25, 3)
-        self.refused(2, 2, "the ceiling of kind 2 is 61, and a ceiling is 1 to 60", Edition, [2, 61, 0], 3)
+        self.refused(1, 0, "an edition has 1 to 24 kinds, and this one has 25", Edition, [1] * 24 + [0], 3)
+        self.refused(2, 2, "the ceiling of kind 2 is 61, and a ceiling is 0 to 60", Edition, [2, 61, 0], 3)
+        self.refused(2, 3, "the ceiling of kind 3 is 61, and a ceiling is 0 to 60", Edition, [1, 0, 61], 256)
         self.refused(3, 0, "the total is 300, and a total is 0 to 255", Edition, [60] * 9, 300)
         self.refused(4, 0, "the total is 5, and the ceilings sum up to 4", Edition, [2, 2], 5)
+        self.refused(4, 0, "the total is 1, and the ceilings sum up to 0", Edition, [0, 0], 1)
         self.refused(5, 0, "the edition has more than 9,223,372,036,854,775,807 mixes", Edition, [60] * 24, 255)
 
     def test_serials_and_mixes(self):
@@ -102,6 +106,41 @@ class Pairs(unittest.TestCase):
 
     def test_an_edition_of_one_mix_has_none(self):
         self.assertEqual(Edition([5], 5).open().peek(), (1, [5], 0, 0))
+
+
+class Withdrawn(unittest.TestCase):
+    """a ceiling of 0: the kinds keep their numbers, and the mixes have 0 there"""
+
+    def test_one_kind(self):
+        mixes = [[g[0], 0, *g[1:]] for g in SEVEN.batch(1, 7)]
+        self.assertEqual((GAP.upper, GAP.count, GAP.batch(1, 7)), ((2, 0, 2, 2), 7, mixes))
+        self.assertEqual([(GAP.unrank(s), GAP.rank(g)) for s, g in enumerate(mixes, 1)], [(g, s) for s, g in enumerate(mixes, 1)])
+        self.assertEqual(GAP.successor([2, 0, 0, 1]), ([1, 0, 0, 2], 4, 1))
+        self.assertEqual(GAP.predecessor([1, 0, 0, 2]), ([2, 0, 0, 1], 1, 4))
+        register = GAP.open()
+        register.claim(1, 1007)
+        self.assertEqual((register.peek(), register.entries()), ((2, [1, 0, 2, 0], 3, 1), [1007]))
+
+    def test_all_kinds(self):
+        none = Edition([0, 0], 0)
+        self.assertEqual((none.count, none.unrank(1), none.rank([0, 0]), none.batch(1, 1)), (1, [0, 0], 1, [[0, 0]]))
+        for step in none.successor, none.predecessor:
+            with self.assertRaises(Refused) as caught:
+                step([0, 0])
+            self.assertEqual(caught.exception.number, Number.NO_NEIGHBOUR)
+        register = none.open()
+        self.assertEqual((register.peek(), register.void(1), register.entries()), ((1, [0, 0], 0, 0), (1, [0, 0]), [0]))
+        with self.assertRaises(Refused) as caught:
+            register.peek()
+        self.assertEqual(caught.exception.number, Number.ALL_WRITTEN)
+
+    def test_no_puzzle(self):
+        for ceilings in [2, 1, 0], [2, 0, 1], [0, 2, 1]:
+            edition = Edition(ceilings, 1)
+            for function in edition.permutation, edition.inversions:
+                with self.assertRaises(Refused) as caught:
+                    function([2, 1, 3])
+                self.assertEqual(caught.exception.number, Number.NOT_A_STAIRCASE)
 
 
 class Values(unittest.TestCase):
@@ -272,7 +311,7 @@ class Library(unittest.TestCase):
             self.assertEqual((said.returncode, said.stderr.split("\n")[-2][:12]), (1, "ImportError:"))
         with tempfile.TemporaryDirectory() as folder:
             with self.assertRaisesRegex(ImportError, "undefined symbol: huz_version"):
-                huztiral.load(self.library(folder, 1000, names[1:]))
+                huztiral.load(self.library(folder, 1100, names[1:]))
             with self.assertRaisesRegex(ImportError, "no such file|cannot open"):
                 huztiral.load(os.path.join(folder, "none.so"))
 

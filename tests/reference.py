@@ -1,6 +1,6 @@
-"""Document 01, and of document 02 request (i), in plain Python: what every call of the engine has to answer, and what the listing program has to print.
-Written from the documents, for comparison only: numbers are unbounded, nothing is fast, and each function follows the documents' own words. The
-answer of a call is a tuple that starts with number and detail."""
+"""Document 01, and of document 02 requests (i) and (ii), in plain Python: what every call of the engine has to answer, and what the listing program
+has to print. Written from the documents, for comparison only: numbers are unbounded, nothing is fast, and each function follows the documents' own
+words. The answer of a call is a tuple that starts with number and detail."""
 import re
 from functools import lru_cache
 
@@ -40,7 +40,7 @@ def edition(ms, r):
     if not 1 <= len(ms) <= 24:
         return 1, 0
     for kind, m in enumerate(ms, 1):
-        if not 1 <= m <= 60:
+        if m > 60:
             return 2, kind
     if r > 255:
         return 3, 0
@@ -67,8 +67,8 @@ def values(ms, i, r, t):
     return run if t % 2 == 0 else reversed(run)
 
 
-def listing(ms, r):
-    """every mix in Walsh's order, from the last kind down"""
+def walk(ms, r):
+    """every mix by the rule of document 01, from the last kind down; of no kinds, the empty mix"""
     def endings(i, t, ending):
         if i < 0:
             yield ending
@@ -78,27 +78,45 @@ def listing(ms, r):
     return endings(len(ms) - 1, 0, ())
 
 
+# ---- A tile withdrawn (document 02, (ii)): the order is that of the edition without the withdrawn kinds, with zeros put back
+
+def left(ms, of=None):
+    """of all kinds' ceilings, or of what else there is for each kind, those of the kinds that are not withdrawn"""
+    return tuple(v for v, m in zip(ms if of is None else of, ms) if m)
+
+
+def put_back(ms, mix):
+    counts = iter(mix)
+    return tuple(next(counts) if m else 0 for m in ms)
+
+
+def listing(ms, r):
+    """every mix in its order"""
+    mixes = walk(left(ms), r)
+    return mixes if all(ms) else (put_back(ms, mix) for mix in mixes)
+
+
 def mix_at(ms, r, serial):
     """the mix of a serial of 1..N: blocks of mixes with the same ending are skipped"""
-    skip, t, mix = serial - 1, 0, []
-    for i in reversed(range(len(ms))):
-        for v in values(ms, i, r, t):
-            block = number(ms[:i], r - t - v)
+    kept, skip, t, mix = left(ms), serial - 1, 0, []
+    for i in reversed(range(len(kept))):
+        for v in values(kept, i, r, t):
+            block = number(kept[:i], r - t - v)
             if skip < block:
                 break
             skip -= block
         mix.insert(0, v)
         t += v
-    return tuple(mix)
+    return put_back(ms, mix)
 
 
 def serial_of(ms, r, mix):
-    before, t = 0, 0
-    for i in reversed(range(len(ms))):
-        for v in values(ms, i, r, t):
+    kept, mix, before, t = left(ms), left(ms, mix), 0, 0
+    for i in reversed(range(len(kept))):
+        for v in values(kept, i, r, t):
             if v == mix[i]:
                 break
-            before += number(ms[:i], r - t - v)
+            before += number(kept[:i], r - t - v)
         t += mix[i]
     return before + 1
 
@@ -321,6 +339,8 @@ ANSWERS = {
     "huz_claim_in": (0, 16, 17, 6, 18, 19, 20),
     "huz_void_in": (0, 16, 6, 18, 19),
 }
+# the same where a kind is withdrawn: that is no puzzle edition, and what is checked after 10 does not come up
+WITHDRAWN = {name: numbers[1:numbers.index(10) + 1] if 10 in numbers else numbers for name, numbers in ANSWERS.items()}
 
 
 # ---- Listing program

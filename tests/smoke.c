@@ -1,4 +1,4 @@
-/* Every function of the C interface, called once from C, and the layouts that other languages copy. */
+/* Every function of the C interface, called from C with all kinds and with one withdrawn, and the layouts that other languages copy. */
 #include "../include/huztiral.h"
 #include <stdio.h>
 #include <string.h>
@@ -29,6 +29,34 @@ static void expect(int holds, const char *what) {
 
 static int is(const uint8_t *cells, int a, int b, int c) {
     return cells[0] == a && cells[1] == b && cells[2] == c;
+}
+
+/* the same mixes with a kind withdrawn between the first and the second, which is no puzzle edition */
+static void withdrawn(void) {
+    const uint8_t upper[4] = {3, 0, 2, 1}, composition[4] = {2, 0, 1, 0}, given[5] = {2, 4, 1, 3, 5};
+    uint8_t out[8], order[5];
+    uint32_t orders[6] = {0};
+
+    huz_checked checked = huz_check(upper, 4, 3);
+    expect(checked.number == 0 && checked.count == 6 && checked.bounds.parts == 4 && is(checked.bounds.upper, 3, 0, 2), "huz_check, withdrawn");
+    expect(huz_rank(upper, 4, 3, composition, 4).serial == 2, "huz_rank, withdrawn");
+    expect(huz_unrank(upper, 4, 3, 4, out, 4).number == 0 && is(out, 0, 0, 2) && out[3] == 1, "huz_unrank, withdrawn");
+    huz_stepped stepped = huz_successor(upper, 4, 3, composition, 4);
+    expect(is(stepped.composition, 1, 0, 2) && stepped.gain == 3 && stepped.loss == 1, "huz_successor, withdrawn");
+    stepped = huz_predecessor(upper, 4, 3, composition, 4);
+    expect(is(stepped.composition, 3, 0, 0) && stepped.gain == 1 && stepped.loss == 3, "huz_predecessor, withdrawn");
+    expect(huz_batch(upper, 4, 3, 5, 2, out, 8).number == 0 && is(out, 1, 0, 1) && is(out + 4, 2, 0, 0) && out[7] == 1, "huz_batch, withdrawn");
+    expect(huz_permutation(upper, 4, 3, composition, 4, order, 5).number == HUZ_NOT_A_STAIRCASE, "huz_permutation, withdrawn");
+    expect(huz_inversions(upper, 4, 3, given, 5, out, 4).number == HUZ_NOT_A_STAIRCASE, "huz_inversions, withdrawn");
+    huz_opened opened = huz_open(upper, 4, 3, orders, 6);
+    expect(opened.number == 0 && is(opened.ledger.next, 3, 0, 0), "huz_open, withdrawn");
+    huz_claimed claimed = huz_claim(opened.ledger, orders, 6, 1, 1007);
+    huz_peeked peeked = huz_peek(claimed.ledger, orders, 6);
+    expect(peeked.serial == 2 && is(peeked.composition, 2, 0, 1) && peeked.gain == 3 && peeked.loss == 1, "huz_claim and huz_peek, withdrawn");
+    claimed = huz_void(claimed.ledger, orders, 6, 2);
+    expect(is(claimed.composition, 2, 0, 1) && huz_entries(claimed.ledger, orders, 6) == 2, "huz_void and huz_entries, withdrawn");
+    expect(is(huz_claim_in(&claimed.ledger, orders, 6, 3, 1014).composition, 1, 0, 2), "huz_claim_in, withdrawn");
+    expect(is(huz_void_in(&claimed.ledger, orders, 6, 4).composition, 0, 0, 2) && claimed.ledger.entries == 4, "huz_void_in, withdrawn");
 }
 
 int main(void) {
@@ -80,7 +108,8 @@ int main(void) {
     expect(memcmp(&before, &lent, sizeof lent) == 0, "the record after a refused huz_claim_in");
     answer = huz_void_in(&lent, orders, 2, 2);
     expect(answer.number == 0 && answer.serial == 2 && orders[1] == 0 && lent.voided == 1 && lent.entries == 2, "huz_void_in");
+    withdrawn();
     if (!failed)
-        puts("smoke: 16 functions");
+        puts("smoke: 16 functions, 15 of them with a kind withdrawn");
     return failed;
 }

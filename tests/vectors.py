@@ -12,6 +12,7 @@ import argparse
 import os
 import random
 import sys
+from collections import Counter
 
 import inputs
 import interleave
@@ -27,6 +28,7 @@ LONGEST, WIDEST, ENTRIES = 1000, 64, 2048  # of a lent part, of a list of bytes,
 RECORDS = [
     (3, [2, 2, 2], 3), (2, [2, 2, 2], 3), (2, [2, 2, 61], 3), (3, [2, 2, 61], 3), (4, [2, 2, 2], 3), (0, [2, 2, 2], 0), (24, [1] * 24, 12),
     (24, [10] * 24, 239), (24, [60] * 24, 255), (25, [1] * 24, 12), (25, [], 256), (256, [1] * 24, 12), (18446744073709551615, [1] * 24, 12),
+    (24, [2, 2, 2], 3), (25, [2, 2, 2], 3), (4, [2, 0, 2, 2], 3), (3, [2, 0, 2, 2], 3), (5, [0, 0, 2, 1, 61], 3), (24, [], 0), (24, [], 1),
 ]
 
 # editions with 1,000,000 mixes, one more, and those next to the limit of number 5
@@ -44,6 +46,7 @@ TABLE_1 = (
     "1121 23541 2021 31542 3011 41352 2111 32451 1211 24351 0311 15342 "
     "1301 25143 2201 34152 3101 42153 4001 51243"
 ).split()
+GAP = 0, 4, 3, 0, 0, 2, 1
 
 
 # ---- commands: a letter, then numbers and lists
@@ -63,6 +66,12 @@ def fixed():
     for g, p in zip(TABLE_1[::2], TABLE_1[1::2]):
         yield command("o", (4, 3, 2, 1), 5, bytes(map(int, g)), 5)
         yield command("i", (4, 3, 2, 1), 5, bytes(map(int, p)), 4)
+        # the same with kinds withdrawn
+        yield from (command(letter, GAP, 5, ref.put_back(GAP, map(int, g))) for letter in "rsp")
+    for ms, r in (GAP, 5), *inputs.WITHDRAWN:
+        copies = min(ref.number(ms, r), 22)
+        if inputs.accepted(ms, r):
+            yield command("b", ms, r, 1, copies, copies * len(ms))
 
 
 class Draw:
@@ -119,7 +128,7 @@ class Draw:
 
 
 def drawn(rng, count):
-    """so many commands of each kind, and more until every number that it can answer has come up"""
+    """so many commands of each kind, and more until every number that it can answer has come up, with all kinds and with a kind withdrawn"""
     for draw in Draw(rng).kinds():
         wanted, left = None, count
         while left or wanted:
@@ -127,10 +136,10 @@ def drawn(rng, count):
                 pass
             wanted = numbers(fields[0]) if wanted is None else wanted
             line = command(*fields)
-            number = answer_of(line)
-            if left or number in wanted:
+            answer = withdrawn(line), answer_of(line)
+            if left or answer in wanted:
                 yield line
-            left, wanted = max(0, left - 1), wanted - {number}
+            left, wanted = max(0, left - 1), wanted - {answer}
 
 
 def fits(fields):
@@ -258,10 +267,18 @@ CALLS = {
 
 
 def numbers(letter):
-    """what numbers a letter's command can answer"""
+    """what numbers a letter's command can answer, each after whether a kind is withdrawn"""
     if letter == "l":
-        return {*ref.ANSWERS["huz_open"], 13}
-    return {number for name in CALLS.get(letter, ()) for number in ref.ANSWERS[name]}
+        return {(False, 13), *numbers("n")}
+    calls = CALLS.get(letter, ())
+    return {(False, n) for name in calls for n in ref.ANSWERS[name]} | {(True, n) for name in calls for n in ref.WITHDRAWN[name]}
+
+
+def withdrawn(line):
+    """whether a kind of the command's edition is withdrawn"""
+    read = Reader(line)
+    kinds = read.number() if read.letter in "ek" else None
+    return read.letter != "t" and 0 in read.list()[:kinds]
 
 
 def lines_of(line):
@@ -300,23 +317,27 @@ def path(name):
 
 
 def checked():
-    """stdout is what the reference says, and every number that a command can answer comes up"""
+    """stdout is what the reference says, and every number that a command can answer comes up, with all kinds and with a kind withdrawn"""
     with open(path("stdin"), encoding="ascii") as f:
         commands = f.read()
     with open(path("stdout"), encoding="ascii") as f:
         same = f.readlines() == answered(commands)
-    came_up = {(line[0], answer_of(line)) for line in commands.split("\n") if line}
+    came_up = Counter((line[0], withdrawn(line), answer_of(line)) for line in commands.split("\n") if line)
     differences = [] if same else ["stdout is not what the reference says"]
-    differences += [f"{letter} does not answer {number}" for letter in ANSWERED_BY for number in numbers(letter) if (letter, number) not in came_up]
+    for letter in ANSWERED_BY:
+        missing = sorted(answer for answer in numbers(letter) if not came_up[letter, *answer])
+        differences += [f"{letter} does not answer {number}{' with a kind withdrawn' * there}" for there, number in missing]
     print("\n".join(differences), end="\n" if differences else "")
-    print(f"vectors: {sum(map(bool, commands.split(chr(10))))} commands, {len(differences)} differences")
+    for letter in CALLS:
+        print(f"{letter} with a kind withdrawn: answered", ", ".join(f"{n} {came_up[letter, t, n]} times" for t, n in sorted(numbers(letter)) if t))
+    print(f"vectors: {came_up.total()} commands, {len(differences)} differences")
     return 1 if differences else 0
 
 
 def main():
     parser = argparse.ArgumentParser(description=__doc__, formatter_class=argparse.RawDescriptionHelpFormatter)
     parser.add_argument("--check", action="store_true")
-    parser.add_argument("--count", type=int, default=90)
+    parser.add_argument("--count", type=int, default=76)
     parser.add_argument("--seed", type=int, default=7)
     options = parser.parse_args()
     if options.check:

@@ -34,7 +34,7 @@ pub fn shape(upper: &[u8], total: u32) -> Result<usize, Refused> {
     if upper.is_empty() || upper.len() > 24 {
         return Err((1, 0));
     }
-    if let Some(i) = upper.iter().position(|&m| !(1..=60).contains(&m)) {
+    if let Some(i) = upper.iter().position(|&m| m > 60) {
         return Err((2, i as u64 + 1));
     }
     if total > 255 {

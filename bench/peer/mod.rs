@@ -1,8 +1,8 @@
 //! The functions of the engine that are measured, in plain Rust and not proved: what a careful programmer would write for speed. Same methods: a
 //! counting table that keeps only reachable sums, filled by a sliding window; the Mahonian table for staircases of up to 16 sheets; no count where
-//! a bound on N is enough; a step in place that ends at the second part that changes; batches by runs of the first two parts; one pass over a
-//! register's lines. Working tables are not cleared before they are filled, unless a caller sets CLEAR. Each function is a call of its own, as the
-//! engine's are.
+//! a bound on N is enough; a step in place that ends at the second part that changes; batches by runs of the first two parts that are not
+//! withdrawn; one pass over a register's lines. Working tables are not cleared before they are filled, unless a caller sets CLEAR. Each function is a
+//! call of its own, as the engine's are.
 mod count;
 mod ledger;
 pub mod order;

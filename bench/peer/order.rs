@@ -157,7 +157,13 @@ pub fn predecessor(upper: &[u8], total: u32, g: &[u8]) -> Stepped {
     stepped(step(upper, total, g, 1))
 }
 
-/// The first two parts, which way the second goes, and how often it can still move: most steps move these two alone.
+/// The places of the first two parts that are not withdrawn.
+fn first_two(upper: &[u8]) -> Option<(usize, usize)> {
+    let mut left = (0..upper.len()).filter(|&i| upper[i] > 0);
+    Some((left.next()?, left.next()?))
+}
+
+/// These two parts, which way the second goes, and how often it can still move: most steps move these two alone.
 struct Run {
     first: u8,
     second: u8,
@@ -166,18 +172,18 @@ struct Run {
 }
 
 #[inline(always)]
-fn run_of(upper: &[u8], total: usize, g: &[u8]) -> Run {
-    let (first, second) = (g[0], g[1]);
+fn run_of(upper: &[u8], total: usize, g: &[u8], (i, j): (usize, usize)) -> Run {
+    let (first, second) = (g[i], g[j]);
     let (v, sum) = (second as usize, first as usize + second as usize);
     let falling = (total - sum) % 2 == 1;
-    let (lo, hi) = (sum.saturating_sub(upper[0] as usize), (upper[1] as usize).min(sum));
+    let (lo, hi) = (sum.saturating_sub(upper[i] as usize), (upper[j] as usize).min(sum));
     Run { first, second, falling, more: if falling { v - lo } else { hi - v } }
 }
 
-/// As many compositions as `out` has room for, from that in `cells` on: runs of the first two parts, and a step of all where one ends.
-fn write_runs<const WIDE: bool>(upper: &[u8], total: usize, mut cells: [u8; 24], out: &mut [u8]) {
+/// As many compositions as `out` has room for, from that in `cells` on: runs of the parts at places i and j, and a step of all where one ends.
+fn write_runs<const WIDE: bool>(upper: &[u8], total: usize, (i, j): (usize, usize), mut cells: [u8; 24], out: &mut [u8]) {
     let n = upper.len();
-    let mut run = run_of(upper, total, &cells);
+    let mut run = run_of(upper, total, &cells, (i, j));
     let mut at = 0;
     while at < out.len() {
         // 24 bytes at once where there is room: what is too much is overwritten by the next
@@ -186,8 +192,8 @@ fn write_runs<const WIDE: bool>(upper: &[u8], total: usize, mut cells: [u8; 24],
         } else {
             out[at..at + n].copy_from_slice(&cells[..n]);
         }
-        out[at] = run.first;
-        out[at + 1] = run.second;
+        out[at + i] = run.first;
+        out[at + j] = run.second;
         at += n;
         if run.more > 0 {
             let (up, down) = if run.falling { (1, 255) } else { (255, 1) };
@@ -195,9 +201,9 @@ fn write_runs<const WIDE: bool>(upper: &[u8], total: usize, mut cells: [u8; 24],
             run.second = run.second.wrapping_add(down);
             run.more -= 1;
         } else {
-            (cells[0], cells[1]) = (run.first, run.second);
+            (cells[i], cells[j]) = (run.first, run.second);
             advance(upper, total, &mut cells[..n], 0);
-            run = run_of(upper, total, &cells);
+            run = run_of(upper, total, &cells, (i, j));
         }
     }
 }
@@ -219,10 +225,9 @@ fn batch_in<const WIDE: bool>(upper: &[u8], total: u32, serial: u64, copies: u64
     }
     let mut cells = [0u8; 24];
     write(&table, upper, total, serial - 1, &mut cells[..n]);
-    if n == 1 {
-        out[0] = cells[0];
-    } else {
-        write_runs::<WIDE>(upper, total as usize, cells, out);
+    match first_two(upper) {
+        Some(places) => write_runs::<WIDE>(upper, total as usize, places, cells, out),
+        None => out.copy_from_slice(&cells[..n]), // one composition
     }
     Ok(())
 }

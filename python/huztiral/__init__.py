@@ -16,9 +16,10 @@
         if refused.number == Number.ALREADY_WRITTEN:
             print(refused)                  # serial 1 is already written, for order 1003
 
-An `Edition` never changes. A `Register` may be shared by threads: its calls come one after another. A call that cannot be done raises `Refused`
-and changes nothing. The engine behind it is proved; this package only hands values over to it (`include/huztiral.h`). The first import
-proves and builds it, which takes a few minutes; HUZTIRAL_LIBRARY may name a shared library that was built before.
+A kind that is withdrawn has the ceiling 0. An `Edition` never changes. A `Register` may be shared by threads: its calls come one after another. A
+call that cannot be done raises `Refused` and changes nothing. The engine behind it is proved; this package only hands values over to it
+(`include/huztiral.h`). The first import proves and builds it, which takes a few minutes; HUZTIRAL_LIBRARY may name a shared library that was
+built before.
 """
 from ._c import (C, CELLS, FUNCTIONS, Answer, Bounds, Checked, Claimed, Done, Ledger, Opened, Peeked, Ranked, Stepped, load, version_of)
 from ._editions import Edition, Look, Register, Step

@@ -87,7 +87,7 @@ def _dotted(version: int) -> str:
 
 
 def version_of(library: ctypes.CDLL) -> str:
-    """the version of a library, as 0.10.0"""
+    """the version of a library, as 0.11.0"""
     return _dotted(library.huz_version())
 
 

@@ -58,8 +58,10 @@ class Look(NamedTuple):
 class Edition:
     """Ceilings, one for each kind of tile, and a total, the number of tiles in a box: every mix under the ceilings with that total is one copy.
 
-    There are 1 to 24 kinds, a ceiling is 1 to 60 and the total 0 to 255; what is no edition is refused. A mix is a list of counts, one for each
-    kind. Mixes may be given as any iterable of whole numbers, bytes too. An edition never changes; it can be pickled, compared and hashed.
+    There are 1 to 24 kinds, a ceiling is 0 to 60 and the total 0 to 255; what is no edition is refused. A ceiling of 0 is that of a kind withdrawn
+    after the artwork is fixed: the kinds keep their numbers, each mix has 0 there, and the order is that of the edition without it. A mix is a list
+    of counts, one for each kind. Mixes may be given as any iterable of whole numbers, bytes too. An edition never changes; it can be pickled,
+    compared and hashed.
     """
 
     __slots__ = ("_upper", "_total", "_count", "_given")

@@ -20,7 +20,7 @@ class Number(IntEnum):
 
     ACCEPTED = 0, "the call is accepted"
     PARTS_OUT_OF_RANGE = 1, "the edition has no kinds, or more than 24"
-    UPPER_OUT_OF_RANGE = 2, "a ceiling is outside 1 to 60", "the first such kind, from 1"
+    UPPER_OUT_OF_RANGE = 2, "a ceiling is over 60", "the first such kind, from 1"
     TOTAL_OUT_OF_RANGE = 3, "the total is over 255"
     TOTAL_ABOVE_SUM = 4, "the total is over the sum of the ceilings"
     COUNT_TOO_LARGE = 5, "the edition has more than 9,223,372,036,854,775,807 mixes"
@@ -46,7 +46,7 @@ class Number(IntEnum):
 # What is said where the arguments of the call are known; for other numbers the meaning is said.
 _SENTENCES = {
     Number.PARTS_OUT_OF_RANGE: "an edition has 1 to 24 kinds, and this one has {kinds}",
-    Number.UPPER_OUT_OF_RANGE: "the ceiling of kind {detail} is {ceiling}, and a ceiling is 1 to 60",
+    Number.UPPER_OUT_OF_RANGE: "the ceiling of kind {detail} is {ceiling}, and a ceiling is 0 to 60",
     Number.TOTAL_OUT_OF_RANGE: "the total is {total}, and a total is 0 to 255",
     Number.TOTAL_ABOVE_SUM: "the total is {total}, and the ceilings sum up to {sum}",
     Number.SERIAL_OUT_OF_RANGE: "there is no serial {serial}: the edition has 1 to {count}",

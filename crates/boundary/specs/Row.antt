@@ -9,7 +9,7 @@ use Rattle.walsh.specs.Order.{order, countOf}
 use Rattle.walsh.specs.Transition.{transitionAt}
 use Rattle.walsh.specs.declared.Transition.{Transition}
 use Rattle.bounds.specs.Refusal.{firstRefusal}
-use Rattle.bounds.specs.Edition.{editionChecks, cellsOf}
+use Rattle.bounds.specs.Edition.{editionChecks, cellsOf, blank}
 use Rattle.bounds.specs.declared.Refusal.{Refusal}
 use Rattle.rank.specs.Rank.{Answer, rankAnswer}
 use Rattle.step.specs.Steps.{successorOf, predecessorOf}
@@ -31,8 +31,8 @@ pub data Claim : Type 0 where
   lists : List (List ℕ) → Claim
   -- N
   counts : ℕ → Claim
-  -- it is refused with this number
-  refused : ℕ → Claim
+  -- it is refused with this number and detail
+  refused : ℕ → ℕ → Claim
   -- a composition's serial
   serial : List ℕ → ℕ → Claim
   -- after the first comes the second, and the step to it has this pair: the kind that gains, the kind that loses
@@ -41,8 +41,12 @@ pub data Claim : Type 0 where
   back : List ℕ → List ℕ → ℕ → ℕ → Claim
   -- the pairs of its serials, from 1 to N: what a listing's lines end with
   pairs : List (ℕ × ℕ) → Claim
+  -- it has this composition alone: serial 1, and 9 both ways
+  alone : List ℕ → Claim
   -- its permutations in their order
   permutations : List (List ℕ) → Claim
+  -- it is no puzzle edition: 10 both ways, for this composition and these sheets
+  noPuzzle : List ℕ → List ℕ → Claim
   -- what a ledger on it answers to a list of calls; of a composition the first parts are written, the others are 0
   answers : List Told → Claim
 
@@ -117,11 +121,17 @@ module _ (ms : List ℕ) (r : ℕ) where
   abbrev pub sides : Claim → List (List ℕ) × List (List ℕ)
   sides (lists gs) = (edition ∷ order ms r, accepted [] ∷ gs)
   sides (counts n) = (edition ∷ (countOf ms r ∷ []) ∷ [], accepted [] ∷ (n ∷ []) ∷ [])
-  sides (refused number) = (edition ∷ [], (number ∷ 0 ∷ []) ∷ [])
+  sides (refused number detail) = (edition ∷ [], (number ∷ detail ∷ []) ∷ [])
   sides (serial g s) = (rankList (rankAnswer ms r g) ∷ [], accepted (s ∷ []) ∷ [])
   sides (next g h gain loss) = (stepList (successorOf ms r g) ∷ [], accepted (paired (cellsOf h) gain loss) ∷ [])
   sides (back g h gain loss) = (stepList (predecessorOf ms r g) ∷ [], accepted (paired (cellsOf h) gain loss) ∷ [])
   sides (pairs xs) = (edition ∷ pairsTo (countOf ms r), accepted [] ∷ map (λ (x : ℕ × ℕ). x .0 ∷ x .1 ∷ []) xs)
+  sides (alone g) =
+      let end : List ℕ = 9 ∷ 0 ∷ paired blank 0 0 in
+      (rankList (rankAnswer ms r g) ∷ stepList (successorOf ms r g) ∷ stepList (predecessorOf ms r g) ∷ [], accepted (1 ∷ []) ∷ end ∷ end ∷ [])
+  -- the lent parts stay as they were
+  sides (noPuzzle g p) =
+      (edition ∷ permuted g ∷ unpermuted p ∷ [], accepted [] ∷ (10 ∷ 0 ∷ replicate (length ms + 1) 0) ∷ (10 ∷ 0 ∷ replicate (length ms) 0) ∷ [])
   -- both ways
   sides (permutations ps) = (map permuted (order ms r) ++ map unpermuted ps, map accepted ps ++ map accepted (order ms r))
   -- the record's own run, and the model

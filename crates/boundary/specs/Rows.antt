@@ -1,9 +1,11 @@
--- Document 01, "Boundary copies": the table, with the pairs of document 02, (i).
+-- Document 01, "Boundary copies": the table, with the pairs of document 02, (i), and rows for the withdrawn kinds of (ii).
 use mathlib.Core.List.{List, [], _∷_}
 use Prim.Native.Nat.{ℕ}
+use lib.ListN.{replicate}
 use Rattle.walsh.specs.Order.{threeTwos, seven}
+use Rattle.walsh.specs.Withdrawn.{gapped}
 use Rattle.model.specs.Model.{peek, claim, void}
-use Rattle.boundary.specs.Row.{Claim, lists, counts, refused, serial, next, back, pairs, answers, permutations, Row}
+use Rattle.boundary.specs.Row.{Claim, lists, counts, refused, serial, next, back, pairs, alone, answers, permutations, noPuzzle, Row}
 
 abbrev row : List ℕ → ℕ → Claim → Row
 row ms r what = record { bounds = ms; total = r; claim = what }
@@ -21,11 +23,11 @@ rows =
     -- E: one bound of 5
     ∷ row (5 ∷ []) 5 (lists ((5 ∷ []) ∷ []))
     ∷ row (5 ∷ []) 5 (counts 1)
-    ∷ row (5 ∷ []) 6 (refused 4)
+    ∷ row (5 ∷ []) 6 (refused 4 0)
     -- F: bounds 2 2, from the smallest total to one over the largest
     ∷ row (2 ∷ 2 ∷ []) 0 (lists ((0 ∷ 0 ∷ []) ∷ []))
     ∷ row (2 ∷ 2 ∷ []) 4 (counts 1)
-    ∷ row (2 ∷ 2 ∷ []) 5 (refused 4)
+    ∷ row (2 ∷ 2 ∷ []) 5 (refused 4 0)
     -- G: the staircase of four
     ∷ row (3 ∷ 2 ∷ 1 ∷ []) 3
     (lists ((3 ∷ 0 ∷ 0 ∷ []) ∷ (2 ∷ 1 ∷ 0 ∷ []) ∷ (1 ∷ 2 ∷ 0 ∷ []) ∷ (0 ∷ 2 ∷ 1 ∷ []) ∷ (1 ∷ 1 ∷ 1 ∷ []) ∷ (2 ∷ 0 ∷ 1 ∷ []) ∷ []))
@@ -89,4 +91,43 @@ rows =
     ∷ (claim 4 1021, 6 ∷ [], 0, 0)
     ∷ (void 4, 6 ∷ [], 0, 0)
     ∷ []))
+    -- document 02, (ii): the copies A to C with the second kind of 2 0 2 2 withdrawn; the kinds of a pair are the edition's
+    ∷ row gapped 3
+    (lists
+    ((2 ∷ 0 ∷ 1 ∷ 0 ∷ [])
+    ∷ (1 ∷ 0 ∷ 2 ∷ 0 ∷ [])
+    ∷ (0 ∷ 0 ∷ 2 ∷ 1 ∷ [])
+    ∷ (1 ∷ 0 ∷ 1 ∷ 1 ∷ [])
+    ∷ (2 ∷ 0 ∷ 0 ∷ 1 ∷ [])
+    ∷ (1 ∷ 0 ∷ 0 ∷ 2 ∷ [])
+    ∷ (0 ∷ 0 ∷ 1 ∷ 2 ∷ [])
+    ∷ []))
+    ∷ row gapped 3 (pairs ((0, 0) ∷ (3, 1) ∷ (4, 1) ∷ (1, 3) ∷ (1, 3) ∷ (4, 1) ∷ (3, 1) ∷ []))
+    ∷ row gapped 3 (serial (0 ∷ 0 ∷ 2 ∷ 1 ∷ []) 3)
+    ∷ row gapped 3 (next (2 ∷ 0 ∷ 0 ∷ 1 ∷ []) (1 ∷ 0 ∷ 0 ∷ 2 ∷ []) 4 1)
+    ∷ row gapped 3 (back (1 ∷ 0 ∷ 0 ∷ 2 ∷ []) (2 ∷ 0 ∷ 0 ∷ 1 ∷ []) 1 4)
+    -- copy I with a kind withdrawn before each
+    ∷ row (0 ∷ 1 ∷ 0 ∷ 1 ∷ []) 1
+    (answers
+    ((peek, 0 ∷ 0 ∷ 1 ∷ 0 ∷ 1 ∷ 0 ∷ 0 ∷ [], 0, 0)
+    ∷ (claim 1 1007, 0 ∷ 0 ∷ 1 ∷ 0 ∷ 1 ∷ 0 ∷ 0 ∷ [], 0, 0)
+    ∷ (claim 1 1021, 18 ∷ 1007 ∷ [], 0, 0)
+    ∷ (peek, 0 ∷ 0 ∷ 2 ∷ 0 ∷ 0 ∷ 0 ∷ 1 ∷ [], 4, 2)
+    ∷ (claim 2 1021, 0 ∷ 0 ∷ 2 ∷ 0 ∷ 0 ∷ 0 ∷ 1 ∷ [], 0, 0)
+    ∷ (peek, 21 ∷ [], 0, 0)
+    ∷ []))
+    -- all kinds withdrawn: one composition, and a ledger of one entry; with a total 4
+    ∷ row (0 ∷ 0 ∷ []) 0 (lists ((0 ∷ 0 ∷ []) ∷ []))
+    ∷ row (0 ∷ 0 ∷ []) 0 (counts 1)
+    ∷ row (0 ∷ 0 ∷ []) 0 (alone (0 ∷ 0 ∷ []))
+    ∷ row (0 ∷ 0 ∷ []) 0 (answers ((peek, 0 ∷ 0 ∷ 1 ∷ [], 0, 0) ∷ (claim 1 1007, 0 ∷ 0 ∷ 1 ∷ [], 0, 0) ∷ (peek, 21 ∷ [], 0, 0) ∷ []))
+    ∷ row (replicate 24 0) 0 (counts 1)
+    ∷ row (0 ∷ 0 ∷ []) 1 (refused 4 0)
+    -- a 0 before a 61 is not the first such kind, and a withdrawn kind counts among the 24
+    ∷ row (0 ∷ 61 ∷ []) 1 (refused 2 2)
+    ∷ row (1 ∷ 0 ∷ 61 ∷ []) 256 (refused 2 3)
+    ∷ row (0 ∷ replicate 24 1) 12 (refused 1 0)
+    -- "puzzle editions keep their ceilings"
+    ∷ row (2 ∷ 1 ∷ 0 ∷ []) 1 (noPuzzle (1 ∷ 0 ∷ 0 ∷ []) (2 ∷ 1 ∷ 3 ∷ 4 ∷ []))
+    ∷ row (2 ∷ 0 ∷ 1 ∷ []) 1 (noPuzzle (1 ∷ 0 ∷ 0 ∷ []) (2 ∷ 1 ∷ 3 ∷ 4 ∷ []))
     ∷ []

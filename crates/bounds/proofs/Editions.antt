@@ -15,7 +15,7 @@ use Rattle.bounds.specs.Edition.{whole, outside, firstOutside, shapeChec
 use Rattle.bounds.proofs.Refusals.{passed}
 use Rattle.bounds.proofs.Chains.{accepts-split}
 
--- ---- the search for a bound outside 1..60
+-- ---- the search for a bound over 60
 
 module _ (ms : List ℕ) (i : ℕ) where
   pub first-here : i < length ms → outside (getD ms i 0) ≡ true → firstOutside (drop i ms) i ≡ i + 1

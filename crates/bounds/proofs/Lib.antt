@@ -6,3 +6,4 @@ pub mod Filling
 pub mod Chains
 pub mod Places
 pub mod Cells
+pub mod Withdrawn

@@ -13,9 +13,9 @@ use Rattle.bounds.specs.declared.Refusal.{Refusal}
 use Rattle.bounds.specs.declared.Bounds.{Bounds}
 use Rattle.bounds.specs.declared.Shaped.{Shaped}
 
--- "a ceiling is outside 1..60"
+-- "a ceiling is outside 1..60"; since request (ii) "number 2 is given only above 60"
 abbrev pub outside : ℕ → Bool
-outside m = either (ltb m 1) (ltb 60 m)
+outside m = ltb 60 m
 
 -- "the first such kind, from 1", i parts having been passed; 0 where there is none
 unfoldable pub firstOutside : List ℕ → ℕ → ℕ

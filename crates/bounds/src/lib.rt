@@ -40,7 +40,7 @@ pub struct Shaped {
     pub all: usize,
 }
 
-// The first part, from 1, with a bound outside 1..60, or 0; and the sum of the bounds before it.
+// The first part, from 1, with a bound over 60, or 0; and the sum of the bounds before it.
 struct Scanned {
     outside: usize,
     all: usize,
@@ -49,7 +49,7 @@ struct Scanned {
 fn is_outside(m: usize) -> bool
     ensures { λ r. ⌜ r ≡ outside m ⌝ }
 {
-    if m < 1 { true } else { 60 < m }
+    60 < m
 }
 
 fn scan(upper: &[u8]) -> Scanned

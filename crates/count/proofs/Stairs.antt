@@ -21,7 +21,7 @@ use Rattle.mahonian.proofs.Staircase.{staircase-iff}
 use Rattle.bounds.specs.Refusal.{firstRefusal}
 use Rattle.bounds.specs.Edition.{firstOutside, whole, shapeChecks}
 
--- the bounds of 2 to 16 elements are within 1..60, and a total may be the row's last place, their sum: one test that antt computes
+-- no bound of 2 to 16 elements is over 60, and a total may be the row's last place, their sum: one test that antt computes
 abbrev test : ℕ → Bool
 test n = both (eqb (firstOutside (staircase (n + 1)) 0) 0) (leb (top (n + 1)) 255)
 

@@ -24,7 +24,7 @@ ghost use Rattle.model.specs.Record.{opening, peeking, calling, entriesOf};
 ghost use Rattle.engine.specs.Ranks.{rankedOf};
 ghost use Rattle.engine.specs.Version.{version};
 
-const VERSION: u32 = 1000;
+const VERSION: u32 = 1100;
 
 // A serial, or a refusal's number and detail with serial 0.
 #[repr(C)]

@@ -6,7 +6,7 @@ use Prim.Native.Nat.{ℕ, _+_, _<_}
 use native.Mathlib.Decide.{ℕ-discrete}
 use native.Mathlib.Omega.{arith}
 use lib.ListN.{length-map}
-use borrow.Author.Tests.{lt-ltb, le-ltb, ne-eqb}
+use borrow.Author.Tests.{lt-ltb, ne-eqb}
 use Rattle.walsh.proofs.Cases.{on-test, on-less}
 use Rattle.bounds.specs.Refusal.{firstRefusal}
 use Rattle.bounds.specs.Edition.{outside, firstOutside, editionChecks}
@@ -16,7 +16,7 @@ use Rattle.request.specs.Request.{held}
 use Rattle.lines.specs.Printed.{listChecks, listed}
 
 over : (m : ℕ) → 60 < m → outside m ≡ true
-over m h = rw (le-ltb m 1 (omega arith), lt-ltb 60 m h)
+over m h = lt-ltb 60 m h
 
 outside-held : (m : ℕ) → outside (held m) ≡ outside m
 outside-held m =

@@ -6,7 +6,7 @@ use mathlib.Core.List.{List, [], _∷_}
 use Prim.Native.Nat.{ℕ, zero, suc, _+_, _≤_, _<_}
 use native.Mathlib.Decide.{ℕ-discrete}
 use native.Mathlib.Omega.{arith}
-use lib.Dec.{leb, ltb}
+use lib.Dec.{leb}
 use lib.ListN.{length, getD}
 use borrow.Author.Tests.{leb-true, ltb-false}
 use Rattle.walsh.specs.Tests.{both}
@@ -21,7 +21,7 @@ use Rattle.bounds.specs.Edition.{outside, firstOutside, editionChecks}
 use Rattle.bounds.specs.Places.{mostEntries}
 use Rattle.bounds.proofs.Refusals.{passed}
 use Rattle.bounds.proofs.Chains.{accepts-split}
-use Rattle.bounds.proofs.Editions.{neither, edition-shapely}
+use Rattle.bounds.proofs.Editions.{edition-shapely}
 use Rattle.request.specs.Asked.{Asked, wants, nothing, askedOf}
 use Rattle.lines.specs.Lines.{pairEnd, lineAt}
 use Rattle.lines.specs.Printed.{Output, refusal, copies, listChecks, listed, outputFor, outputOf}
@@ -62,7 +62,7 @@ inside-most [] j e i = omega arith
 inside-most (m ∷ ms) j e i =
     on-test (outside m)
     (λ t. let z : j + 1 ≡ 0 = rw t at e in absurd (omega arith))
-    (λ t. at i (inside-most ms (j + 1) (rw t at e)) (ltb-false 60 m (neither (ltb m 1) (ltb 60 m) t .1)))
+    (λ t. at i (inside-most ms (j + 1) (rw t at e)) (ltb-false 60 m t))
   where
     at : (i : ℕ) → ((i : ℕ) → getD ms i 0 ≤ 60) → m ≤ 60 → getD (m ∷ ms) i 0 ≤ 60
     at zero below h = h

@@ -3,7 +3,7 @@ use mathlib.Core.Path.{_≡_, refl, sym, ap, _∙_}
 use mathlib.Core.Bool.{true, false}
 use mathlib.Core.Logic.{_↔_}
 use mathlib.Core.List.{List, _∷_}
-use Prim.Native.Nat.{ℕ, suc, _+_, _-_, _≤_, _<_}
+use Prim.Native.Nat.{ℕ, zero, suc, _+_, _-_, _≤_, _<_}
 use native.Mathlib.Numerals.{add-one}
 use native.Mathlib.Omega.{arith}
 use borrow.Author.Tests.{le-leb, lt-leb, eq-eqb, ne-eqb}
@@ -11,6 +11,7 @@ use lib.Dec.{eqb}
 use lib.ListN.{length, getD, drop, length-drop, drop-of-length-le}
 use lib.Seq.{drop-cons}
 use Rattle.walsh.specs.Tests.{both}
+use Rattle.walsh.specs.Withdrawn.{kept}
 use Rattle.walsh.specs.Order.{countOf}
 use Rattle.walsh.specs.Serial.{same}
 use Rattle.walsh.proofs.Tests.{both-none}
@@ -65,3 +66,16 @@ staircase-other ms r e = rw e
 pub staircase-long : (ms : List ℕ) (r : ℕ) → 15 < length ms → staircaseCountOf ms r ≡ Outside
 unfolding staircaseCountOf
 staircase-long ms r h = rw (le-leb 2 (suc (length ms)) (omega arith), lt-leb (suc (length ms)) 16 (omega arith), both-none (isStaircase ms))
+
+-- ---- request (ii): "puzzle editions keep their ceilings"; none of them is 0
+
+kept-staircase : (k : ℕ) → kept (staircase k) ≡ staircase k
+unfolding staircase
+kept-staircase zero = refl
+kept-staircase (suc zero) = refl
+kept-staircase (suc (suc n)) = ap (λ (l : List ℕ). suc n ∷ l) (kept-staircase (suc n))
+
+pub staircase-kept : (ms : List ℕ) → isStaircase ms ≡ true → kept ms ≡ ms
+staircase-kept ms e =
+    let is : ms ≡ staircase (length ms + 1) = staircase-iff ms .0 e in
+    ap (λ (l : List ℕ). kept l) is ∙ kept-staircase (length ms + 1) ∙ sym is

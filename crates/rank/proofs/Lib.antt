@@ -2,3 +2,4 @@ pub mod Locations
 pub mod Calls
 pub mod RoundTrips
 pub mod Consequences
+pub mod Withdrawn

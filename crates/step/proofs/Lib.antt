@@ -7,7 +7,9 @@ pub mod Ways
 pub mod Answers
 pub mod Cells
 pub mod Steps
+pub mod Fronts
 pub mod Runs
 pub mod Copies
 pub mod Batches
+pub mod Withdrawn
 pub mod Consequences

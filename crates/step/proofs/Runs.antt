@@ -1,32 +1,31 @@
--- A run goes on: part 1 moves, and the composition is the next.
+-- A run goes on: the second of the two parts moves, and the composition is the next.
 use mathlib.Core.Path.{_≡_, refl, sym, ap, _∙_, subst}
 use mathlib.Core.Bool.{Bool, true, false, cond, true≢false}
-use mathlib.Core.List.{List, [], _∷_, _++_, append-nil}
-use Prim.Native.Nat.{ℕ, zero, suc, _+_, _-_, _≤_, _<_, min}
-use native.Mathlib.Nat.{le-refl, add-zero, mul-one}
+use mathlib.Core.List.{List, _++_}
+use Prim.Native.Nat.{ℕ, zero, suc, _+_, _-_, _*_, _≤_, _<_, min}
+use native.Mathlib.Nat.{le-refl, add-zero, zero-mul, one-mul, mul-le-mul-right}
 use native.Mathlib.Omega.{arith}
 use lib.Dec.{ltb}
 use lib.ListN.{length, getD, set, take, drop, length-set, length-take}
-use lib.Seq.{take-append-le, take-nil, take-take}
-use borrow.Author.Tests.{lt-ltb, le-ltb}
+use lib.Seq.{take-append-le, take-take, take-set-lt, set-append-left, set-getD, set-set, set-comm, getD-set-same, getD-set-other}
+use borrow.Author.Tests.{lt-ltb, le-ltb, le-leb}
 use Rattle.walsh.specs.Sums.{sumTo}
-use Rattle.walsh.specs.Order.{Composition, isOdd, least, most, countOf}
-use Rattle.walsh.specs.Serial.{serialOf, compositionOf}
-use Rattle.walsh.specs.Step.{nextValue, Pivot, stepAt}
-use Rattle.walsh.proofs.Complete.{composition-low}
-use Rattle.walsh.proofs.Ends.{next-low, rest-fits}
-use Rattle.walsh.proofs.Serials.{composition-is, serial-composition, composition-serial}
-use Rattle.walsh.proofs.Successors.{successor-at, successor-none}
+use Rattle.walsh.specs.Order.{Composition, isOdd, countOf}
+use Rattle.walsh.specs.Serial.{serialOf}
+use Rattle.walsh.specs.Step.{nextValue}
+use Rattle.walsh.proofs.Cases.{up-to}
+use Rattle.walsh.proofs.Serials.{composition-serial}
+use Rattle.walsh.proofs.Successors.{successor-none}
 use Rattle.bounds.specs.Places.{copied}
-use Rattle.step.specs.Advance.{canMove}
-use Rattle.step.specs.Run.{valuesLeft, sumOf, Running, BehindRun, movedOf, CanMove, shown, Asked, copiesFrom}
+use Rattle.step.specs.Advance.{canMove, nextAt, restAt, otherOf, turnAt, turnOf}
+use Rattle.step.specs.Run.{InFront, valuesLeft, sumOf, Running, BehindRun, movedOf, CanMove, shown, Asked, copiesFrom}
 use Rattle.step.specs.Batch.{copiesOf}
 use Rattle.step.specs.Turn.{Begins}
 use Rattle.step.specs.declared.PivotSums.{PivotSums}
+use Rattle.step.specs.declared.batch.Front.{Front}
 use Rattle.step.specs.declared.batch.Run.{Run}
-use Rattle.step.proofs.Others.{sum-one, leftover-part}
-use Rattle.step.proofs.Pivots.{can-here, moving-on}
-use Rattle.step.proofs.Turns.{first-stays, part-moves, upTo}
+use Rattle.step.proofs.Fronts.{part-none, sum-after, front-stays, passed-to, stops-at, other-left}
+use Rattle.step.proofs.Turns.{part-stays}
 use Rattle.step.proofs.Ways.{moving}
 
 -- ---- numbers
@@ -42,30 +41,32 @@ left-stays lo hi v more true none l = le-ltb lo v (omega arith)
 left-stays lo hi v more false none l = le-ltb v hi (omega arith)
 
 -- what `run_of` computes
-pub run-begins : (ms : List ℕ) (r a b wa wb right lo hi m0 m1 v more : ℕ) (falling : Bool) → wa ≡ a → wb ≡ b → right ≡ r - (wa + wb)
-    → falling ≡ isOdd right → (m0 ≡ getD ms 0 0) × (m0 ≤ 255) → lo ≡ wa + wb - m0 → (m1 ≡ getD ms 1 0) × (m1 ≤ 255) → hi ≡ min m1 (wa + wb)
-    → v ≡ b → more ≡ valuesLeft lo hi falling v
-    → Running ms r (record { first = a; second = b; falling = falling; more = more })
-run-begins ms r a b wa wb right lo hi m0 m1 v more falling ea eb er ef (e0, b0) elo (e1, b1) ehi ev em =
+pub run-begins : (ms : List ℕ) (r : ℕ) (p : Front) (a b wa wb right lo hi m0 m1 v more : ℕ) (falling : Bool) → wa ≡ a → wb ≡ b
+    → right ≡ r - (wa + wb) → falling ≡ isOdd right → (m0 ≡ getD ms (p .low) 0) × (m0 ≤ 255) → lo ≡ wa + wb - m0
+    → (m1 ≡ getD ms (p .high) 0) × (m1 ≤ 255) → hi ≡ min m1 (wa + wb) → v ≡ b → more ≡ valuesLeft lo hi falling v
+    → Running ms r p (record { first = a; second = b; falling = falling; more = more })
+run-begins ms r p a b wa wb right lo hi m0 m1 v more falling ea eb er ef (e0, b0) elo (e1, b1) ehi ev em =
     record {
       way = ef ∙ rw (er, ea, eb);
       bytes = (omega arith, omega arith);
       left = rw (em, elo, ehi, e0, e1, ev, ea, eb);
     }
 
--- a move of part 1: the same sum, and its next value
-pub record Moves-to (ms : List ℕ) (r : ℕ) (x y : Run) : Type 0 where
+-- a move of the second part: the same sum, and its next value
+pub record Moves-to (ms : List ℕ) (r : ℕ) (p : Front) (x y : Run) : Type 0 where
   pub can : CanMove x
-  pub running : Running ms r y
+  pub running : Running ms r p y
   pub sum : sumOf y ≡ sumOf x
   pub second : y .second ≡ nextValue (x .falling) (x .second)
+  pub fits : x .first ≤ getD ms (p .low) 0 → y .first ≤ getD ms (p .low) 0
+  pub differs : y .first ≡ x .first → ⊥
 
-pub moves-to : (ms : List ℕ) (r : ℕ) (x : Run) → Running ms r x → 0 < x .more → Moves-to ms r x (movedOf x)
-moves-to ms r x run more = go (x .falling) refl
+pub moves-to : (ms : List ℕ) (r : ℕ) (p : Front) (x : Run) → Running ms r p x → 0 < x .more → Moves-to ms r p x (movedOf x)
+moves-to ms r p x run more = go (x .falling) refl
   where
-    go : (b : Bool) → x .falling ≡ b → Moves-to ms r x (movedOf x)
+    go : (b : Bool) → x .falling ≡ b → Moves-to ms r p x (movedOf x)
     go true e =
-        let l : x .more ≡ x .second - (sumOf x - getD ms 0 0) = rw e at (run .left) in
+        let l : x .more ≡ x .second - (sumOf x - getD ms (p .low) 0) = rw e at (run .left) in
         let same : x .first + 1 + (x .second - 1) ≡ sumOf x = omega arith in
         let way : true ≡ isOdd (r - sumOf x) = sym e ∙ run .way in
         let bytes = run .bytes in
@@ -74,9 +75,11 @@ moves-to ms r x run more = go (x .falling) refl
           running = rw e (record { way = rw same way; bytes = run .bytes; left = rw same (omega arith) });
           sum = rw e same;
           second = rw e;
+          fits = λ h. rw e (omega arith);
+          differs = λ q. let one : x .first + 1 ≡ x .first = rw e at q in omega arith;
         }
     go false e =
-        let l : x .more ≡ min (getD ms 1 0) (sumOf x) - x .second = rw e at (run .left) in
+        let l : x .more ≡ min (getD ms (p .high) 0) (sumOf x) - x .second = rw e at (run .left) in
         let same : x .first - 1 + (x .second + 1) ≡ sumOf x = omega arith in
         let way : false ≡ isOdd (r - sumOf x) = sym e ∙ run .way in
         let bytes = run .bytes in
@@ -85,170 +88,202 @@ moves-to ms r x run more = go (x .falling) refl
           running = rw e (record { way = rw same way; bytes = run .bytes; left = rw same (omega arith) });
           sum = rw e same;
           second = rw e;
+          fits = λ h. rw e (omega arith);
+          differs = λ q. let one : x .first - 1 ≡ x .first = rw e at q in omega arith;
         }
 
--- ---- the first two parts
+-- ---- the two parts over the others
 
-pub set-two : (g : List ℕ) (a b : ℕ) → 1 < length g → set (set g 0 a) 1 b ≡ a ∷ b ∷ drop 2 g
-set-two [] a b h = absurd (omega arith)
-set-two (x ∷ []) a b h = absurd (omega arith)
-set-two (x ∷ y ∷ g) a b h = refl
+module _ (p : Front) (x : Run) where
+  pub shown-length : (g : List ℕ) → length (shown p x g) ≡ length g
+  shown-length g = simp length-set
 
-pub two-parts : (g : List ℕ) → 1 < length g → getD g 0 0 ∷ getD g 1 0 ∷ drop 2 g ≡ g
-two-parts [] h = absurd (omega arith)
-two-parts (x ∷ []) h = absurd (omega arith)
-two-parts (x ∷ y ∷ g) h = refl
+  -- their own values change nothing
+  pub shown-own : (g : List ℕ) → x .first ≡ getD g (p .low) 0 → x .second ≡ getD g (p .high) 0 → shown p x g ≡ g
+  shown-own g e f = rw (e, f, set-getD g (p .low) 0) (set-getD g (p .high) 0)
 
-two-over : (x : Run) (cells rest : List ℕ) (k : ℕ) → 1 < length cells → 1 < k
-    → shown x (take k cells ++ rest) ≡ take k (shown x cells) ++ rest
-two-over x cells rest zero h l = absurd (omega arith)
-two-over x cells rest (suc zero) h l = absurd (omega arith)
-two-over x [] rest (suc (suc k)) h l = absurd (omega arith)
-two-over x (a ∷ []) rest (suc (suc k)) h l = absurd (omega arith)
-two-over x (a ∷ b ∷ cells) rest (suc (suc k)) h l = refl
+  module _ (apart : p .low < p .high) where
+    shown-low : (g : List ℕ) → p .high < length g → getD (shown p x g) (p .low) 0 ≡ x .first
+    shown-low g l =
+        getD-set-other (set g (p .low) (x .first)) (p .high) (p .low) (x .second) 0 (λ e. omega arith)
+        ∙ getD-set-same g (p .low) (x .first) 0 (omega arith)
 
-shown-length : (x : Run) (cells : List ℕ) → 1 < length cells → length (shown x cells) ≡ length cells
-shown-length x cells h = ap length (sym (set-two cells (x .first) (x .second) h)) ∙ simp length-set
+    shown-high : (g : List ℕ) → p .high < length g → getD (shown p x g) (p .high) 0 ≡ x .second
+    shown-high g l = getD-set-same (set g (p .low) (x .first)) (p .high) (x .second) 0 (rw length-set l)
 
--- all but the first two of the first n
-pub later-taken : (l : List ℕ) (n : ℕ) → 1 < n → take (n - 2) (drop 2 l) ≡ drop 2 (take n l)
-later-taken l zero h = absurd (omega arith)
-later-taken l (suc zero) h = absurd (omega arith)
-later-taken l (suc (suc n)) h = let e : suc (suc n) - 2 ≡ n = omega arith in rw e (go l)
-  where
-    go : (l : List ℕ) → take n (drop 2 l) ≡ drop 2 (take (suc (suc n)) l)
-    go [] = take-nil n
-    go (x ∷ []) = take-nil n
-    go (x ∷ y ∷ l) = refl
+    -- the first n
+    shown-taken : (g : List ℕ) (n : ℕ) → p .high < n → take n (shown p x g) ≡ shown p x (take n g)
+    shown-taken g n l =
+        take-set-lt n (set g (p .low) (x .first)) (p .high) (x .second) l
+        ∙ ap (λ (h : List ℕ). set h (p .high) (x .second)) (take-set-lt n g (p .low) (x .first) (omega arith))
 
--- the run's two parts over cells that were copied
-pub two-copied : (x : Run) (cells out : List ℕ) → 1 < length cells → 1 < length out → shown x (copied cells out) ≡ copied (shown x cells) out
-unfolding copied
-two-copied x cells out h l =
-    let k = min (length cells) (length out) in
-    two-over x cells (drop k out) k h (omega arith) ∙ rw (shown-length x cells h)
+    shown-append : (g rest : List ℕ) → p .high < length g → shown p x (g ++ rest) ≡ shown p x g ++ rest
+    shown-append g rest l =
+        ap (λ (h : List ℕ). set h (p .high) (x .second)) (set-append-left g rest (p .low) (x .first) (omega arith))
+        ∙ set-append-left (set g (p .low) (x .first)) rest (p .high) (x .second) (rw length-set l)
 
--- the first n of what was copied
-pub shown-front : (x : Run) (cells out : List ℕ) (n : ℕ) → 1 < n → n ≤ length cells → n ≤ length out
-    → take n (copied (shown x cells) out) ≡ shown x (take n cells)
-unfolding copied
-shown-front x cells out n some h l =
-    let k = min (length (shown x cells)) (length out) in
-    let size = shown-length x cells (omega arith) in
-    take-append-le n (take k (shown x cells)) (drop k out) (simp length-take (omega (arith, size)))
-    ∙ take-take n k (shown x cells) (omega (arith, size))
-    ∙ sym (append-nil (take n (shown x cells)))
-    ∙ sym (two-over x cells [] n (omega arith) some)
-    ∙ ap (shown x) (append-nil (take n cells))
+    -- over cells that were copied
+    pub shown-copied : (cells out : List ℕ) → p .high < length cells → p .high < length out
+        → shown p x (copied cells out) ≡ copied (shown p x cells) out
+    unfolding copied
+    shown-copied cells out h l =
+        let k = min (length cells) (length out) in
+        shown-append (take k cells) (drop k out) (simp length-take (omega arith))
+        ∙ ap (λ (g : List ℕ). g ++ drop k out) (sym (shown-taken cells k (omega arith)))
+        ∙ rw (shown-length cells)
 
--- part 0 takes what part 1 leaves
-step-one : (ms : List ℕ) (r a b : ℕ) (rest : List ℕ) (u : ℕ) → u ≡ nextValue (isOdd (r - sumTo (a ∷ b ∷ rest) 2)) b
-    → sumTo (a ∷ b ∷ rest) 2 - u ≤ sumTo ms 1
-    → stepAt ms r (a ∷ b ∷ rest) 1 ≡ (a + b - u) ∷ u ∷ rest
-unfolding stepAt
-step-one ms r a b rest u eu fits =
-    let rem : ℕ = sumTo (a ∷ b ∷ rest) 2 in
-    let sum : rem - u ≡ a + b - u = omega arith in
-    rw (← eu) (sym (leftover-part ms (0 ∷ u ∷ rest) 1 (rem - u) (r - rem + u) refl (omega arith) fits) ∙ ap (λ (v : ℕ). v ∷ u ∷ rest) sum)
+    -- and the first n of what was copied
+    pub shown-front : (cells out : List ℕ) (n : ℕ) → p .high < n → n ≤ length cells → n ≤ length out
+        → take n (copied (shown p x cells) out) ≡ shown p x (take n cells)
+    unfolding copied
+    shown-front cells out n some h l =
+        let k = min (length (shown p x cells)) (length out) in
+        let size = shown-length cells in
+        take-append-le n (take k (shown p x cells)) (drop k out) (simp length-take (omega (arith, size)))
+        ∙ take-take n k (shown p x cells) (omega (arith, size))
+        ∙ shown-taken cells n some
 
--- part 1 of the composition of a run can move, or cannot
-module _ (ms : List ℕ) (r : ℕ) (x : Run) (parts : List ℕ) (run : Running ms r x) where
-  abbrev shows : List ℕ
-  shows = shown x parts
+-- ---- whether the second of the two can move
+
+module _ (ms : List ℕ) (r : ℕ) (p : Front) (inFront : InFront ms p) (x : Run) (parts : List ℕ) (run : Running ms r p x)
+    (valid : Composition ms r (shown p x parts)) where
+  abbrev g : List ℕ
+  g = shown p x parts
+
+  long : p .high < length parts
+  long = omega (arith, shown-length p x parts, valid .size, inFront .inside)
+
+  first : getD g (p .low) 0 ≡ x .first
+  first = shown-low p x (inFront .apart) parts long
+
+  second : getD g (p .high) 0 ≡ x .second
+  second = shown-high p x (inFront .apart) parts long
+
+  -- only part `low` of those before part `high` has a bound
+  between : sumTo ms (p .high) ≤ sumTo ms (suc (p .low))
+  between = omega (arith, inFront .between)
+
+  fits : (i : ℕ) → i < p .high → getD g i 0 ≤ getD ms i 0
+  fits i l = valid .parts .fits i (omega (arith, inFront .inside))
+
+  sum : sumTo g (suc (p .high)) ≡ sumOf x
+  sum =
+      omega (
+        arith,
+        sum-after ms (p .low) (p .high) (inFront .before) between g fits (p .high) (inFront .apart) (omega arith),
+        first,
+        second,
+      )
+
+  stays : (i : ℕ) → i < p .high → canMove ms r g i ≡ false
+  stays i l = front-stays ms (p .low) (p .high) (inFront .before) between g fits r i l
 
   abbrev lowest : ℕ
-  lowest = sumOf x - getD ms 0 0
+  lowest = sumOf x - getD ms (p .low) 0
 
   abbrev highest : ℕ
-  highest = min (getD ms 1 0) (sumOf x)
+  highest = min (getD ms (p .high) 0) (sumOf x)
 
-  can-one : cond (x .falling) (ltb lowest (x .second)) (ltb (x .second) highest) ≡ canMove ms r shows 1
-  can-one =
-      can-here ms r shows 1 (getD ms 0 0) (x .first) (getD ms 1 0) (x .second) (r - sumOf x) (x .falling) _
-      (sym (sum-one ms 1 refl)) (sym (sum-one shows 1 refl)) refl refl refl (run .way) refl
+  can-high : canMove ms r g (p .high) ≡ cond (x .falling) (ltb lowest (x .second)) (ltb (x .second) highest)
+  can-high = rw (sum, second, inFront .between, run .way)
 
-  run-on : 0 < x .more → canMove ms r shows 1 ≡ true
-  run-on more = sym can-one ∙ left-moves lowest highest (x .second) (x .more) (x .falling) more (run .left)
-
-  run-over : x .more ≡ 0 → canMove ms r shows 1 ≡ false
-  run-over none = sym can-one ∙ left-stays lowest highest (x .second) (x .more) (x .falling) none (run .left)
-
-  -- then the search for the part that moves begins at part 2
-  pub run-behind : 1 < length ms → x .more ≡ 0 → (f : PivotSums) → BehindRun ms x f → Begins ms r shows f
-  run-behind wide none f b =
+  -- where it cannot, the search for the part that moves begins behind it
+  pub run-behind : x .more ≡ 0 → (f : PivotSums) → BehindRun ms p x f → Begins ms r g f
+  run-behind none f b =
+      let still = can-high ∙ left-stays lowest highest (x .second) (x .more) (x .falling) none (run .left) in
+      let next : p .high + 1 ≡ suc (p .high) = omega arith in
       rw (b .at)
       (record {
         some = omega arith;
-        within = omega arith;
-        left = omega (arith, b .left);
-        sum = omega (arith, b .sum);
-        small = (omega (arith, b .small), omega (arith, b .small));
-        passed = moving-on ms r shows 1 wide (run-over none);
+        within = omega (arith, inFront .inside);
+        left = rw next (omega (arith, b .left, inFront .between));
+        sum = rw next (b .sum ∙ sym sum);
+        small = (omega (arith, b .small, inFront .apart), omega (arith, b .small, inFront .apart));
+        passed = passed-to ms r g (p .high) (inFront .inside) (up-to (λ i. canMove ms r g i ≡ false) still stays);
       })
 
-module _ (ms : List ℕ) (r k : ℕ) (x : Run) (parts : List ℕ) (wide : 1 < length ms) (some : 0 < k) (l : k < countOf ms r)
-    (is : shown x parts ≡ compositionOf ms r k) (run : Running ms r x) (more : 0 < x .more) where
-  abbrev y : Run
-  y = movedOf x
+  -- where it can, both move
+  module _ (more : 0 < x .more) where
+    abbrev y : Run
+    y = movedOf x
 
-  to : Moves-to ms r x y
-  to = moves-to ms r x run more
+    to : Moves-to ms r p x y
+    to = moves-to ms r p x run more
 
-  abbrev g : List ℕ
-  g = shown x parts
+    can : canMove ms r g (p .high) ≡ true
+    can = can-high ∙ left-moves lowest highest (x .second) (x .more) (x .falling) more (run .left)
 
-  valid : Composition ms r g
-  valid = subst (Composition ms r) (sym is) (composition-is ms r k some (omega arith))
+    value : nextAt r g (p .high) ≡ y .second
+    value = rw (sum, second) (sym (to .second ∙ rw (run .way)))
 
-  sum : sumTo g 2 ≡ sumOf x
-  sum = omega arith
+    rest : restAt r g (p .high) ≡ y .first
+    rest = rw (value, sum) (omega (arith, to .sum))
 
-  can : canMove ms r g 1 ≡ true
-  can = run-on ms r x parts run more
+    fitting : y .first ≤ sumTo ms (p .high)
+    fitting = rw (inFront .between) (to .fits (omega (arith, first, fits (p .low) (inFront .apart))))
 
-  pivot : Pivot ms r g 1
-  pivot = record { done = first-stays ms r g (omega arith) (moving ms r g valid r (le-refl r)); moves = part-moves ms r g 1 can }
+    -- the second part at its next value
+    abbrev moved : List ℕ
+    moved = set g (p .high) (y .second)
 
-  u-is : y .second ≡ nextValue (isOdd (r - sumTo g 2)) (x .second)
-  u-is = to .second ∙ rw (run .way, sum)
+    moved-same : (i : ℕ) → i < p .high → getD moved i 0 ≡ getD g i 0
+    moved-same i l = getD-set-other g (p .high) i (y .second) 0 (λ e. omega arith)
 
-  fits : sumTo g 2 - y .second ≤ sumTo ms 1
-  fits =
-      let rem : ℕ = sumTo g 2 in
-      rest-fits ms 1 rem (y .second)
-      (rw u-is (next-low (least ms 1 rem) (most ms 1 rem) (isOdd (r - rem)) (x .second)
-      (composition-low (upTo ms r g (moving ms r g valid r (le-refl r)) 1 wide)) (part-moves ms r g 1 can)))
+    other : otherOf ms moved (p .high - 1) (y .first) (r - sumTo g (suc (p .high)) + y .second) ≡ record { part = suc (p .low); value = y .first }
+    other =
+        let apart = inFront .apart in
+        let back : suc (p .high - 1) ≡ p .high = omega arith in
+        other-left ms moved (p .low) (inFront .before) (p .high - 1) (y .first) (r - sumTo g (suc (p .high)) + y .second) (omega arith)
+        (subst (λ (k : ℕ). sumTo ms k ≤ sumTo ms (suc (p .low))) (sym back) between) (omega (arith, fitting, inFront .between))
+        (λ e. to .differs (e ∙ moved-same (p .low) apart ∙ first))
+        (λ i a b. moved-same i (omega arith) ∙ part-none ms (p .low) (p .high) (inFront .before) between g fits i (omega arith) (λ e. omega arith))
 
-  -- the next composition
-  pub run-next : shown (movedOf x) parts ≡ compositionOf ms r (k + 1)
-  run-next =
-      let first : y .first ≡ x .first + x .second - y .second = omega (arith, to .sum) in
-      rw first (sym (step-one ms r (x .first) (x .second) (drop 2 parts) (y .second) u-is fits)
-      ∙ successor-at ms r g valid 1 wide pivot .1
-      ∙ ap (λ (s : ℕ). compositionOf ms r (s + 1)) (ap (serialOf ms r) is ∙ serial-composition ms r k some (omega arith)))
+    traded : set moved (p .low) (y .first) ≡ shown p y parts
+    traded =
+        let others : List ℕ = set parts (p .low) (x .first) in
+        ap (λ (h : List ℕ). set h (p .low) (y .first)) (set-set others (p .high) (x .second) (y .second))
+        ∙ set-comm others (p .high) (p .low) (y .second) (y .first) (λ e. omega (arith, inFront .apart))
+        ∙ ap (λ (h : List ℕ). set h (p .high) (y .second)) (set-set parts (p .low) (x .first) (y .first))
 
--- ---- a single part has one composition
+    pub run-turns : shown p (movedOf x) parts ≡ turnOf ms r g
+    unfolding turnAt
+    run-turns =
+        let at : suc (p .low) - 1 ≡ p .low = omega arith in
+        rw (
+          stops-at ms r g (p .high) (omega (arith, inFront .apart)) (inFront .inside) stays can,
+          lt-ltb (p .high) (length ms) (inFront .inside),
+          rest,
+          le-leb (y .first) (sumTo ms (p .high)) fitting,
+          value,
+          other,
+          at,
+        )
+        (sym traded)
 
-module _ (ms : List ℕ) (r : ℕ) (first : List ℕ) (c have : ℕ) (asked : Asked ms r first c have) (one : length ms ≡ 1) where
+-- ---- fewer than two parts that are left have one composition
+
+module _ (ms : List ℕ) (r : ℕ) (first : List ℕ) (c have : ℕ) (asked : Asked ms r first c have) (low : ℕ) (before : sumTo ms low ≡ 0)
+    (alone : sumTo ms (length ms) ≤ sumTo ms (suc low)) where
   abbrev only : List ℕ
   only = take (length ms) first
 
   last : serialOf ms r only ≡ countOf ms r
   last =
+      let inside = moving ms r only (asked .valid) r (le-refl r) in
       successor-none ms r only (asked .valid) .0
-      (λ j l. first-stays ms r only (asked .some) (moving ms r only (asked .valid) r (le-refl r)) j (omega arith))
+      (λ j l. part-stays ms r only j l (front-stays ms low (length ms) before alone only (inside .fits) r j l) inside)
 
-  pub single-few : c ≤ 1
+  single-few : c ≤ 1
   single-few = omega (arith, asked .within, last)
 
-  pub single-room : have ≡ c
-  single-room = asked .room ∙ rw (one, mul-one)
-
-  copies : (k : ℕ) → k ≤ 1 → take k first ≡ copiesOf ms r (serialOf ms r only) k
+  copies : (k : ℕ) → k ≤ 1 → take (k * length ms) first ≡ copiesOf ms r (serialOf ms r only) k
   unfolding copiesOf
-  copies zero l = refl
-  copies (suc zero) l = ap (λ (n : ℕ). take n first) (sym one) ∙ rw add-zero (sym (composition-serial ms r only (asked .valid)))
+  copies zero l = rw (zero-mul (length ms))
+  copies (suc zero) l = rw (one-mul (length ms), add-zero) (sym (composition-serial ms r only (asked .valid)))
   copies (suc (suc k)) l = absurd (omega arith)
 
+  pub single-room : have ≤ 24
+  single-room = omega (arith, asked .room, mul-le-mul-right (length ms) single-few, one-mul (length ms), asked .few)
+
   pub single-copies : take have first ≡ copiesFrom ms r first c
-  single-copies = ap (λ (n : ℕ). take n first) single-room ∙ copies c single-few
+  single-copies = ap (λ (n : ℕ). take n first) (asked .room) ∙ copies c single-few

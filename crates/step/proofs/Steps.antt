@@ -10,7 +10,9 @@ use lib.Seq.{take-at}
 use Rattle.walsh.specs.Order.{Composition, countOf}
 use Rattle.walsh.specs.Serial.{serialOf, compositionOf}
 use Rattle.walsh.specs.Transition.{transition, Carries}
+use Rattle.walsh.specs.Withdrawn.{BothLeft}
 use Rattle.walsh.proofs.Serials.{composition-is, serial-composition, composition-serial, serial-pos, serial-le}
+use Rattle.walsh.proofs.OwnKinds.{carries-left}
 use Rattle.bounds.specs.Refusal.{refused, firstRefusal}
 use Rattle.bounds.specs.Edition.{editionChecks, cellsOf}
 use Rattle.bounds.specs.Places.{compositionChecks}
@@ -89,6 +91,10 @@ module _ (back : Bool) (ms : List ℕ) (r : ℕ) (g : List ℕ) (ok : stepOf bac
       let c = to-carries ms r (s back ms r g) (serial-pos ms r g (at .valid)) (serial-le ms r g (at .valid)) back (at .on) in
       rw (pair-is, answer-is) (rw (composition-serial ms r g (at .valid)) at c)
 
+  -- none of the two is withdrawn
+  left : BothLeft ms (pairOf (stepOf back ms r g))
+  left = carries-left ms r (at .valid) (rw answer-is (composition-is ms r (to back ms r g) (inside .0) (inside .1))) carries
+
 -- ---- the theorems
 
 module _ (ms : List ℕ) (r : ℕ) (g : List ℕ) where
@@ -111,6 +117,13 @@ module _ (ms : List ℕ) (r : ℕ) (g : List ℕ) where
 
   pub backward-pair : predecessorOf ms r g .number ≡ 0 → Carries (length ms) g before (pairOf (predecessorOf ms r g))
   backward-pair ok = carries true ms r g ok
+
+  -- document 02, (ii): a pair names no withdrawn kind
+  pub forward-left : successorOf ms r g .number ≡ 0 → BothLeft ms (pairOf (successorOf ms r g))
+  forward-left ok = left false ms r g ok
+
+  pub backward-left : predecessorOf ms r g .number ≡ 0 → BothLeft ms (pairOf (predecessorOf ms r g))
+  backward-left ok = left true ms r g ok
 
 -- two compositions with the same successor are the same
 pub forward-once : (ms : List ℕ) (r : ℕ) (g h : List ℕ) → successorOf ms r g .number ≡ 0 → successorOf ms r h .number ≡ 0

@@ -129,18 +129,18 @@ module _ (ms : List ℕ) (w : ℕ) (g : List ℕ) where
   pub upTo : Moving ms w g → (i : ℕ) → i < length ms → CompositionTo ms (suc i) (sumTo g (suc i)) g
   upTo m i l = record { fits = λ j b. m .fits j (omega arith); sums = refl }
 
-  part-stays : (i : ℕ) → i < length ms → canMove ms w g i ≡ false → Moving ms w g → AtLast ms w g i
+  pub part-stays : (i : ℕ) → i < length ms → canMove ms w g i ≡ false → Moving ms w g → AtLast ms w g i
   part-stays i l e m =
       let rem : ℕ = sumTo g (suc i) in
       value-stays (least ms i rem) (most ms i rem) (getD g i 0) (isOdd (w - rem)) (composition-low (upTo m i l)) (composition-high (upTo m i l)) e
 
-  pub part-moves : (i : ℕ) → canMove ms w g i ≡ true → AtLast ms w g i → ⊥
+  part-moves : (i : ℕ) → canMove ms w g i ≡ true → AtLast ms w g i → ⊥
   part-moves i e q =
       let rem : ℕ = sumTo g (suc i) in
       value-moves (least ms i rem) (most ms i rem) (getD g i 0) (isOdd (w - rem)) e q
 
   -- part 0 is what the others leave
-  pub first-stays : 0 < length ms → Moving ms w g → (j : ℕ) → j < 1 → AtLast ms w g j
+  first-stays : 0 < length ms → Moving ms w g → (j : ℕ) → j < 1 → AtLast ms w g j
   first-stays some m zero l = go (isOdd (w - sumTo g 1)) (m .fits 0 some)
     where
       go : (b : Bool) → getD g 0 0 ≤ getD ms 0 0 → getD g 0 0 ≡ lastValue (least ms 0 (sumTo g 1)) (most ms 0 (sumTo g 1)) b

@@ -10,6 +10,7 @@ use lib.Dec.{eqb}
 use Rattle.walsh.specs.Order.{listing, order, count, countOf, threeTwos}
 use Rattle.walsh.specs.Serial.{same, placeOf, serialOf, compositionOf}
 use Rattle.walsh.specs.Transition.{gainFrom, transition}
+use Rattle.walsh.specs.Withdrawn.{spread, ownKind}
 use Rattle.walsh.specs.declared.Transition.{Transition}
 use Rattle.bounds.specs.Refusal.{Check, check, firstRefusal, decided}
 use Rattle.bounds.specs.Edition.{firstOutside, editionChecks, cellsOf, blank}
@@ -52,6 +53,17 @@ pairOf x = record { gain = x .gain; loss = x .loss }
 -- the answer of the step back to g from what x answered: the kinds are exchanged
 abbrev pub backFrom : Stepped → List ℕ → Stepped
 backFrom x g = record { number = 0; detail = 0; composition = cellsOf g; gain = x .loss; loss = x .gain }
+
+-- document 02, (ii): a step's answer for the edition without the withdrawn kinds, with zeros put back and the kinds by their own numbers
+abbrev pub spreadStep : List ℕ → Stepped → Stepped
+spreadStep ms x =
+    record {
+      number = x .number;
+      detail = x .detail;
+      composition = cellsOf (spread ms (x .composition));
+      gain = ownKind ms (x .gain);
+      loss = ownKind ms (x .loss);
+    }
 
 -- ---- the seven compositions of bounds 2 2 2 with total 3: 9 after the last and before the first, computed
 

@@ -1,14 +1,15 @@
 // Consecutive compositions, one behind the other (document 01, "Trays").
 ghost use mathlib.Core.Path.{_≡_};
 ghost use mathlib.Core.List.{List, _++_};
-ghost use Prim.Native.Nat.{ℕ, _+_, _*_, _≤_, _<_};
+ghost use Prim.Native.Nat.{ℕ, _*_, _≤_, _<_};
 ghost use lib.Dec.{eqb};
-ghost use lib.ListN.{length, getD, drop};
+ghost use lib.ListN.{length, getD};
+ghost use Rattle.walsh.specs.Order.{Composition};
 ghost use Rattle.bounds.specs.Refusal.{firstRefusal};
 ghost use Rattle.bounds.specs.Places.{lentChecks, copied};
 ghost use Rattle.bounds.specs.declared.Refusal.{Refusal};
 ghost use Rattle.step.specs.Batch.{beyond, rangeChecks, batchOf};
-ghost use Rattle.step.specs.Run.{valuesLeft, Running, BehindRun, CanMove, movedOf, shown, Onward, Asked, copiesFrom};
+ghost use Rattle.step.specs.Run.{NextLeft, InFront, valuesLeft, Running, BehindRun, CanMove, movedOf, shown, Onward, Asked, copiesFrom};
 use crate::PivotSums;
 use crate::turn_from;
 use bounds::Refusal;
@@ -56,8 +57,14 @@ fn room_refusal(count: u64, n: usize, serial: u64, copies: u64, have: usize) -> 
     refused(13, 0)
 }
 
-// The first two parts of a composition, which way the second goes, and how often it can still move. Most steps move these two alone, so they are
-// kept apart from the others.
+// Where the first two parts stand that are left, that is, whose bound is not 0.
+struct Front {
+    low: usize,
+    high: usize,
+}
+
+// The first two parts of a composition that are left, which way the second goes, and how often it can still move. Most steps move these two alone, so
+// they are kept apart from the others.
 struct Run {
     first: u8,
     second: u8,
@@ -72,18 +79,34 @@ fn values_left(v: usize, lo: usize, hi: usize, falling: bool) -> usize
     if falling { over(v, lo) } else { over(hi, v) }
 }
 
-fn run_of(upper: &[u8], total: usize, parts: &[u8]) -> Run
-    requires { ⌜ (1 < length (now upper)) × (1 < length (now parts)) ⌝ }
-    ensures { λ r.
-        ⌜ (r .first ≡ getD (now (parts .entry)) 0 0) × (r .second ≡ getD (now (parts .entry)) 1 0)
-        × Running (now (upper .entry)) total r ⌝ }
+// The first part from part i on that is left, or a place behind them all.
+fn next_left(upper: &[u8], i: usize) -> usize
+    ensures { λ r. ⌜ NextLeft (now (upper .entry)) i r ⌝ }
 {
-    let first = parts[0];
-    let second = parts[1];
+    let mut j = i;
+    while j < upper.len() {
+        if 0 < upper[j] {
+            return j;
+        }
+        j += 1;
+    }
+    j
+}
+
+fn run_of(upper: &[u8], total: usize, front: Front, parts: &[u8]) -> Run
+    requires { ⌜ InFront (now upper) front × (length (now parts) ≡ length (now upper)) ⌝ }
+    ensures { λ r.
+        ⌜ (r .first ≡ getD (now (parts .entry)) (front .low) 0) × (r .second ≡ getD (now (parts .entry)) (front .high) 0)
+        × Running (now (upper .entry)) total front r ⌝ }
+{
+    let low = front.low;
+    let high = front.high;
+    let first = parts[low];
+    let second = parts[high];
     let sum = wide(first) + wide(second);
     let falling = is_odd(over(total, sum));
-    let lo = over(sum, wide(upper[0]));
-    let hi = lesser(wide(upper[1]), sum);
+    let lo = over(sum, wide(upper[low]));
+    let hi = lesser(wide(upper[high]), sum);
     let more = values_left(wide(second), lo, hi, falling);
     Run {
         first,
@@ -114,88 +137,104 @@ fn moved(run: Run) -> Run
     }
 }
 
-// Where the search for the part that moves begins when the run has ended: at part 2, since part 1 cannot move.
-fn behind(upper: &[u8], run: Run) -> PivotSums
-    requires { ⌜ 1 < length (now upper) ⌝ }
-    ensures { λ r. ⌜ BehindRun (now (upper .entry)) run r ⌝ }
+// Where the search for the part that moves begins when the run has ended: behind its two parts, which cannot move.
+fn behind(upper: &[u8], front: Front, run: Run) -> PivotSums
+    requires { ⌜ (length (now upper) ≤ 24) × InFront (now upper) front ⌝ }
+    ensures { λ r. ⌜ BehindRun (now (upper .entry)) front run r ⌝ }
 {
+    let low = front.low;
+    let high = front.high;
     PivotSums {
-        at: 2,
-        left: wide(upper[0]) + wide(upper[1]),
+        at: high + 1,
+        left: wide(upper[low]) + wide(upper[high]),
         sum: wide(run.first) + wide(run.second),
         right: 0,
         falling: false,
     }
 }
 
-// Goes on to the next composition: by the run where it can move, or else by a step of the parts from part 2 on, with which a new run begins.
-fn onward(upper: &[u8], total: usize, run: Run, parts: &mut [u8]) -> Run
-    requires { ⌜ (1 < length (now upper)) × (length (now upper) ≤ 24) × (total ≤ 255) × (length (now parts) ≡ length (now upper))
-        × Running (now upper) total run ⌝ }
-    ensures { λ r. ⌜ Onward (now (upper .entry)) total (shown run (now (parts .entry))) r (now (parts .exit)) ⌝ }
+// Goes on to the next composition: by the run where it can move, or else by a step of the parts behind it, with which a new run begins.
+fn onward(upper: &[u8], total: usize, front: Front, run: Run, parts: &mut [u8]) -> Run
+    requires { ⌜ (length (now upper) ≤ 24) × (total ≤ 255) × (length (now parts) ≡ length (now upper)) × InFront (now upper) front
+        × Running (now upper) total front run × Composition (now upper) total (shown front run (now parts)) ⌝ }
+    ensures { λ r. ⌜ Onward (now (upper .entry)) total front (shown front run (now (parts .entry))) r (now (parts .exit)) ⌝ }
 {
     if 0 < run.more {
         return moved(run);
     }
-    parts[0] = run.first;
-    parts[1] = run.second;
-    turn_from(upper, total, behind(upper, run), parts);
-    run_of(upper, total, parts)
+    let low = front.low;
+    let high = front.high;
+    parts[low] = run.first;
+    parts[high] = run.second;
+    turn_from(upper, total, behind(upper, front, run), parts);
+    run_of(upper, total, front, parts)
 }
 
-// Copies 24 cells over the beginning of `out`, or as many as it has room for, but perhaps the first two. All 24 at once are two moves in compiled
-// code; the other copy leaves these two out so that the compiler does not make one copy of both, whose length would be no constant.
+// Copies 24 cells over the beginning of `out`, or as many as it has room for. All 24 at once are two moves in compiled code; the other copy writes
+// the first cell by itself so that the compiler does not make one copy of both, whose length would be no constant.
 fn lay(cells: &[u8], out: &mut [u8])
-    requires { ⌜ (length (now cells) ≡ 24) × (1 < length (now out)) ⌝ }
-    ensures { λ _. ⌜ drop 2 (now (out .exit)) ≡ drop 2 (copied (now (cells .entry)) (now (out .entry))) ⌝ }
+    requires { ⌜ (length (now cells) ≡ 24) × (0 < length (now out)) ⌝ }
+    ensures { λ _. ⌜ now (out .exit) ≡ copied (now (cells .entry)) (now (out .entry)) ⌝ }
 {
     let room = out.len();
     if 24 <= room {
         copy(cells, &mut out[..24]);
         return;
     }
-    copy(&cells[2..room], &mut out[2..]);
+    copy(&cells[1..room], &mut out[1..]);
+    out[0] = cells[0];
 }
 
 // Writes the composition of a run, whose other parts are those of `cells`, over the beginning of `out`: all 24 cells, or as many as have room.
-fn put(run: Run, cells: &[u8], out: &mut [u8])
-    requires { ⌜ (length (now cells) ≡ 24) × (1 < length (now out)) ⌝ }
-    ensures { λ _. ⌜ now (out .exit) ≡ copied (shown run (now (cells .entry))) (now (out .entry)) ⌝ }
+fn put(front: Front, run: Run, cells: &[u8], out: &mut [u8])
+    requires { ⌜ (length (now cells) ≡ 24) × (front .low < front .high) × (front .high < 24) × (front .high < length (now out)) ⌝ }
+    ensures { λ _. ⌜ now (out .exit) ≡ copied (shown front run (now (cells .entry))) (now (out .entry)) ⌝ }
 {
+    let low = front.low;
+    let high = front.high;
     lay(cells, out);
-    out[0] = run.first;
-    out[1] = run.second;
+    out[low] = run.first;
+    out[high] = run.second;
 }
 
 // Writes `copies` compositions from `first` on, each into the part of `out` that starts where the one before it ends. What a copy leaves behind its
 // own n bytes is overwritten by the next one, and the last one has room for n bytes alone.
-fn write_runs(upper: &[u8], total: usize, first: [u8; 24], copies: u64, out: &mut [u8])
-    requires { ⌜ (1 < length (now upper)) × Asked (now upper) total first copies (length (now out)) ⌝ }
+fn write_runs(
+    upper: &[u8],
+    total: usize,
+    front: Front,
+    first: [u8; 24],
+    copies: u64,
+    out: &mut [u8],
+)
+    requires { ⌜ InFront (now upper) front × Asked (now upper) total first copies (length (now out)) ⌝ }
     ensures { λ _. ⌜ now (out .exit) ≡ copiesFrom (now (upper .entry)) total first copies ⌝ }
 {
     let n = upper.len();
     let mut parts = first;
-    let mut run = run_of(upper, total, &parts[..n]);
+    let mut run = run_of(upper, total, front, &parts[..n]);
     let mut at = 0;
     let mut j: u64 = 0;
     while j < copies {
-        put(run, &parts, &mut out[at..]);
-        run = onward(upper, total, run, &mut parts[..n]);
+        put(front, run, &parts, &mut out[at..]);
+        run = onward(upper, total, front, run, &mut parts[..n]);
         at += n;
         j += 1;
     }
 }
 
-// The same, for a single part too: that has one composition.
+// The same, where fewer than two parts are left too: then there is one composition.
 fn write(upper: &[u8], total: usize, first: [u8; 24], copies: u64, out: &mut [u8])
     requires { ⌜ Asked (now upper) total first copies (length (now out)) ⌝ }
     ensures { λ _. ⌜ now (out .exit) ≡ copiesFrom (now (upper .entry)) total first copies ⌝ }
 {
-    if upper.len() == 1 {
+    let low = next_left(upper, 0);
+    let high = next_left(upper, low + 1);
+    if upper.len() <= high {
         copy(&first, out);
         return;
     }
-    write_runs(upper, total, first, copies, out);
+    write_runs(upper, total, Front { low, high }, first, copies, out);
 }
 
 // Writes `copies` compositions from that of `serial` on into `out`, or answers the refusal and writes nothing. One table serves them all.

@@ -17,3 +17,5 @@ pub mod Steps
 pub mod Successors
 pub mod Gray
 pub mod Transitions
+pub mod Withdrawn
+pub mod OwnKinds

@@ -34,7 +34,7 @@ abbrev pub inner : List ℕ → ℕ → ℕ → ℕ → ℕ → List (List ℕ)
 inner ms k rem t v = listing ms k (rem - v) (t + v)
 
 -- the block of value number i
-abbrev block : List ℕ → ℕ → ℕ → ℕ → ℕ → List (List ℕ)
+abbrev pub block : List ℕ → ℕ → ℕ → ℕ → ℕ → List (List ℕ)
 block ms k rem t i = behind (partValue ms k rem t i) (inner ms k rem t (partValue ms k rem t i))
 
 pub length-listing : (ms : List ℕ) (k rem t : ℕ) → length (listing ms k rem t) ≡ count ms k rem

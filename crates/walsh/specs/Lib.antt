@@ -8,3 +8,4 @@ pub mod Compare
 pub mod Rank
 pub mod Step
 pub mod Transition
+pub mod Withdrawn

@@ -103,6 +103,11 @@ the-order : order threeTwos 3 ≡ seven
 unfolding order listing
 the-order = refl
 
+-- document 02, (ii): a kind withdrawn between the second and the third; the directions stay, and each mix has a 0 there
+the-gap : order (2 ∷ 2 ∷ 0 ∷ 2 ∷ []) 3 ≡ map (λ (g : List ℕ). getD g 0 0 ∷ getD g 1 0 ∷ 0 ∷ getD g 2 0 ∷ []) seven
+unfolding order listing
+the-gap = refl
+
 -- "N is 7 and not 1"
 the-count : countOf threeTwos 3 ≡ 7
 unfolding countOf count

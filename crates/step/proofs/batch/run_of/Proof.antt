@@ -21,6 +21,7 @@ returns c =
       run-begins
           (start .args .upper .now)
           (start .args .total)
+          (start .args .front)
           _
           _
           (one .wide .result)
