@@ -1,5 +1,6 @@
 """Inputs for the tests: editions, mixes, serials, lengths and records, good ones, damaged ones and those at the ends of a range."""
 import reference as ref
+import sheets
 
 LARGEST = (1 << 64) - 1
 
@@ -147,7 +148,7 @@ def any_order(rng, lines):
 def any_sheet_order(rng, ms, r):
     k = len(ms) + 1
     if accepted(ms, r) and ref.puzzle(ms) == (0, 0):
-        p = ref.order_of_mix(ref.mix_at(ms, r, rng.randint(1, ref.number(ms, r))))
+        p = sheets.order_of_mix(ref.mix_at(ms, r, rng.randint(1, ref.number(ms, r))))
     else:
         p = rng.sample(range(1, k + 1), k)
     damage = rng.random()

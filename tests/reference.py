@@ -4,6 +4,8 @@ words. The answer of a call is a tuple that starts with number and detail."""
 import re
 from functools import lru_cache
 
+import sheets
+
 LIMIT = 9_223_372_036_854_775_807
 MOST_LINES = 1_000_000
 BLANK = (0,) * 24
@@ -205,30 +207,20 @@ def puzzle(ms):
     return (0, 0) if list(ms) == list(range(len(ms), 0, -1)) else (10, 0)
 
 
-def mix_of_order(p):
-    return [sum(1 for later in p[i + 1:] if later < p[i]) for i in range(len(p) - 1)]
-
-
-def order_of_mix(mix):
-    """each place takes the sheet that has as many smaller ones left as the mix says"""
-    left = list(range(1, len(mix) + 2))
-    return [left.pop(g) for g in mix] + left
-
-
 def sheet_order_given(ms, r, p):
     if sorted(p) != list(range(1, len(ms) + 2)):
         return 11, 0
-    return (0, 0) if sum(mix_of_order(p)) == r else (12, 0)
+    return (0, 0) if sum(sheets.mix_of_order(p)) == r else (12, 0)
 
 
 def permutation(ms, r, mix, out):
     refusal = first(lambda: edition(ms, r), lambda: puzzle(ms), lambda: mix_given(ms, r, mix), lambda: lent_part(len(ms) + 1, len(out)))
-    return (*refusal, out if refusal[0] else bytes(order_of_mix(mix)))
+    return (*refusal, out if refusal[0] else bytes(sheets.order_of_mix(mix)))
 
 
 def inversions(ms, r, p, out):
     refusal = first(lambda: edition(ms, r), lambda: puzzle(ms), lambda: sheet_order_given(ms, r, p), lambda: lent_part(len(ms), len(out)))
-    return (*refusal, out if refusal[0] else bytes(mix_of_order(p)))
+    return (*refusal, out if refusal[0] else bytes(sheets.mix_of_order(p)))
 
 
 # ---- The register: a record is (n, 24 ceilings, r, lines, sold, spoilt, 24 cells of the next mix)

@@ -1,0 +1,72 @@
+"""What the documents print, asked of the compiled engine, and the reference against itself."""
+import inputs
+import reference as ref
+from cases import compare, refused
+from lent import Lent, call, huztiral, ledger_of
+
+
+def copies_of_the_document():
+    edition = huztiral.Edition
+    seven = [[2, 1, 0], [1, 2, 0], [0, 2, 1], [1, 1, 1], [2, 0, 1], [1, 0, 2], [0, 1, 2]]
+    puzzle = edition([3, 2, 1], 3)
+    mixes = [[3, 0, 0], [2, 1, 0], [1, 2, 0], [0, 2, 1], [1, 1, 1], [2, 0, 1]]
+    orders = [[4, 1, 2, 3], [3, 2, 1, 4], [2, 4, 1, 3], [1, 4, 3, 2], [2, 3, 4, 1], [3, 1, 4, 2]]
+    compare("document", "A", edition([2, 2, 2], 3).batch(1, 7), seven)
+    compare("document", "B", edition([2, 2, 2], 3).rank([0, 2, 1]), 3)
+    compare("document", "C", edition([2, 2, 2], 3).successor([2, 0, 1]), ([1, 0, 2], 3, 1))
+    compare("document", "C, back", edition([2, 2, 2], 3).predecessor([1, 0, 2]), ([2, 0, 1], 1, 3))
+    compare("document", "the pairs of A", [edition([2, 2, 2], 3).successor(g)[1:] for g in seven[:-1]], [(2, 1), (3, 1), (1, 2), (1, 2), (3, 1), (2, 1)])
+    compare("document", "D", edition([2, 2, 2], 5).batch(1, 3), [[2, 2, 1], [2, 1, 2], [1, 2, 2]])
+    compare("document", "E", (edition([5], 5).count, refused(edition, [5], 6)), (1, (4, 0)))
+    compare("document", "F", (edition([2, 2], 0).unrank(1), edition([2, 2], 4).count, refused(edition, [2, 2], 5)), ([0, 0], 1, (4, 0)))
+    compare("document", "G", (puzzle.batch(1, 6), [puzzle.permutation(g) for g in mixes], [puzzle.inversions(p) for p in orders]),
+            (mixes, orders, mixes))
+    compare("document", "H", [edition([2, 1], 1).permutation(edition([2, 1], 1).unrank(s)) for s in (1, 2)], [[2, 1, 3], [1, 3, 2]])
+    register = edition([1, 1], 1).open()
+    compare("document", "I", (register.peek(), register.peek(), register.claim(1, 1007), refused(register.claim, 1, 1014), register.peek(),
+                              register.claim(2, 1014), refused(register.peek), register.entries()),
+            ((1, [1, 0], 0, 0), (1, [1, 0], 0, 0), (1, [1, 0]), (18, 1007), (2, [0, 1], 2, 1), (2, [0, 1]), (21, 0), [1007, 1014]))
+    register = edition([1, 1], 1).open()
+    compare("document", "J", (register.void(1), refused(register.claim, 1, 1007)), ((1, [1, 0]), (18, 0)))
+    compare("document", "N", (edition(range(11, 0, -1), 33).count, edition([10] * 24, 239).count), (25598186, 24))
+
+
+def a_tile_withdrawn():
+    """request (ii)"""
+    edition = huztiral.Edition
+    seven = [[g[0], 0, *g[1:]] for g in edition([2, 2, 2], 3).batch(1, 7)]
+    gap = edition([2, 0, 2, 2], 3)
+    compare("document", "2 0 2 2", (gap.count, gap.batch(1, 7), [gap.rank(g) for g in seven]), (7, seven, [1, 2, 3, 4, 5, 6, 7]))
+    compare("document", "its pairs", [gap.successor(g)[1:] for g in seven[:-1]], [(3, 1), (4, 1), (1, 3), (1, 3), (4, 1), (3, 1)])
+    for zeros in [0], [0] * 2, [0] * 24:
+        none, register = edition(zeros, 0), edition(zeros, 0).open()
+        compare("document", zeros, (none.count, none.unrank(1), none.rank(zeros), refused(none.successor, zeros), refused(none.predecessor, zeros)),
+                (1, zeros, 1, (9, 0), (9, 0)))
+        compare("document", zeros, (register.peek(), register.claim(1, 1007), refused(register.peek), register.entries(), refused(edition, zeros, 1)),
+                ((1, zeros, 0, 0), (1, zeros), (21, 0), [1007], (4, 0)))
+    for ms, r, refusal in ([0, 61], 1, (2, 2)), ([1, 0, 61], 256, (2, 3)), ([1] * 24 + [0], 3, (1, 0)), ([0] * 25, 0, (1, 0)):
+        compare("document", (ms, r), refused(edition, ms, r), refusal)
+    for ms in [2, 1, 0], [2, 0, 1], [0, 2, 1], [0]:
+        e = edition(ms, sum(ms) // 2)
+        orders = e.unrank(1), [2, 1, 3], [2, 1, 3, 4]
+        compare("document", ms, [refused(f, p) for f in (e.permutation, e.inversions) for p in orders], [(10, 0)] * 6)
+    # a record in which n was damaged upwards, over cells that are 0, is that of the edition with kinds withdrawn behind
+    for n, number in (3, 0), (4, 0), (24, 0), (2, 16), (25, 16), (0, 16):
+        record = (n, *ref.record_of((2, 2, 2), 3, [1007, 0])[1:])
+        compare("document", (n, "kinds"), call("huz_peek", ledger_of(record), Lent([1007, 0] + [7] * 5, 4))[0], number)
+
+
+def the_reference():
+    """it is at one with its own listing, and the rule of document 01, read with ceilings of 0, gives the same"""
+    for ms, r in ((2, 2, 2), 3), ((3, 2, 1), 3), ((4, 1, 2, 3, 1), 6), ((1,) * 9, 4), ((2, 5, 3), 5), *inputs.WITHDRAWN:
+        n = ref.number(ms, r)
+        if inputs.accepted(ms, r) and n < 2000:
+            compare("reference", (ms, r), [ref.mix_at(ms, r, s) for s in range(1, n + 1)], list(ref.listing(ms, r)))
+            compare("reference", (ms, r), [ref.serial_of(ms, r, g) for g in ref.listing(ms, r)], list(range(1, n + 1)))
+            compare("reference", (ms, r), list(ref.walk(ms, r)), list(ref.listing(ms, r)))
+
+
+def compared():
+    copies_of_the_document()
+    a_tile_withdrawn()
+    the_reference()
