@@ -9,7 +9,7 @@ use lib.ListN.{length, getD, take, drop, length-take, length-drop}
 use lib.Seq.{length-take-le, take-suc, take-add, split-at, take-all, getD-drop}
 use Rattle.walsh.proofs.Cases.{on-test, on-less}
 use Rattle.model.specs.Basics.{howMany, firstPlace}
-use Rattle.model.proofs.Lists.{many-append}
+use Rattle.walsh.proofs.Tests.{many-append}
 
 module _ {A : Type 0} (test : A → Bool) where
   -- ---- counts

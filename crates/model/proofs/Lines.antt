@@ -10,7 +10,7 @@ use Rattle.model.specs.Entry.{Entry, voidEntry, isVoided, soldIn, voided
 use Rattle.model.specs.Printing.{Printing}
 use Rattle.model.specs.Model.{Call, peek, claim, void, accepted, answer, appended, Event}
 use Rattle.model.specs.Trace.{writes, isClaim, isVoid, those}
-use Rattle.model.proofs.Lists.{many-append}
+use Rattle.walsh.proofs.Tests.{many-append}
 use Rattle.model.proofs.Entries.{one-sold}
 use Rattle.model.proofs.Calls.{for-an-order, for-a-new-order}
 use Rattle.model.proofs.Orders.{distinct-snoc}

@@ -11,10 +11,6 @@ use Rattle.walsh.proofs.Cases.{on-test}
 use Rattle.model.specs.Basics.{howMany, replaced}
 
 module _ {A : Type 0} (test : A → Bool) where
-  pub many-append : (l m : List A) → howMany test (l ++ m) ≡ howMany test l + howMany test m
-  many-append [] m = omega arith
-  many-append (x ∷ l) m = omega (arith, many-append l m)
-
   -- each entry passes the test, or it does not
   pub many-or-not : (l : List A) → howMany (λ x. not (test x)) l + howMany test l ≡ length l
   many-or-not [] = refl

@@ -16,7 +16,7 @@ use Rattle.model.specs.Printing.{Printing, placeOf, nextComposition}
 use Rattle.model.specs.Model.{Call, accepted, granted, answer, appended, after, event, eventAt, bookFrom}
 use Rattle.model.specs.Record.{printingOf, ledgerOf, written, consistent, answered}
 use Rattle.model.specs.Record.{advanced, counted, entered, recordAfter, columnAfter, Run, run}
-use Rattle.model.proofs.Lists.{many-append}
+use Rattle.walsh.proofs.Tests.{many-append}
 use Rattle.model.proofs.Entries.{entries-over, room-over, put-over}
 use Rattle.model.proofs.Calls.{Reached, Grant, grant}
 use Rattle.model.proofs.Opening.{Opens}

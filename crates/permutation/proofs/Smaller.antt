@@ -6,21 +6,22 @@ use Prim.Native.Nat.{ℕ, zero, suc, _+_, _-_, _≤_, _<_}
 use native.Mathlib.Nat.{zero-add, le-refl}
 use native.Mathlib.Omega.{arith}
 use lib.Dec.{ltb, leb·suc-suc}
-use lib.ListN.{length, getD, take, drop}
-use lib.Seq.{take-suc}
+use lib.ListN.{length, getD, take, drop, length-append, List·getD-append}
+use lib.Seq.{take-suc, getD-at}
 use borrow.Author.Tests.{lt-ltb, le-ltb}
 use Rattle.walsh.specs.Sums.{sum, sumTo}
+use Rattle.walsh.proofs.Cases.{up-to}
 use Rattle.walsh.proofs.Lists.{sum-same, sum-front}
 use Rattle.permutation.specs.Permutation.{inverted, smallerAfter, tabulate, inversionVector, inversions}
 use Rattle.permutation.proofs.Counts.{below}
 
 -- ---- a list by its places
 
-tabulate-same : (f f′ : ℕ → ℕ) (n : ℕ) → ((i : ℕ) → f i ≡ f′ i) → tabulate f n ≡ tabulate f′ n
+pub tabulate-same : (f f′ : ℕ → ℕ) (n : ℕ) → ((i : ℕ) → f i ≡ f′ i) → tabulate f n ≡ tabulate f′ n
 tabulate-same f f′ zero same = refl
 tabulate-same f f′ (suc n) same = rw (tabulate-same f f′ n same, same n)
 
-tabulate-front : (f : ℕ → ℕ) (n : ℕ) → tabulate f (suc n) ≡ f 0 ∷ tabulate (λ i. f (suc i)) n
+pub tabulate-front : (f : ℕ → ℕ) (n : ℕ) → tabulate f (suc n) ≡ f 0 ∷ tabulate (λ i. f (suc i)) n
 tabulate-front f zero = refl
 tabulate-front f (suc n) = ap (λ (l : List ℕ). l ++ (f (suc n) ∷ [])) (tabulate-front f n)
 
@@ -28,6 +29,16 @@ pub tabulate-take : (f : ℕ → ℕ) (l : List ℕ) (n : ℕ) → n ≤ length 
 tabulate-take f l zero h each = refl
 tabulate-take f l (suc n) h each =
     take-suc l n 0 h ∙ rw (tabulate-take f l n (omega arith) (λ j b. each j (omega arith)), each n (le-refl (suc n)))
+
+pub tabulate-length : (f : ℕ → ℕ) (n : ℕ) → length (tabulate f n) ≡ n
+tabulate-length f zero = refl
+tabulate-length f (suc n) = length-append (tabulate f n) (f n ∷ []) ∙ omega (arith, tabulate-length f n)
+
+pub tabulate-at : (f : ℕ → ℕ) (n j : ℕ) → j < n → getD (tabulate f n) j 0 ≡ f j
+tabulate-at f zero j h = absurd (omega arith)
+tabulate-at f (suc n) j h =
+    up-to (λ i. getD (tabulate f (suc n)) i 0 ≡ f i) (getD-at (tabulate f n) (f n) [] 0 n (tabulate-length f n))
+    (λ i b. List·getD-append (tabulate f n) (f n ∷ []) 0 i (omega (arith, tabulate-length f n)) ∙ tabulate-at f n i b) j h
 
 -- ---- how many later entries are smaller
 

@@ -3,12 +3,11 @@ use mathlib.Core.Path.{_≡_, refl, sym, ap, _∙_}
 use mathlib.Core.Bool.{Bool, true, false}
 use mathlib.Core.List.{List, _++_}
 use Prim.Native.Nat.{ℕ, _+_, _-_, _≤_, _<_}
-use native.Mathlib.Numerals.{add-one}
 use native.Mathlib.Omega.{arith}
 use lib.ListN.{length, getD, take, length-take}
-use borrow.Author.Tests.{eqb-true, eq-eqb, lt-ltb, not-false}
+use borrow.Author.Tests.{eqb-true, eq-eqb, ne-eqb, lt-ltb, not-false}
 use Rattle.walsh.specs.Order.{Composition}
-use Rattle.bounds.specs.Refusal.{refused, firstRefusal}
+use Rattle.bounds.specs.Refusal.{Check, refused, firstRefusal}
 use Rattle.bounds.specs.Edition.{editionChecks}
 use Rattle.bounds.specs.Places.{compositionChecks}
 use Rattle.bounds.specs.declared.Refusal.{Refusal}
@@ -18,11 +17,11 @@ use Rattle.bounds.proofs.Places.{lent-passed, lent-passes}
 use Rattle.bounds.proofs.Compositions.{composition-passed, composition-passes}
 use Rattle.bounds.proofs.Chains.{Accepts, accepts-split, accepts-join}
 use Rattle.mahonian.specs.Staircase.{isStaircase}
-use Rattle.permutation.specs.Permutation.{inversionVector}
-use Rattle.permutation.specs.Reading.{Reading, PermutationWith}
-use Rattle.permutation.specs.Conversions.{staircaseChecks, permutationChecks, toPermutationChecks, toCompositionChecks}
+use Rattle.permutation.specs.Permutation.{IsPermutation, isPermutation}
+use Rattle.permutation.specs.Reading.{Reading, PermutationWith, Faithful}
+use Rattle.permutation.specs.Conversions.{staircaseChecks, permutationChecks, statisticChecks}
+use Rattle.permutation.specs.Conversions.{toPermutationChecks, toCompositionChecks}
 use Rattle.permutation.proofs.Counts.{is-permutation}
-use Rattle.permutation.proofs.Inverse.{inversions-length}
 use Rattle.permutation.proofs.Vectors.{composition-fits}
 
 pub number-of : {v w : Refusal} → v ≡ w → v .number ≡ w .number
@@ -89,22 +88,51 @@ module _ (ms : List ℕ) (r : ℕ) (g : List ℕ) (room : ℕ) where
 
 -- ---- order to mix
 
-module _ (reading : Reading) (refuses : 0 < reading .number) (ms : List ℕ) (r : ℕ) (p : List ℕ) where
-  given-numbered : numbered (permutationChecks reading ms r p) ≡ true
-  given-numbered = rw (lt-ltb 0 (reading .number) refuses)
+module _ (ms p : List ℕ) where
+  -- what the test t says of the table
+  module _ {t : Bool} (e : t ≡ isPermutation (length ms + 1) p) {v : Refusal} where
+    pub permutation-yes : t ≡ true → v ≡ refused 0 0 → v ≡ firstRefusal (permutationChecks ms p)
+    unfolding firstRefusal
+    permutation-yes h is = rw (← e, h) is
 
-  given-passed : Accepts (permutationChecks reading ms r p) → PermutationWith reading (length ms + 1) r p
-  given-passed e =
-      let p11 = passed _ _ given-numbered e in
-      let p12 = passed _ _ (p11 .1) (p11 .2) in
-      record {
-        is = is-permutation (length ms + 1) p .0 (not-false _ (p11 .0));
-        total = eqb-true (reading .statistic p) r (not-false _ (p12 .0));
-      }
+    pub permutation-no : t ≡ false → v ≡ refused 11 0 → v ≡ firstRefusal (permutationChecks ms p)
+    unfolding firstRefusal
+    permutation-no h is = rw (← e, h) is
 
-  given-passes : PermutationWith reading (length ms + 1) r p → Accepts (permutationChecks reading ms r p)
+  permutation-passed : Accepts (permutationChecks ms p) → IsPermutation (length ms + 1) p
+  permutation-passed e = is-permutation (length ms + 1) p .0 (not-false _ (passed _ _ refl e .0))
+
+  permutation-passes : IsPermutation (length ms + 1) p → Accepts (permutationChecks ms p)
   unfolding firstRefusal
-  given-passes perm = rw (is-permutation (length ms + 1) p .1 (perm .is), eq-eqb (reading .statistic p) r (perm .total))
+  permutation-passes perm = rw (is-permutation (length ms + 1) p .1 perm)
+
+  -- what `permutation_refusal` says where it refuses nothing
+  pub permutation-known : (r : ℕ) {v : Refusal} → v ≡ firstRefusal (editionChecks ms r ++ staircaseChecks ms ++ permutationChecks ms p) → v .number ≡ 0
+      → (length ms ≤ 24) × IsPermutation (length ms + 1) p
+  permutation-known r {v} e none =
+      let a = accepts-split (editionChecks ms r) _ refl (number-of (sym e) ∙ none) in
+      (edition-few ms r (a .0), permutation-passed (accepts-split (staircaseChecks ms) _ refl (a .1) .1))
+
+-- the code found n where the total is r
+module _ (reading : Reading) (r : ℕ) (p : List ℕ) {n : ℕ} (found : n ≡ reading .statistic p) (rest : List Check) {v : Refusal} where
+  pub statistic-other : 0 < reading .number → (n ≡ r → ⊥) → v ≡ refused (reading .number) 0 → v ≡ firstRefusal (statisticChecks reading r p ++ rest)
+  unfolding firstRefusal
+  statistic-other refuses other is = rw (ne-eqb (reading .statistic p) r (λ e. other (found ∙ e))) is
+
+  pub statistic-same : n ≡ r → v ≡ firstRefusal rest → v ≡ firstRefusal (statisticChecks reading r p ++ rest)
+  unfolding firstRefusal
+  statistic-same same is = rw (eq-eqb (reading .statistic p) r (sym found ∙ same)) is
+
+module _ (reading : Reading) (refuses : 0 < reading .number) (ms : List ℕ) (r : ℕ) (p : List ℕ) where
+  statistic-numbered : numbered (statisticChecks reading r p) ≡ true
+  statistic-numbered = rw (lt-ltb 0 (reading .number) refuses)
+
+  statistic-passed : Accepts (statisticChecks reading r p) → reading .statistic p ≡ r
+  statistic-passed e = eqb-true (reading .statistic p) r (not-false _ (passed _ _ statistic-numbered e .0))
+
+  statistic-passes : reading .statistic p ≡ r → Accepts (statisticChecks reading r p)
+  unfolding firstRefusal
+  statistic-passes e = rw (eq-eqb (reading .statistic p) r e)
 
   module _ (room : ℕ) where
     pub to-composition-numbered : numbered (toCompositionChecks reading ms r p room) ≡ true
@@ -115,21 +143,26 @@ module _ (reading : Reading) (refuses : 0 < reading .number) (ms : List ℕ) (r 
     to-composition-passed e =
         let a = accepts-split (editionChecks ms r) _ refl e in
         let b = accepts-split (staircaseChecks ms) _ refl (a .1) in
-        let c = accepts-split (permutationChecks reading ms r p) _ given-numbered (b .1) in
-        (staircase-passed ms r (a .0) (b .0), given-passed (c .0), lent-passed (length ms) room (c .1))
+        let c = accepts-split (permutationChecks ms p) _ refl (b .1) in
+        let d = accepts-split (statisticChecks reading r p) _ statistic-numbered (c .1) in (
+          staircase-passed ms r (a .0) (b .0),
+          record { is = permutation-passed ms p (c .0); total = statistic-passed (d .0) },
+          lent-passed (length ms) room (d .1),
+        )
 
     pub to-composition-passes : Staircase ms r → PermutationWith reading (length ms + 1) r p → room ≡ length ms
         → Accepts (toCompositionChecks reading ms r p room)
     to-composition-passes s perm fits =
         accepts-join (editionChecks ms r) _ refl (s .edition)
         (accepts-join (staircaseChecks ms) _ refl (staircase-passes ms r (s .stairs))
-        (accepts-join (permutationChecks reading ms r p) _ given-numbered (given-passes perm) (number-of (lent-passes (length ms) room fits))))
+        (accepts-join (permutationChecks ms p) _ refl (permutation-passes ms p (perm .is))
+        (accepts-join (statisticChecks reading r p) _ statistic-numbered (statistic-passes (perm .total)) (number-of (lent-passes (length ms) room fits)))))
 
-    -- what `fill_composition` asks: the vector that is read has as many cells as the lent part
-    pub to-composition-ready : (vector : List ℕ) {v : Refusal} → v ≡ firstRefusal (toCompositionChecks reading ms r p room) → v .number ≡ 0
-        → take room vector ≡ inversionVector p
-        → room ≤ length vector
-    to-composition-ready vector {v} e none is =
+    -- the composition that is found has as many cells as the lent part
+    pub to-composition-ready : Faithful reading → (cells : List ℕ) {v : Refusal} → v ≡ firstRefusal (toCompositionChecks reading ms r p room) → v .number ≡ 0
+        → take room cells ≡ reading .composition p
+        → room ≤ length cells
+    to-composition-ready faithful cells {v} e none is =
         let known = to-composition-passed (number-of (sym e) ∙ none) in
-        let size : length (inversionVector p) ≡ length ms = inversions-length (rw (add-one (length ms)) at (known .1 .is)) in
-        omega (arith, ap length is, length-take room vector, size, known .2)
+        let size : length (reading .composition p) ≡ length ms = faithful .composition-is ms r p (known .0 .stairs) (known .1) .size in
+        omega (arith, ap length is, length-take room cells, size, known .2)

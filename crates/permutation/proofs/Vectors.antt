@@ -49,18 +49,23 @@ at-under (c ∷ g) fits = (omega (arith, fits 0 (omega arith)), at-under g (λ i
 -- ---- permutations and compositions: the bounds are a staircase of k - 1 parts
 
 module _ (ms : List ℕ) (stairs : isStaircase ms ≡ true) where
-  -- the vector of a permutation is a composition of its inversions
-  pub vector-composition : (p : List ℕ) → IsPermutation (suc (length ms)) p → Composition ms (inversions p) (inversionVector p)
-  vector-composition p perm =
-      let size : length (inversionVector p) ≡ length ms = inversions-length perm in
+  -- what is within the staircase of its length is a composition of its sum
+  pub under-composition : (g : List ℕ) → length g ≡ length ms → Under g → Composition ms (sumTo g (length g)) g
+  under-composition g size under =
       record {
         size = size;
         parts =
             record {
-              fits = λ i h. omega (arith, size, staircase-at ms stairs i h, under-at (inversionVector p) (inversions-under perm) i (omega arith));
-              sums = ap (sumTo (inversionVector p)) (sym size) ∙ inversions-sum p;
+              fits = λ i h. omega (arith, size, staircase-at ms stairs i h, under-at g under i (omega arith));
+              sums = ap (sumTo g) (sym size);
             };
       }
+
+  -- the vector of a permutation is a composition of its inversions
+  pub vector-composition : (p : List ℕ) → IsPermutation (suc (length ms)) p → Composition ms (inversions p) (inversionVector p)
+  vector-composition p perm =
+      subst (λ (r : ℕ). Composition ms r (inversionVector p)) (inversions-sum p)
+      (under-composition (inversionVector p) (inversions-length perm) (inversions-under perm))
 
   module _ {r : ℕ} {g : List ℕ} (comp : Composition ms r g) where
     pub composition-fits : (i : ℕ) → i < length g → getD g i 0 ≤ length g - i

@@ -149,23 +149,24 @@ fn staircase_refusal(upper: &[u8], total: u32) -> Refusal
     refused(10, 0)
 }
 
-// The place 'sheet orders' from 11 on; where nothing is refused, the inversion vector stands at the beginning of 32 cells.
-fn read_permutation(upper: &[u8], total: u32, p: &[u8], vector: &mut [u8]) -> Refusal
-    requires { ⌜ (length (now upper) ≤ 24) × (length (now vector) ≡ 32) ⌝ }
-    ensures { λ r. ⌜ (r ≡ firstRefusal (permutationChecks byInversions (now (upper .entry)) total (now (p .entry))))
-        × (r .number ≡ 0 → take (length (now (upper .entry))) (now (vector .exit)) ≡ inversionVector (now (p .entry))) ⌝ }
+// The places 'edition' and 'sheet orders' as far as 11.
+pub fn permutation_refusal(upper: &[u8], total: u32, p: &[u8]) -> Refusal
+    ensures { λ r.
+        ⌜ r ≡ firstRefusal
+        (editionChecks (now (upper .entry)) total ++ staircaseChecks (now (upper .entry)) ++ permutationChecks (now (upper .entry)) (now (p .entry))) ⌝ }
 {
-    if !is_permutation(p, upper.len() + 1) {
-        return refused(11, 0);
+    let stairs = staircase_refusal(upper, total);
+    if stairs.number != 0 {
+        return stairs;
     }
-    if find_inversions(p, vector) != total {
-        return refused(12, 0);
+    if is_permutation(p, upper.len() + 1) {
+        return refused(0, 0);
     }
-    refused(0, 0)
+    refused(11, 0)
 }
 
 // All that can refuse a composition and a lent part of `room` bytes.
-fn to_permutation_refusal(upper: &[u8], total: u32, g: &[u8], room: usize) -> Refusal
+pub fn to_permutation_refusal(upper: &[u8], total: u32, g: &[u8], room: usize) -> Refusal
     ensures { λ r. ⌜ r ≡ firstRefusal (toPermutationChecks (now (upper .entry)) total (now (g .entry)) room) ⌝ }
 {
     let stairs = staircase_refusal(upper, total);
@@ -191,13 +192,12 @@ fn to_composition_refusal(
     ensures { λ r. ⌜ (r ≡ firstRefusal (toCompositionChecks byInversions (now (upper .entry)) total (now (p .entry)) room))
         × (r .number ≡ 0 → take room (now (vector .exit)) ≡ inversionVector (now (p .entry))) ⌝ }
 {
-    let stairs = staircase_refusal(upper, total);
-    if stairs.number != 0 {
-        return stairs;
-    }
-    let given = read_permutation(upper, total, p, vector);
+    let given = permutation_refusal(upper, total, p);
     if given.number != 0 {
         return given;
+    }
+    if find_inversions(p, vector) != total {
+        return refused(12, 0);
     }
     lent_refusal(upper.len(), room)
 }

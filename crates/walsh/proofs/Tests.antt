@@ -1,11 +1,12 @@
--- Tests put together: from all of them to each, and back.
+-- Tests put together: from all of them to each, and back; how many entries pass one.
 use mathlib.Core.Path.{_≡_, refl}
 use mathlib.Core.Bool.{Bool, true, false, false≢true}
 use mathlib.Core.Logic.{_⊎_, inl, inr}
-use Prim.Native.Nat.{ℕ, zero, suc, _<_}
+use mathlib.Core.List.{List, [], _∷_, _++_}
+use Prim.Native.Nat.{ℕ, zero, suc, _+_, _<_}
 use native.Mathlib.Nat.{not-suc-le-zero}
 use native.Mathlib.Omega.{arith}
-use Rattle.walsh.specs.Tests.{both, every}
+use Rattle.walsh.specs.Tests.{both, every, howMany}
 use Rattle.walsh.proofs.Cases.{last-or-less}
 
 pub both-left : (a b : Bool) → both a b ≡ true → a ≡ true
@@ -42,3 +43,8 @@ every-not f (suc n) i l e = go (every-not f n i) (last-or-less l)
     go : (i < n → f i ≡ false → every f n ≡ false) → (i ≡ n) ⊎ (i < n) → every f (suc n) ≡ false
     go below (inl q) = let here : f n ≡ false = rw q at e in rw here
     go below (inr m) = rw (below m e) (both-none (f n))
+
+-- of two lists, one behind the other
+pub many-append : {A : Type 0} (test : A → Bool) (l m : List A) → howMany test (l ++ m) ≡ howMany test l + howMany test m
+many-append test [] m = omega arith
+many-append test (x ∷ l) m = omega (arith, many-append test l m)

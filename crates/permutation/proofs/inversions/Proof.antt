@@ -6,6 +6,7 @@ use Rattle.bounds.proofs.Cells.{copied-over}
 use Rattle.bounds.proofs.Filling.{filling-refused, filling-done}
 use Rattle.permutation.specs.Reading.{byInversions}
 use Rattle.permutation.specs.Conversions.{toComposition}
+use Rattle.permutation.proofs.ByInversions.{by-inversions}
 use Rattle.permutation.proofs.Tables.{to-composition-ready}
 use Rattle.permutation.proofs.inversions.Statement.{statement}
 use Rattle.permutation.proofs.inversions.Tie as tie
@@ -24,7 +25,7 @@ returns-2 c =
     let is = checked .to-composition-refusal .ensures in
     let none = test .if1 .left in
     let room =
-    to-composition-ready byInversions (omega arith) (args .upper .now) (args .total) (args .permutation .now) _ _ (is .0) none (is .1 none) in
+    to-composition-ready byInversions (omega arith) (args .upper .now) (args .total) (args .permutation .now) _ by-inversions _ (is .0) none (is .1 none) in
     filling-done _ _ _ (is .0) none (copied .copy .ensures ∙ copied-over _ _ room ∙ is .1 none)
 
 pub inversions-spec : {M : Type 1} → statement M

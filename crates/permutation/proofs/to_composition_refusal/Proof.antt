@@ -1,45 +1,57 @@
--- `permutation::to_composition_refusal` meets its contract. Each place's refusal stands for the rest, or the next place is looked at.
-use mathlib.Core.Path.{refl, sym, _∙_}
+-- `permutation::to_composition_refusal` meets its contract.
+use mathlib.Core.Path.{_≡_, refl, sym, _∙_}
+use Prim.Native.Nat.{_+_, _-_, _≤_}
+use native.Mathlib.Omega.{arith}
 use lib.ListN.{length}
 use borrow.Author.Needs.{needs}
 use Rattle.bounds.proofs.Places.{lent-passed}
 use Rattle.bounds.proofs.Chains.{answer-first, answer-later}
-use Rattle.permutation.proofs.Tables.{number-of, staircase-few}
+use Rattle.permutation.specs.Permutation.{IsPermutation}
+use Rattle.permutation.specs.Reading.{byInversions}
+use Rattle.permutation.proofs.Tables.{number-of, refused-not, permutation-known, statistic-other, statistic-same}
 use Rattle.permutation.proofs.to_composition_refusal.Statement.{statement}
 use Rattle.permutation.proofs.to_composition_refusal.Tie as tie
 
 returns : tie.Need-returns
-returns c = let stairs = c .before .before in
+returns c = let given = c .before .before in
     let some = c .if1 .taken in
-    (answer-first _ _ (stairs .staircase-refusal .ensures) some, λ none. absurd (some none))
+    (answer-first _ _ (given .permutation-refusal .ensures) some, λ none. absurd (some none))
 
-read-permutation-requires : tie.Need-read-permutation-requires
-read-permutation-requires c κs = let stairs = c .before .before .before in
-    let start = stairs .before .before .before .before in
-    let args = start .args in
-    (staircase-few (args .upper .now) (args .total) (stairs .staircase-refusal .ensures) (c .before .if1 .left), start .pre)
+-- there are at most 24 bounds, and p is a permutation
+known : (c : tie.Else1) → let args = c .before .before .before .before .before .before .args in
+    (length (args .upper .now) ≤ 24) × IsPermutation (length (args .upper .now) + 1) (args .p .now)
+known c = let given = c .before .before in
+    let args = given .before .before .before .before .args in
+    permutation-known (args .upper .now) (args .p .now) (args .total) (given .permutation-refusal .ensures) (c .if1 .left)
+
+find-inversions-requires : tie.Need-find-inversions-requires
+find-inversions-requires c κs = let is = known (c .before) in
+    let pre = c .before .before .before .before .before .before .before .pre in
+    (omega (arith, is .0, is .1 .size), rw (is .1 .size) (is .1), pre)
 
 returns-2 : tie.Need-returns-2
-returns-2 c = let given = c .before .before .before .before in
-    let first = given .before .before in
-    let stairs = first .before .before in (
-      answer-later _ _ (stairs .staircase-refusal .ensures) refl (first .if1 .left)
-          (answer-first _ _ (given .read-permutation .ensures .0) (c .if2 .taken)),
-      λ none. absurd (c .if2 .taken none),
+returns-2 c = let test = c .before in
+    let found = test .before .before .before in
+    let first = found .before .before in
+    let given = first .before .before in
+    let is = c .refused .ensures in (
+      answer-later _ _ (given .permutation-refusal .ensures) refl (first .if1 .left)
+          (statistic-other byInversions _ _ (found .find-inversions .ensures .1) _ (omega arith) (test .if2 .taken) is),
+      λ none. absurd (refused-not is (omega arith) none),
     )
 
 returns-3 : tie.Need-returns-3
 returns-3 c = let test = c .before in
-    let given = test .before .before .before .before in
-    let first = given .before .before in
-    let stairs = first .before .before in
-    let args = stairs .before .before .before .before .args in
-    let is = c .lent-refusal .ensures in (
-      answer-later _ _ (stairs .staircase-refusal .ensures) refl (first .if1 .left)
-          (answer-later _ _ (given .read-permutation .ensures .0) refl (test .if2 .left) is),
+    let found = test .before .before .before in
+    let first = found .before .before in
+    let given = first .before .before in
+    let args = given .before .before .before .before .args in
+    let is = c .lent-refusal .ensures in
+    let one-less : length (args .p .now) - 1 ≡ length (args .upper .now) = omega (arith, known first .1 .size) in (
+      answer-later _ _ (given .permutation-refusal .ensures) refl (first .if1 .left)
+          (statistic-same byInversions _ _ (found .find-inversions .ensures .1) _ (test .if2 .left) is),
       λ none.
-          rw (lent-passed (length (args .upper .now)) (args .room) (number-of (sym is) ∙ none))
-          (given .read-permutation .ensures .1 (test .if2 .left)),
+          rw (lent-passed (length (args .upper .now)) (args .room) (number-of (sym is) ∙ none), ← one-less) (found .find-inversions .ensures .0),
     )
 
 pub to-composition-refusal-spec : {M : Type 1} → statement M
@@ -48,7 +60,8 @@ to-composition-refusal-spec =
     (tie.spec
     (λ c κs. search needs)
     returns
-    read-permutation-requires
+    find-inversions-requires
+    (λ c κs. search needs)
     (λ c. search needs)
     returns-2
     (λ c κs. search needs)
