@@ -10,11 +10,10 @@ use lib.Seq.{drop-cons, drop-length, getD-set-same, getD-set-other}
 use lib.Bits.{bitOr}
 use lib.Count.{ones}
 use lib.Dec.{eqb, ltb}
-use borrow.Author.Tests.{lt-ltb}
 use Rattle.permutation.specs.Permutation.{IsPermutation, smallerAfter, inversions, inversionVector}
-use Rattle.permutation.specs.Values.{aloneOf, HasValues}
+use Rattle.permutation.specs.Values.{HasValues, Collected}
 use Rattle.permutation.proofs.Counts.{below, many-le, many-drop, entry-le, times-le}
-use Rattle.permutation.proofs.Sets.{values-none, values-more, values-below}
+use Rattle.permutation.proofs.Sets.{values-none, values-more, values-below, collected-more}
 use Rattle.permutation.proofs.Smaller.{tabulate-take, smaller-is, inversions-more}
 
 -- ---- from the last place to the first
@@ -25,9 +24,13 @@ drop-back p (suc i) h l =
     let back : suc i - 1 ≡ i = omega arith in
     rw back (drop-cons p i 0 l)
 
-pub set-turn : (p : List ℕ) (i n x : ℕ) → 0 < i → i ≤ length p → x ≡ getD p (i - 1) 0 → HasValues n (drop i p)
-    → HasValues (bitOr n (aloneOf x)) (drop (i - 1) p)
+set-turn : (p : List ℕ) (i n x : ℕ) → 0 < i → i ≤ length p → x ≡ getD p (i - 1) 0 → HasValues n (drop i p)
+    → HasValues (bitOr n (2 ^ x)) (drop (i - 1) p)
 set-turn p i n x h l ex has = rw (drop-back p i h l, ← ex) (values-more x has)
+
+pub collected-turn : (p : List ℕ) (i n o x : ℕ) → 0 < i → i ≤ length p → x ≡ getD p (i - 1) 0 → Collected n o (drop i p)
+    → Collected (bitOr n (2 ^ (x % 32))) (bitOr o x) (drop (i - 1) p)
+collected-turn p i n o x h l ex met = rw (drop-back p i h l, ← ex) (collected-more x met)
 
 -- ---- the inversion vector
 
@@ -81,7 +84,7 @@ module _ (p : List ℕ) (short : length p ≤ 25) where
           record {
             place = omega (arith, found .place);
             cells = length-set vector (i - 1) n ∙ found .cells;
-            values = rw (lt-ltb x 32 entry-small) at (set-turn p i behind x first (found .place) here (found .values));
+            values = set-turn p i behind x first (found .place) here (found .values);
             total =
                 rw (drop-back p i first (found .place), ← here)
                 (omega (arith, en, behind-below, found .total, inversions-more x (drop i p)));

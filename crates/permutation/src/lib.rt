@@ -16,13 +16,19 @@ ghost use Rattle.permutation.specs.Reading.{byInversions};
 ghost use Rattle.permutation.specs.Conversions.{staircaseChecks, permutationChecks, toPermutationChecks, toCompositionChecks};
 ghost use Rattle.permutation.specs.Conversions.{toPermutation, toComposition};
 ghost use Rattle.permutation.specs.Permutation.{IsPermutation, isPermutation, inversions, inversionVector, lift, permutationOf};
-ghost use Rattle.permutation.specs.Values.{aloneOf, HasValues};
+ghost use Rattle.permutation.specs.Values.{Collected};
 ghost use Rattle.permutation.specs.Entries.{lifts};
 
 // Two entries of a permutation.
 struct Pair {
     first: u8,
     second: u8,
+}
+
+// The bits of the entries of a list: bit v of `set` for the entry v, or v % 32, and in `over` the union of all.
+struct Values {
+    set: u32,
+    over: usize,
 }
 
 // The bit of the value v in a set.
@@ -33,27 +39,23 @@ fn power(v: usize) -> u32
     1u32 << v
 }
 
-// The set of the value v alone, or of none where v is over 31.
-fn alone(v: usize) -> u32
-    ensures { λ r. ⌜ r ≡ aloneOf v ⌝ }
-{
-    if v < 32 { power(v) } else { 0 }
-}
-
-// The set of the values below 32 that are entries of p.
-fn value_set(p: &[u8]) -> u32
-    ensures { λ r. ⌜ HasValues r (now (p .entry)) ⌝ }
+// The set of the entries of p, if none is over 31, as `over` tells. (A test in each turn would cost more.)
+fn value_set(p: &[u8]) -> Values
+    ensures { λ r. ⌜ Collected (r .set) (r .over) (now (p .entry)) ⌝ }
 {
     let mut set = 0;
+    let mut over = 0;
     let mut i = p.len();
     while 0 < i {
         i -= 1;
-        set = set | alone(wide(p[i]));
+        let v = wide(p[i]);
+        set = set | power(v % 32);
+        over = over | v;
     }
-    set
+    Values { set, over }
 }
 
-// p is a permutation of 1..k: it has k entries, and as many of the values 1..k are among them.
+// p is a permutation of 1..k: it has k entries, none over 31, and all of the values 1..k are among them.
 fn is_permutation(p: &[u8], k: usize) -> bool
     requires { ⌜ k ≤ 25 ⌝ }
     ensures { λ r. ⌜ r ≡ isPermutation k (now (p .entry)) ⌝ }
@@ -61,7 +63,12 @@ fn is_permutation(p: &[u8], k: usize) -> bool
     if p.len() != k {
         return false;
     }
-    u32::count_ones(value_set(p) / 2 % power(k)) as usize == k
+    let values = value_set(p);
+    if 32 <= values.over {
+        return false;
+    }
+    let all = power(k);
+    values.set / 2 % all == all - 1
 }
 
 // Writes the inversion vector to the beginning of 32 cells, from the last place to the first, and gives its sum: the values below the entry are
