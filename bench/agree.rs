@@ -43,6 +43,18 @@ impl Random {
         let total = [self.below(all + 2), all - self.below(all + 1).min(9), self.below(60), self.below(300)][self.below(4) as usize];
         (upper, total as u32)
     }
+
+    /// Mostly a puzzle edition that is accepted.
+    fn puzzle(&mut self) -> (Vec<u8>, u32) {
+        let n = 1 + self.below(24) as u8;
+        let mut upper: Vec<u8> = (1..=n).rev().collect();
+        if self.below(9) == 0 {
+            upper[self.below(n as u64) as usize] ^= 1;
+        }
+        let all = upper.iter().map(|&m| m as u64).sum::<u64>().min(255);
+        let total = [self.below(all + 2), self.below(all.min(57) + 1)][self.below(2) as usize];
+        (upper, total as u32)
+    }
 }
 
 /// Bytes as they were given, or with one changed, left out or put in.
@@ -80,14 +92,40 @@ fn case(random: &mut Random) {
         peer::batch::<false>(&u, r, serial, copies, &mut c),
     );
     assert_eq!((x, &a, x, &a), (y, &b, z, &c), "batch {u:?} {r} {serial} {copies} {size}");
-    let k = u.len() + 1 - (random.below(9) == 0) as usize;
-    let (mut a, mut b) = (vec![9; k], vec![9; k]);
-    assert_eq!((engine::permutation(&u, r, &g, &mut a), &a), (peer::permutation(&u, r, &g, &mut b), &b), "permutation {u:?} {r} {g:?}");
-    let p = damaged(random, a);
-    let (mut a, mut b) = (vec![9; n], vec![9; n]);
-    assert_eq!((engine::inversions(&u, r, &p, &mut a), &a), (peer::inversions(&u, r, &p, &mut b), &b), "inversions {u:?} {r} {p:?}");
+    orders(random, &u, r, &g);
     if 0 < count && count < 5000 {
         calls(random, &u, r, count);
+    }
+}
+
+fn puzzle(random: &mut Random) {
+    let (u, r) = random.puzzle();
+    let mut g = vec![0; u.len()];
+    engine::unrank(&u, r, 1 + random.below(engine::check(&u, r).count.max(1)), &mut g);
+    let g = damaged(random, g);
+    orders(random, &u, r, &g);
+}
+
+/// Both ways of making an order of a mix, and both ways back of each of them.
+fn orders(random: &mut Random, u: &[u8], r: u32, g: &[u8]) {
+    let k = u.len() + 1 - (random.below(9) == 0) as usize;
+    let (mut a, mut b) = (vec![9; k], vec![9; k]);
+    assert_eq!((engine::permutation(u, r, g, &mut a), &a), (peer::permutation(u, r, g, &mut b), &b), "permutation {u:?} {r} {g:?}");
+    let (mut c, mut d, mut e) = (vec![9; k], vec![9; k], vec![9; k]);
+    let (x, y, z) = (
+        engine::major_permutation(u, r, g, &mut c),
+        peer::major_permutation::<false>(u, r, g, &mut d),
+        peer::major_permutation::<true>(u, r, g, &mut e),
+    );
+    assert_eq!((x, &c, x, &c), (y, &d, z, &e), "major permutation {u:?} {r} {g:?}");
+    for p in [a, c] {
+        let p = damaged(random, p);
+        let n = u.len() + (random.below(9) == 0) as usize;
+        let (mut a, mut b) = (vec![9; n], vec![9; n]);
+        assert_eq!((engine::inversions(u, r, &p, &mut a), &a), (peer::inversions(u, r, &p, &mut b), &b), "inversions {u:?} {r} {p:?}");
+        let (mut a, mut b) = (vec![9; n], vec![9; n]);
+        assert_eq!((engine::major_code(u, r, &p, &mut a), &a), (peer::major_code::<false>(u, r, &p, &mut b), &b), "major code {u:?} {r} {p:?}");
+        assert_eq!((engine::major_code(u, r, &p, &mut a), &a), (peer::major_code::<true>(u, r, &p, &mut b), &b), "major code {u:?} {r} {p:?}");
     }
 }
 
@@ -140,5 +178,8 @@ fn calls(random: &mut Random, u: &[u8], r: u32, count: u64) {
 
 pub fn check(cases: usize) {
     let mut random = Random::new();
-    (0..cases).for_each(|_| case(&mut random));
+    for _ in 0..cases {
+        case(&mut random);
+        puzzle(&mut random);
+    }
 }

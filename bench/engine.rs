@@ -16,6 +16,8 @@ mod c {
         pub fn huz_batch(u: Bounds, n: usize, r: u32, serial: u64, copies: u64, out: *mut u8, len: usize) -> Refusal;
         pub fn huz_permutation(u: Bounds, n: usize, r: u32, given: *const u8, len: usize, out: *mut u8, out_len: usize) -> Refusal;
         pub fn huz_inversions(u: Bounds, n: usize, r: u32, given: *const u8, len: usize, out: *mut u8, out_len: usize) -> Refusal;
+        pub fn huz_major_permutation(u: Bounds, n: usize, r: u32, given: *const u8, len: usize, out: *mut u8, out_len: usize) -> Refusal;
+        pub fn huz_major_code(u: Bounds, n: usize, r: u32, given: *const u8, len: usize, out: *mut u8, out_len: usize) -> Refusal;
         pub fn huz_open(u: Bounds, n: usize, r: u32, orders: *const u32, len: usize) -> Opened;
         pub fn huz_peek(ledger: Ledger, orders: *const u32, len: usize) -> Peeked;
         pub fn huz_claim(ledger: Ledger, orders: *mut u32, len: usize, serial: u64, order: u32) -> Claimed;
@@ -53,6 +55,14 @@ pub fn permutation(upper: &[u8], total: u32, g: &[u8], out: &mut [u8]) -> Refusa
 
 pub fn inversions(upper: &[u8], total: u32, p: &[u8], out: &mut [u8]) -> Refusal {
     unsafe { c::huz_inversions(upper.as_ptr(), upper.len(), total, p.as_ptr(), p.len(), out.as_mut_ptr(), out.len()) }
+}
+
+pub fn major_permutation(upper: &[u8], total: u32, g: &[u8], out: &mut [u8]) -> Refusal {
+    unsafe { c::huz_major_permutation(upper.as_ptr(), upper.len(), total, g.as_ptr(), g.len(), out.as_mut_ptr(), out.len()) }
+}
+
+pub fn major_code(upper: &[u8], total: u32, p: &[u8], out: &mut [u8]) -> Refusal {
+    unsafe { c::huz_major_code(upper.as_ptr(), upper.len(), total, p.as_ptr(), p.len(), out.as_mut_ptr(), out.len()) }
 }
 
 pub fn open(upper: &[u8], total: u32, orders: &[u32]) -> Opened {

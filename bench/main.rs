@@ -164,21 +164,34 @@ fn batches(table: &mut Table, e: &Edition, copies: u64, name: &str, rows: Rows) 
     }
 }
 
+type Conversion<'a> = &'a dyn Fn(&[u8], &mut [u8]) -> peer::Refusal;
+
+/// The orders of an edition's mixes: all functions there have to give the same, and all functions back the mix.
+fn orders(e: &Edition, there: &[Conversion], back: &[Conversion]) -> Vec<Vec<u8>> {
+    let converted = |f: Conversion, given: &[u8], len| {
+        let mut out = vec![0; len];
+        assert_eq!(f(given, &mut out).number, 0);
+        out
+    };
+    let n = e.upper.len();
+    let order = |g: &Vec<u8>| {
+        let order = converted(there[0], g, n + 1);
+        assert!(there.iter().all(|f| converted(f, g, n + 1) == order));
+        assert!(back.iter().all(|f| converted(f, &order, n) == *g));
+        order
+    };
+    e.compositions().iter().map(order).collect()
+}
+
 fn permutations(table: &mut Table, e: &Edition) {
     let (u, r, n) = (&e.upper, e.total, e.upper.len());
     let given = e.compositions();
+    let orders = orders(
+        e,
+        &[&|g, out| engine::permutation(u, r, g, out), &|g, out| peer::permutation(u, r, g, out)],
+        &[&|p, out| engine::inversions(u, r, p, out), &|p, out| peer::inversions(u, r, p, out)],
+    );
     let (mut a, mut b) = (vec![0; n + 1], vec![0; n + 1]);
-    let orders: Vec<Vec<u8>> = given
-        .iter()
-        .map(|g| {
-            assert_eq!((engine::permutation(u, r, g, &mut a).number, peer::permutation(u, r, g, &mut b).number), (0, 0));
-            assert_eq!(a, b);
-            let mut back = vec![0; n];
-            assert_eq!((engine::inversions(u, r, &a, &mut back).number, &back), (0, g));
-            assert_eq!((peer::inversions(u, r, &a, &mut back).number, &back), (0, g));
-            a.clone()
-        })
-        .collect();
     let ours = |i| seen(engine::permutation(u, r, at(&given, i), &mut a));
     let theirs = |i| seen(peer::permutation(u, r, at(&given, i), &mut b));
     table.row(&format!("permutation: {}", e.name), beside(ours, theirs));
@@ -186,6 +199,37 @@ fn permutations(table: &mut Table, e: &Edition) {
     let ours = |i| seen(engine::inversions(u, r, at(&orders, i), &mut a));
     let theirs = |i| seen(peer::inversions(u, r, at(&orders, i), &mut b));
     table.row(&format!("inversions: {}", e.name), beside(ours, theirs));
+}
+
+/// The same by major index.
+fn majors(table: &mut Table, e: &Edition) {
+    let (u, r, n) = (&e.upper, e.total, e.upper.len());
+    let given = e.compositions();
+    let orders = orders(
+        e,
+        &[
+            &|g, out| engine::major_permutation(u, r, g, out),
+            &|g, out| peer::major_permutation::<false>(u, r, g, out),
+            &|g, out| peer::major_permutation::<true>(u, r, g, out),
+        ],
+        &[
+            &|p, out| engine::major_code(u, r, p, out),
+            &|p, out| peer::major_code::<false>(u, r, p, out),
+            &|p, out| peer::major_code::<true>(u, r, p, out),
+        ],
+    );
+    let (mut a, mut b) = (vec![0; n + 1], vec![0; n + 1]);
+    let mut ours = |i| seen(engine::major_permutation(u, r, at(&given, i), &mut a));
+    let theirs = |i| seen(peer::major_permutation::<false>(u, r, at(&given, i), &mut b));
+    table.row(&format!("major permutation: {}", e.name), beside(&mut ours, theirs));
+    let turns = |i| seen(peer::major_permutation::<true>(u, r, at(&given, i), &mut b));
+    table.row("  the same, the peer turns the sheets", beside(&mut ours, turns));
+    let (mut a, mut b) = (vec![0; n], vec![0; n]);
+    let mut ours = |i| seen(engine::major_code(u, r, at(&orders, i), &mut a));
+    let theirs = |i| seen(peer::major_code::<false>(u, r, at(&orders, i), &mut b));
+    table.row(&format!("major code: {}", e.name), beside(&mut ours, theirs));
+    let turns = |i| seen(peer::major_code::<true>(u, r, at(&orders, i), &mut b));
+    table.row("  the same, the peer turns the sheets back", beside(&mut ours, turns));
 }
 
 fn listing(table: &mut Table, ours: &str, theirs: &str, folder: &str, e: &Edition) {
@@ -236,6 +280,9 @@ fn conversions(table: &mut Table) {
     for e in [&few, &sheets, &twelve] {
         permutations(table, e);
     }
+    majors(table, &edition("25 sheets, total 8", stairs(24), 8));
+    majors(table, &edition("25 sheets, total 57", stairs(24), 57));
+    majors(table, &edition("12 sheets, total 33", stairs(11), 33));
 }
 
 /// The rows of an edition behind four withdrawn kinds, each after that of the edition without them.

@@ -20,7 +20,7 @@
 extern "C" {
 #endif
 
-#define HUZ_VERSION 1100 /* of this header, 0.11.0: major * 10000 + minor * 100 + patch */
+#define HUZ_VERSION 1200 /* of this header, 0.12.0: major * 10000 + minor * 100 + patch */
 #define HUZ_PARTS 24 /* the most kinds of an edition; the arrays in the structures have as many cells, and those past n are 0 */
 
 /* The numbers of answers: what each means, and its detail where that is not 0. */
@@ -47,7 +47,8 @@ enum huz_number {
     HUZ_ABOVE_NEXT = 19,           /* the serial is above the next one; detail: the next serial */
     HUZ_ORDER_STANDS_EARLIER = 20, /* the order number stands on an earlier line; detail: the lowest serial that it has */
     HUZ_ALL_WRITTEN = 21,          /* every serial is written */
-    HUZ_NOT_A_REQUEST = 22         /* the slip does not have the form that the listing program reads */
+    HUZ_NOT_A_REQUEST = 22,        /* the slip does not have the form that the listing program reads */
+    HUZ_MAJOR_INDEX_NOT_TOTAL = 23 /* the major index of the sheet order given is not the total */
 };
 
 /* An edition, as a record keeps it: the number of kinds n, their ceilings, the total. (bounds::Bounds) */
@@ -155,10 +156,27 @@ huz_stepped huz_predecessor(const uint8_t *upper, size_t parts, uint32_t total, 
  * Refusals: 1 to 5, 6, 13. */
 huz_done huz_batch(const uint8_t *upper, size_t parts, uint32_t total, uint64_t serial, uint64_t copies, uint8_t *out, size_t len);
 
-/* Mix to sheet order, written to `out`, exactly n + 1 bytes. Refusals: 1 to 5, 10, 7, 8, 13. */
+/* Sheet orders. An edition with the ceilings k-1, .., 2, 1 is a puzzle edition of k = n + 1 sheets, and a sheet order is a
+ * permutation of 1 to k, a byte each. A mix stands for an order in two ways, each with a function from mix to order and one
+ * back; over the whole edition each way gives every order of the kind that it names exactly once.
+ *
+ *   by inversions    the count of kind i is how many sheets after place i are smaller than the sheet at place i: all orders
+ *                    with as many inversions as the total
+ *   by major index   the counts are turns. Begin with 1 to k; turn all k sheets right by the count of kind 1, then the first
+ *                    k - 1 by that of kind 2, and so on to the first two by that of kind n (right by one: the last of them
+ *                    goes to the front): all orders whose major index is the total
+ *
+ * The major index is the sum of the places i, from 1, at which sheet i is greater than sheet i + 1. Three sheets, total 1:
+ * by major index mix 1 0 is 3 1 2 and mix 0 1 is 2 1 3. */
+
+/* Mix to sheet order by inversions, written to `out`, exactly n + 1 bytes. Refusals: 1 to 5, 10, 7, 8, 13. */
 huz_done huz_permutation(const uint8_t *upper, size_t parts, uint32_t total, const uint8_t *composition, size_t len, uint8_t *out, size_t out_len);
-/* Sheet order to mix, written to `out`, exactly n bytes. Refusals: 1 to 5, 10, 11, 12, 13. */
+/* Sheet order to mix by inversions, written to `out`, exactly n bytes. Refusals: 1 to 5, 10, 11, 12, 13. */
 huz_done huz_inversions(const uint8_t *upper, size_t parts, uint32_t total, const uint8_t *permutation, size_t len, uint8_t *out, size_t out_len);
+/* Mix to sheet order by major index, written to `out`, exactly n + 1 bytes. Refusals: 1 to 5, 10, 7, 8, 13. */
+huz_done huz_major_permutation(const uint8_t *upper, size_t parts, uint32_t total, const uint8_t *composition, size_t len, uint8_t *out, size_t out_len);
+/* Sheet order to mix by major index, written to `out`, exactly n bytes. Refusals: 1 to 5, 10, 11, 23, 13. */
+huz_done huz_major_code(const uint8_t *upper, size_t parts, uint32_t total, const uint8_t *permutation, size_t len, uint8_t *out, size_t out_len);
 
 /* The register. The caller keeps its record and its column: `orders` and `len` are the column of order numbers, where
  * orders[s - 1] is the line of serial s. Calls on one register come one after another, each with the record that the call

@@ -5,18 +5,19 @@
 
 Every lent part has guard bytes around it and is compared whole after each call. After SECONDS no further round begins, but for the FLOOR that has to
 be run. The test fails on any difference, and where an answer that a function can give (reference.ANSWERS) has not come up, or has not with a kind
-withdrawn (reference.WITHDRAWN). The last line is `differential: N cases, 0 differences`.
+withdrawn (reference.WITHDRAWN), or something that may be wrong with a sheet order has not come up alone and with each other (conversions.FAULTS). The
+last line is `differential: N cases, 0 differences`.
 """
 import argparse
 import random
 import sys
 import time
 
+import conversions
 import documents
 import inputs
 import reference as ref
 from cases import FILL, came_up, cases, compare, differences, lend
-from conversions import any_conversion, convert
 from lent import Lent, LentRecord, call, flat, huztiral, ledger_of
 
 FLOOR = 150  # rounds
@@ -199,8 +200,7 @@ def edges(rng):
         for copies in 1 << 60, 1 << 61, 1 << 62:  # their bytes are few in 64 bits only
             for more in 0, 1, 3:
                 batch(rng, ms, r, 1, copies + more, (copies + more) * len(ms) % (1 << 64) % 600)
-        convert(rng, "permutation", ms, r, inputs.any_mix(rng, ms, r), len(ms) + 1)
-        convert(rng, "inversions", ms, r, inputs.any_sheet_order(rng, ms, r), len(ms))
+        conversions.at_an_edge(rng, ms, r)
 
 
 def whole_edition(rng):
@@ -235,7 +235,7 @@ def round_of(rng):
         rank(rng, ms, r, mix)
         step(rng, ms, r, mix)
         batch(rng, *inputs.tray(rng))
-        any_conversion(rng)
+        conversions.any_conversion(rng)
         opening(rng, *inputs.opening(rng))
     for _ in range(40):
         any_call(rng)
@@ -254,6 +254,7 @@ def missing():
         for name, numbers in answers.items():
             yield from (f"{name} has not answered {number}{WORDS[where]}" for number in numbers if not came_up[name, number, where])
     yield from (f"{name} is not expected to answer {number}{WORDS[where]}" for name, number, where in came_up if number not in KINDS[where][name])
+    yield from conversions.missing()
 
 
 def report(rounds):
@@ -261,6 +262,7 @@ def report(rounds):
     for name in ref.ANSWERS:
         for where, answers in KINDS.items():
             print(f"{name}{WORDS[where]}: answered", ", ".join(f"{number} {came_up[name, number, where]} times" for number in answers[name]))
+    conversions.report()
 
 
 def main():
@@ -272,6 +274,8 @@ def main():
     start, rng = time.monotonic(), random.Random(options.seed)
     documents.compared()
     edges(rng)
+    conversions.every_order(rng)
+    conversions.every_edition()
     large_register(rng)
     rounds = 0
     while rounds < options.rounds and len(differences) <= 50:

@@ -1,6 +1,7 @@
 """What the documents print, asked of the compiled engine, and the reference against itself."""
 import inputs
 import reference as ref
+import sheets
 from cases import compare, refused
 from lent import Lent, call, huztiral, ledger_of
 
@@ -49,11 +50,44 @@ def a_tile_withdrawn():
     for ms in [2, 1, 0], [2, 0, 1], [0, 2, 1], [0]:
         e = edition(ms, sum(ms) // 2)
         orders = e.unrank(1), [2, 1, 3], [2, 1, 3, 4]
-        compare("document", ms, [refused(f, p) for f in (e.permutation, e.inversions) for p in orders], [(10, 0)] * 6)
+        functions = e.permutation, e.inversions, e.major_permutation, e.major_code
+        compare("document", ms, [refused(f, p) for f in functions for p in orders], [(10, 0)] * 12)
     # a record in which n was damaged upwards, over cells that are 0, is that of the edition with kinds withdrawn behind
     for n, number in (3, 0), (4, 0), (24, 0), (2, 16), (25, 16), (0, 16):
         record = (n, *ref.record_of((2, 2, 2), 3, [1007, 0])[1:])
         compare("document", (n, "kinds"), call("huz_peek", ledger_of(record), Lent([1007, 0] + [7] * 5, 4))[0], number)
+
+
+def by_major_index(total, *both):
+    """mixes and their orders, as texts, in a puzzle edition with this total"""
+    for mix, order in zip(both[::2], both[1::2]):
+        mix, order = [int(g) for g in mix], [int(p) for p in order]
+        edition = huztiral.Edition(inputs.stairs(len(mix)), total)
+        compare("document", (mix, order), (edition.major_permutation(mix), edition.major_code(order)), (order, mix))
+
+
+def puzzle_books():
+    """request (iii), and the example and the table of source document 003"""
+    edition = huztiral.Edition
+    by_major_index(1, "10", "312", "01", "213")
+    by_major_index(12, "34221", "521643")
+    by_major_index(4, *sheets.TABLE_1)
+    compare("document", "source 003, Table 1", edition(inputs.stairs(5), 4).count, len(sheets.TABLE_1) // 2)
+    by_major_index(0, "0", "12")
+    by_major_index(1, "1", "21")
+    for k in range(2, 26):
+        first, ms = list(range(1, k + 1)), list(inputs.stairs(k - 1))
+        none = edition(ms, 0)
+        compare("document", (k, 0), (none.major_permutation([0] * (k - 1)), none.major_code(first)), (first, [0] * (k - 1)))
+        if sum(ms) <= 255:  # the largest total
+            full = edition(ms, sum(ms))
+            compare("document", (k, sum(ms)), (full.major_permutation(ms), full.major_code(first[::-1])), (first[::-1], ms))
+    # of one inversion and major index 2, and of two inversions and major index 1
+    one, two = edition([2, 1], 1), edition([2, 1], 2)
+    for p, mix, code in ([1, 3, 2], [0, 1], [1, 1]), ([3, 1, 2], [2, 0], [1, 0]):
+        few, many = (one, two) if sum(mix) < sum(code) else (two, one)
+        compare("document", p, (few.inversions(p), refused(few.major_code, p), many.major_code(p), refused(many.inversions, p)),
+                (mix, (23, 0), code, (12, 0)))
 
 
 def the_reference():
@@ -69,4 +103,5 @@ def the_reference():
 def compared():
     copies_of_the_document()
     a_tile_withdrawn()
+    puzzle_books()
     the_reference()

@@ -145,13 +145,18 @@ def any_order(rng, lines):
                        rng.choice(written)))
 
 
-def any_sheet_order(rng, ms, r):
-    k = len(ms) + 1
-    if accepted(ms, r) and ref.puzzle(ms) == (0, 0):
-        p = sheets.order_of_mix(ref.mix_at(ms, r, rng.randint(1, ref.number(ms, r))))
+# what makes a mix a sheet order: by inversions, and by major index
+WAYS = sheets.order_of_mix, sheets.order_of_code
+
+
+def any_sheet_order(rng, ms, r, order_of=sheets.order_of_mix):
+    """mostly an order of the edition, by one of the WAYS; else one damaged in some way"""
+    k, sound = len(ms) + 1, accepted(ms, r) and ref.puzzle(ms) == (0, 0)
+    if sound:
+        p = order_of(ref.mix_at(ms, r, rng.randint(1, ref.number(ms, r))))
     else:
         p = rng.sample(range(1, k + 1), k)
-    damage = rng.random()
+    damage, rest = rng.random(), sum(ms) - r - 256
     at, other = rng.randrange(k), rng.randrange(k)
     if damage < 0.2:
         p[at], p[other] = p[other], p[at]
@@ -161,6 +166,8 @@ def any_sheet_order(rng, ms, r):
         p = p[:rng.randint(0, k)]
     elif damage < 0.5:
         p = p + [rng.choice((0, k + 1, p[at]))] * rng.choice((1, 300))
+    elif damage < 0.6 and sound and rest >= 0:  # what is to be the total is so only in 8 bits
+        p = order_of([m - g for m, g in zip(ms, ref.mix_at(ms, rest, rng.randint(1, ref.number(ms, rest))))])
     return bytes(p)
 
 

@@ -60,7 +60,9 @@ class Sentences(unittest.TestCase):
         self.refused(9, 0, "[2, 1, 0] is the first mix of the edition", SEVEN.predecessor, [2, 1, 0])
         self.refused(10, 0, "only a puzzle edition has sheet orders, and these ceilings are not 3, .., 2, 1", SEVEN.permutation, [2, 1, 0])
         self.refused(11, 0, "[1, 2, 2] is no permutation of 1 to 3", PUZZLE.inversions, [1, 2, 2])
+        self.refused(11, 0, "[1, 2, 2] is no permutation of 1 to 3", PUZZLE.major_code, [1, 2, 2])
         self.refused(12, 0, "[3, 2, 1] has another number of inversions than the total, 1", PUZZLE.inversions, [3, 2, 1])
+        self.refused(23, 0, "[1, 3, 2] has another major index than the total, 1", PUZZLE.major_code, [1, 3, 2])
 
     def test_register(self):
         self.refused(14, 0, "the edition has 92561040 mixes, and a register has at most 1000000", Edition([60] * 24, 10).open)
@@ -137,10 +139,27 @@ class Withdrawn(unittest.TestCase):
     def test_no_puzzle(self):
         for ceilings in [2, 1, 0], [2, 0, 1], [0, 2, 1]:
             edition = Edition(ceilings, 1)
-            for function in edition.permutation, edition.inversions:
+            for function in edition.permutation, edition.inversions, edition.major_permutation, edition.major_code:
                 with self.assertRaises(Refused) as caught:
                     function([2, 1, 3])
                 self.assertEqual(caught.exception.number, Number.NOT_A_STAIRCASE)
+
+
+class SheetOrders(unittest.TestCase):
+    """puzzle editions: a mix as a sheet order by inversions and by major index, and back"""
+
+    def test_two_ways(self):
+        mixes = PUZZLE.batch(1, PUZZLE.count)
+        self.assertEqual((mixes, [PUZZLE.permutation(g) for g in mixes], [PUZZLE.major_permutation(g) for g in mixes]),
+                         ([[1, 0], [0, 1]], [[2, 1, 3], [1, 3, 2]], [[3, 1, 2], [2, 1, 3]]))
+        for there, back in (PUZZLE.permutation, PUZZLE.inversions), (PUZZLE.major_permutation, PUZZLE.major_code):
+            self.assertEqual([back(there(g)) for g in mixes], mixes)
+
+    def test_ends(self):
+        for k in range(2, 24):
+            none, full = Edition(range(k - 1, 0, -1), 0), Edition(range(k - 1, 0, -1), k * (k - 1) // 2)
+            for edition, order in (none, list(range(1, k + 1))), (full, list(range(k, 0, -1))):
+                self.assertEqual((edition.major_permutation(edition.unrank(1)), edition.major_code(order)), (order, edition.unrank(1)))
 
 
 class Values(unittest.TestCase):
@@ -156,10 +175,12 @@ class Values(unittest.TestCase):
             self.assertEqual(SEVEN.rank(mix), 3)
         self.assertEqual(Edition(array("I", [2, 2, 2]), 3), SEVEN)
         self.assertEqual(PUZZLE.inversions(array("H", [1, 3, 2])), [0, 1])
+        self.assertEqual((PUZZLE.major_permutation(iter([1, 0])), PUZZLE.major_code(array("H", [3, 1, 2]))), ([3, 1, 2], [1, 0]))
 
     def test_no_byte(self):
         for wrong in [256, 2, 1], [-1, 2, 1], [1 << 70, 2, 1]:
-            for function in SEVEN.rank, SEVEN.successor, SEVEN.predecessor, PUZZLE.permutation, PUZZLE.inversions:
+            for function in SEVEN.rank, SEVEN.successor, SEVEN.predecessor, PUZZLE.permutation, PUZZLE.inversions, PUZZLE.major_permutation, \
+                    PUZZLE.major_code:
                 self.assertRaises(ValueError, function, wrong)
             self.assertRaises(ValueError, Edition, wrong, 3)
 
@@ -311,7 +332,7 @@ class Library(unittest.TestCase):
             self.assertEqual((said.returncode, said.stderr.split("\n")[-2][:12]), (1, "ImportError:"))
         with tempfile.TemporaryDirectory() as folder:
             with self.assertRaisesRegex(ImportError, "undefined symbol: huz_version"):
-                huztiral.load(self.library(folder, 1100, names[1:]))
+                huztiral.load(self.library(folder, 1200, names[1:]))
             with self.assertRaisesRegex(ImportError, "no such file|cannot open"):
                 huztiral.load(os.path.join(folder, "none.so"))
 

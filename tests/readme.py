@@ -28,11 +28,11 @@ class Readme(unittest.TestCase):
 
     def test_the_package(self):
         """the lines of its docstring with a value after # have that value"""
-        names, seen = {"edition": huztiral.Edition([2, 2, 2], 3)}, 0
-        for line, value in re.findall(r"^    (edition\.\S.*?) +# (\d+|\[[\d, ]+\]):", huztiral.__doc__, re.MULTILINE):
+        names, seen = {"edition": huztiral.Edition([2, 2, 2], 3), "puzzle": huztiral.Edition([2, 1], 1)}, 0
+        for line, value in re.findall(r"^    ((?:edition|puzzle)\.\S.*?) +# (\d+|\[[\d, ]+\]):", huztiral.__doc__, re.MULTILINE):
             self.assertEqual(repr(eval(line, names)), value)
             seen += 1
-        self.assertEqual(seen, 3)
+        self.assertEqual(seen, 6)
 
 
 if __name__ == "__main__":

@@ -1,4 +1,4 @@
-"""Document 01, and of document 02 requests (i) and (ii), in plain Python: what every call of the engine has to answer, and what the listing program
+"""Document 01, and of document 02 requests (i) to (iii), in plain Python: what every call of the engine has to answer, and what the listing program
 has to print. Written from the documents, for comparison only: numbers are unbounded, nothing is fast, and each function follows the documents' own
 words. The answer of a call is a tuple that starts with number and detail."""
 import re
@@ -207,20 +207,40 @@ def puzzle(ms):
     return (0, 0) if list(ms) == list(range(len(ms), 0, -1)) else (10, 0)
 
 
-def sheet_order_given(ms, r, p):
+def sheet_order_given(ms, r, p, measure, number):
+    """number: its measure is not the total"""
     if sorted(p) != list(range(1, len(ms) + 2)):
         return 11, 0
-    return (0, 0) if sum(sheets.mix_of_order(p)) == r else (12, 0)
+    return (0, 0) if measure(p) == r else (number, 0)
+
+
+def to_order(order_of, ms, r, mix, out):
+    refusal = first(lambda: edition(ms, r), lambda: puzzle(ms), lambda: mix_given(ms, r, mix), lambda: lent_part(len(ms) + 1, len(out)))
+    return (*refusal, out if refusal[0] else bytes(order_of(mix)))
+
+
+def to_mix(mix_of, measure, number, ms, r, p, out):
+    refusal = first(lambda: edition(ms, r), lambda: puzzle(ms), lambda: sheet_order_given(ms, r, p, measure, number),
+                    lambda: lent_part(len(ms), len(out)))
+    return (*refusal, out if refusal[0] else bytes(mix_of(p)))
 
 
 def permutation(ms, r, mix, out):
-    refusal = first(lambda: edition(ms, r), lambda: puzzle(ms), lambda: mix_given(ms, r, mix), lambda: lent_part(len(ms) + 1, len(out)))
-    return (*refusal, out if refusal[0] else bytes(sheets.order_of_mix(mix)))
+    return to_order(sheets.order_of_mix, ms, r, mix, out)
 
 
 def inversions(ms, r, p, out):
-    refusal = first(lambda: edition(ms, r), lambda: puzzle(ms), lambda: sheet_order_given(ms, r, p), lambda: lent_part(len(ms), len(out)))
-    return (*refusal, out if refusal[0] else bytes(sheets.mix_of_order(p)))
+    return to_mix(sheets.mix_of_order, sheets.inversions, 12, ms, r, p, out)
+
+
+# ---- Puzzle books by major index (document 02, (iii))
+
+def major_permutation(ms, r, mix, out):
+    return to_order(sheets.order_of_code, ms, r, mix, out)
+
+
+def major_code(ms, r, p, out):
+    return to_mix(sheets.code_of_order, sheets.major_index, 23, ms, r, p, out)
 
 
 # ---- The register: a record is (n, 24 ceilings, r, lines, sold, spoilt, 24 cells of the next mix)
@@ -324,6 +344,8 @@ ANSWERS = {
     "huz_batch": (*SHAPE, 6, 13),
     "huz_permutation": (*SHAPE, 10, 7, 8, 13),
     "huz_inversions": (*SHAPE, 10, 11, 12, 13),
+    "huz_major_permutation": (*SHAPE, 10, 7, 8, 13),
+    "huz_major_code": (*SHAPE, 10, 11, 23, 13),
     "huz_open": (*SHAPE, 14, 15),
     "huz_peek": (0, 16, 21),
     "huz_claim": (0, 16, 17, 6, 18, 19, 20),

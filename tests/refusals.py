@@ -47,7 +47,7 @@ class Words(unittest.TestCase):
     maxDiff = None
 
     def test_numbers_in_turn(self):
-        self.assertEqual(list(TABLE), list(range(23)))
+        self.assertEqual(list(TABLE), list(range(24)))
 
     def test_header(self):
         body = re.search(r"enum huz_number \{(.*?)\};", read("include", "huztiral.h"), re.DOTALL).group(1)
@@ -95,6 +95,10 @@ LINES = [1007, 0]
 NONE = (((0, 0), 0), (0,), 7), (((0, 0), 0), (0, 1), 8), (((0, 0), 0), (0, 0), 9)
 # a mix or a sheet order that would do, were the withdrawn kind not there
 NO_PUZZLES = tuple(((upper, 1), given, len(given), 10) for upper in ((2, 1, 0), (2, 0, 1), (0, 2, 1)) for given in ((1, 0, 0), (1, 0), (2, 1, 3)))
+# of a mix given for a sheet order, and of a sheet order given: the last two are none, the one with three inversions, the other with major index 3
+MIXES = (SEVEN, (), 0, 10), *NO_PUZZLES, (PUZZLE, (1, 1), 0, 7), (PUZZLE, (3, 1, 0), 0, 8), (PUZZLE, (2, 1, 0), 3, 13)
+ORDERS = ((SEVEN, (), 0, 10), *NO_PUZZLES, (PUZZLE, (1, 2, 3), 0, 11), (PUZZLE, (1, 1, 2, 3), 0, 11), (PUZZLE, (5, 1, 2, 3), 0, 11),
+          (PUZZLE, (1, 4, 4, 3), 0, 11))
 # of calls on an edition: what comes after it, a length for a lent answer; the number
 OTHERS = {
     "huz_check": (),
@@ -103,12 +107,16 @@ OTHERS = {
     "huz_successor": ((PUZZLE, (1, 1), 7), (PUZZLE, (3, 1, 0), 8), (PUZZLE, (2, 0, 1), 9), *NONE, (GAP, (0, 0, 1, 2), 9)),
     "huz_predecessor": ((PUZZLE, (1, 1), 7), (PUZZLE, (3, 1, 0), 8), (PUZZLE, (3, 0, 0), 9), *NONE, (GAP, (2, 0, 1, 0), 9)),
     "huz_batch": ((PUZZLE, 0, 1, 0, 6), (PUZZLE, 7, 0, 1, 6), (PUZZLE, 6, 2, 0, 6), (PUZZLE, 5, 2, 5, 13), (GAP, 7, 2, 6, 6), (GAP, 6, 2, 6, 13)),
-    "huz_permutation": ((SEVEN, (), 0, 10), *NO_PUZZLES, (PUZZLE, (1, 1), 0, 7), (PUZZLE, (3, 1, 0), 0, 8), (PUZZLE, (2, 1, 0), 3, 13)),
-    "huz_inversions": ((SEVEN, (), 0, 10), *NO_PUZZLES, (PUZZLE, (1, 2, 3), 0, 11), (PUZZLE, (1, 1, 2, 3), 0, 11), (PUZZLE, (4, 3, 2, 1), 0, 12),
-                       (PUZZLE, (2, 4, 1, 3), 4, 13)),
+    "huz_permutation": MIXES,
+    "huz_inversions": (*ORDERS, (PUZZLE, (4, 3, 2, 1), 0, 12), (PUZZLE, (1, 2, 4, 3), 0, 12), (PUZZLE, (2, 4, 1, 3), 4, 13),
+                       (PUZZLE, (3, 2, 1, 4), 4, 13)),
+    "huz_major_permutation": MIXES,
+    "huz_major_code": (*ORDERS, (PUZZLE, (4, 3, 2, 1), 0, 23), (PUZZLE, (2, 4, 1, 3), 0, 23), (PUZZLE, (1, 2, 4, 3), 4, 13),
+                       (PUZZLE, (3, 2, 1, 4), 4, 13)),
     "huz_open": ((((60,) * 5, 150), 0, 14), (PUZZLE, 5, 15), (((60, 0) + (60,) * 4, 150), 0, 14), (GAP, 6, 15), (((0, 0), 0), 0, 15)),
 }
-ANYTHING = {"huz_check": (), "huz_unrank": (0, 1), "huz_batch": (0, 1, 7), "huz_permutation": ((), 0), "huz_inversions": ((), 0), "huz_open": (0,)}
+CONVERSIONS = "huz_permutation", "huz_inversions", "huz_major_permutation", "huz_major_code"
+ANYTHING = {"huz_check": (), "huz_unrank": (0, 1), "huz_batch": (0, 1, 7), **dict.fromkeys(CONVERSIONS, ((), 0)), "huz_open": (0,)}
 
 
 def on_registers(edition):
@@ -130,7 +138,7 @@ SLIPS = (("0 0\n1000", 22), ("61 " * 24 + "0\n300", 1), ("2 61 0\n300", 2), ("1\
 def memory(name, arguments):
     """the last number of a call that fills memory is its length; of an opening, the column's"""
     parts = [Lent(a) if isinstance(a, tuple) else a for a in arguments]
-    if name in ("huz_unrank", "huz_batch", "huz_permutation", "huz_inversions"):
+    if name in ("huz_unrank", "huz_batch", *CONVERSIONS):
         parts[-1] = Lent(bytes(arguments[-1]))
     elif name == "huz_open":
         parts[-1] = Lent([0] * arguments[-1], 4)

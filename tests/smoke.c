@@ -48,6 +48,8 @@ static void withdrawn(void) {
     expect(huz_batch(upper, 4, 3, 5, 2, out, 8).number == 0 && is(out, 1, 0, 1) && is(out + 4, 2, 0, 0) && out[7] == 1, "huz_batch, withdrawn");
     expect(huz_permutation(upper, 4, 3, composition, 4, order, 5).number == HUZ_NOT_A_STAIRCASE, "huz_permutation, withdrawn");
     expect(huz_inversions(upper, 4, 3, given, 5, out, 4).number == HUZ_NOT_A_STAIRCASE, "huz_inversions, withdrawn");
+    expect(huz_major_permutation(upper, 4, 3, composition, 4, order, 5).number == HUZ_NOT_A_STAIRCASE, "huz_major_permutation, withdrawn");
+    expect(huz_major_code(upper, 4, 3, given, 5, out, 4).number == HUZ_NOT_A_STAIRCASE, "huz_major_code, withdrawn");
     huz_opened opened = huz_open(upper, 4, 3, orders, 6);
     expect(opened.number == 0 && is(opened.ledger.next, 3, 0, 0), "huz_open, withdrawn");
     huz_claimed claimed = huz_claim(opened.ledger, orders, 6, 1, 1007);
@@ -57,6 +59,19 @@ static void withdrawn(void) {
     expect(is(claimed.composition, 2, 0, 1) && huz_entries(claimed.ledger, orders, 6) == 2, "huz_void and huz_entries, withdrawn");
     expect(is(huz_claim_in(&claimed.ledger, orders, 6, 3, 1014).composition, 1, 0, 2), "huz_claim_in, withdrawn");
     expect(is(huz_void_in(&claimed.ledger, orders, 6, 4).composition, 0, 0, 2) && claimed.ledger.entries == 4, "huz_void_in, withdrawn");
+}
+
+/* sheet orders by major index */
+static void major(void) {
+    const uint8_t upper[3] = {3, 2, 1}, composition[3] = {2, 1, 0}, turned[4] = {1, 3, 4, 2}, other[4] = {2, 4, 1, 3};
+    uint8_t out[3], order[4];
+
+    huz_done done = huz_major_permutation(upper, 3, 3, composition, 3, order, 4);
+    expect(done.number == 0 && memcmp(order, turned, 4) == 0, "huz_major_permutation");
+    done = huz_major_code(upper, 3, 3, turned, 4, out, 3);
+    expect(done.number == 0 && is(out, 2, 1, 0), "huz_major_code");
+    done = huz_major_code(upper, 3, 3, other, 4, out, 3);
+    expect(done.number == HUZ_MAJOR_INDEX_NOT_TOTAL && done.detail == 0 && is(out, 2, 1, 0), "huz_major_code of another major index");
 }
 
 int main(void) {
@@ -108,8 +123,9 @@ int main(void) {
     expect(memcmp(&before, &lent, sizeof lent) == 0, "the record after a refused huz_claim_in");
     answer = huz_void_in(&lent, orders, 2, 2);
     expect(answer.number == 0 && answer.serial == 2 && orders[1] == 0 && lent.voided == 1 && lent.entries == 2, "huz_void_in");
+    major();
     withdrawn();
     if (!failed)
-        puts("smoke: 16 functions, 15 of them with a kind withdrawn");
+        puts("smoke: 18 functions, 17 of them with a kind withdrawn");
     return failed;
 }

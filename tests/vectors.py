@@ -17,9 +17,10 @@ from collections import Counter
 import inputs
 import interleave
 import reference as ref
+import sheets
 
 CRATE = os.path.join(os.path.dirname(os.path.abspath(__file__)), "..", "crates", "vectors")
-FILL = 170  # of the lent part of an unrank, a batch, a permutation or inversions
+FILL = 170  # of the lent part of an unrank, a batch, or a sheet order or its mix
 ROOM = 7  # of the buffer for the answers to a list of calls
 PIECE = 65_536  # no command may stand in two pieces of this size
 LONGEST, WIDEST, ENTRIES = 1000, 64, 2048  # of a lent part, of a list of bytes, and of a column, a pool or the calls of a list
@@ -72,6 +73,18 @@ def fixed():
         copies = min(ref.number(ms, r), 22)
         if inputs.accepted(ms, r):
             yield command("b", ms, r, 1, copies, copies * len(ms))
+    yield from by_major_index()
+
+
+def by_major_index():
+    """the pairs of request (iii), of source document 003's example and table, and those of two sheets; total 0 and the largest"""
+    pairs = ["10", "312", "01", "213", "34221", "521643", "0", "12", "1", "21", *sheets.TABLE_1]
+    both = [([int(g) for g in mix], [int(p) for p in order]) for mix, order in zip(pairs[::2], pairs[1::2])]
+    both += [((0,) * (k - 1), range(1, k + 1)) for k in (3, 13, 25)] + [(inputs.stairs(k - 1), range(k, 0, -1)) for k in (3, 13, 23)]
+    for mix, order in both:
+        ms, r = inputs.stairs(len(mix)), sum(mix)
+        yield command("m", ms, r, bytes(mix), len(order))
+        yield command("d", ms, r, bytes(order), len(mix))
 
 
 class Draw:
@@ -101,13 +114,13 @@ class Draw:
     def batch(self):
         return "b", *inputs.tray(self.rng)
 
-    def permutation(self):
+    def to_order(self, letter):
         ms, r = inputs.puzzle(self.rng)
-        return "o", ms, r, inputs.any_mix(self.rng, ms, r), inputs.any_length(self.rng, len(ms) + 1)
+        return letter, ms, r, inputs.any_mix(self.rng, ms, r), inputs.any_length(self.rng, len(ms) + 1)
 
-    def inversions(self):
+    def to_mix(self, letter, order_of=inputs.WAYS[0]):
         ms, r = inputs.puzzle(self.rng)
-        return "i", ms, r, inputs.any_sheet_order(self.rng, ms, r), inputs.any_length(self.rng, len(ms))
+        return letter, ms, r, inputs.any_sheet_order(self.rng, ms, r, order_of), inputs.any_length(self.rng, len(ms))
 
     def table(self):
         k = self.rng.randint(0, 17)
@@ -124,7 +137,8 @@ class Draw:
     def kinds(self):
         yield self.count
         yield from (lambda letter=letter: self.given(letter) for letter in "rsp")
-        yield from (self.unrank, self.batch, self.permutation, self.inversions, self.table, self.opening, self.call)
+        yield from (self.unrank, self.batch, lambda: self.to_order("o"), lambda: self.to_mix("i"))
+        yield from (self.table, self.opening, self.call, lambda: self.to_order("m"), lambda: self.to_mix("d", self.rng.choice(inputs.WAYS)))
 
 
 def drawn(rng, count):
@@ -146,7 +160,7 @@ def fits(fields):
     """there is room in the program for what the command has, and it is not long"""
     letter, *rest = fields
     wide = [len(f) for f in rest if isinstance(f, (tuple, bytes))]
-    if letter in "uboi" and rest[-1] > LONGEST:
+    if letter in "uboimd" and rest[-1] > LONGEST:
         return False
     return max(wide, default=0) <= WIDEST and all(len(f) <= 40 for f in rest if isinstance(f, list))
 
@@ -253,6 +267,8 @@ ANSWERED_BY = {
     "b": lambda read: [batched(read)],
     "o": lambda read: [converted(ref.permutation, read)],
     "i": lambda read: [converted(ref.inversions, read)],
+    "m": lambda read: [converted(ref.major_permutation, read)],
+    "d": lambda read: [converted(ref.major_code, read)],
     "n": opened,
     "k": called,
     "l": replayed,
@@ -262,7 +278,8 @@ ANSWERED_BY = {
 # the calls that a letter stands for, by the function of the C interface, which says what numbers they answer
 CALLS = {
     "c": ["huz_check"], "r": ["huz_rank"], "u": ["huz_unrank"], "s": ["huz_successor"], "p": ["huz_predecessor"], "b": ["huz_batch"],
-    "o": ["huz_permutation"], "i": ["huz_inversions"], "n": ["huz_open"], "k": ["huz_peek", "huz_claim", "huz_void"],
+    "o": ["huz_permutation"], "i": ["huz_inversions"], "m": ["huz_major_permutation"], "d": ["huz_major_code"], "n": ["huz_open"],
+    "k": ["huz_peek", "huz_claim", "huz_void"],
 }
 
 

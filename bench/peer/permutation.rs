@@ -3,7 +3,7 @@ use super::count::{edition, is_staircase};
 use super::order::given;
 use super::types::*;
 
-fn stairs(upper: &[u8], total: u32) -> Result<(), Refused> {
+pub fn stairs(upper: &[u8], total: u32) -> Result<(), Refused> {
     edition(upper, total)?;
     if is_staircase(upper) { Ok(()) } else { Err((10, 0)) }
 }

@@ -8,6 +8,11 @@
     edition.rank([0, 2, 1])                 # 3: and back
     edition.successor([0, 2, 1])            # Step(composition=[1, 1, 1], gain=1, loss=2): kind 1 gains a tile, kind 2 loses one
 
+    puzzle = Edition([2, 1], 1)             # three sheets: their orders with one inversion, or with major index 1
+    puzzle.permutation([1, 0])              # [2, 1, 3]: the sheet order of a mix by inversions
+    puzzle.major_permutation([1, 0])        # [3, 1, 2]: and by major index
+    puzzle.major_code([3, 1, 2])            # [1, 0]: and back
+
     register = edition.open()
     next = register.peek()                  # Look(serial=1, composition=[2, 1, 0], gain=0, loss=0): the next copy; nothing is reserved
     try:

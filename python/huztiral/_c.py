@@ -72,6 +72,8 @@ FUNCTIONS: dict[str, tuple[Any, list[Any]]] = {
     "huz_batch": (Done, EDITION + [c_uint64, c_uint64] + BYTES),
     "huz_permutation": (Done, EDITION + BYTES + BYTES),
     "huz_inversions": (Done, EDITION + BYTES + BYTES),
+    "huz_major_permutation": (Done, EDITION + BYTES + BYTES),
+    "huz_major_code": (Done, EDITION + BYTES + BYTES),
     "huz_open": (Opened, EDITION + ORDERS),
     "huz_peek": (Peeked, [Ledger] + ORDERS),
     "huz_claim": (Claimed, [Ledger] + ORDERS + [c_uint64, c_uint32]),
@@ -87,7 +89,7 @@ def _dotted(version: int) -> str:
 
 
 def version_of(library: ctypes.CDLL) -> str:
-    """the version of a library, as 0.11.0"""
+    """the version of a library, as 0.12.0"""
     return _dotted(library.huz_version())
 
 

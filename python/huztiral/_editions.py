@@ -62,6 +62,10 @@ class Edition:
     after the artwork is fixed: the kinds keep their numbers, each mix has 0 there, and the order is that of the edition without it. A mix is a list
     of counts, one for each kind. Mixes may be given as any iterable of whole numbers, bytes too. An edition never changes; it can be pickled,
     compared and hashed.
+
+    An edition with the ceilings k-1, .., 2, 1 is a puzzle edition of k sheets. Each of its mixes is a sheet order, a permutation of 1 to k: one with
+    as many inversions as the total (`permutation`, and back, `inversions`), or one whose major index is the total (`major_permutation`, and back,
+    `major_code`).
     """
 
     __slots__ = ("_upper", "_total", "_count", "_given")
@@ -130,14 +134,22 @@ class Edition:
         return [list(tray[at:at + n]) for at in range(0, len(tray), n)]
 
     def permutation(self, composition: Iterable[SupportsIndex]) -> list[int]:
-        """the sheet order of a mix, in a puzzle edition"""
-        given = _bytes(composition)
-        return list(self._filled(len(self._upper) + 1, C.huz_permutation, *_lent(given), given=given))
+        """the sheet order of a mix, in a puzzle edition: after place i stand as many smaller sheets as the mix has of kind i"""
+        return self._converted(C.huz_permutation, composition, len(self._upper) + 1)
 
     def inversions(self, permutation: Iterable[SupportsIndex]) -> list[int]:
-        """the mix of a sheet order, in a puzzle edition"""
-        given = _bytes(permutation)
-        return list(self._filled(len(self._upper), C.huz_inversions, *_lent(given), given=given))
+        """the mix of a sheet order, in a puzzle edition; the order has as many inversions as the total"""
+        return self._converted(C.huz_inversions, permutation, len(self._upper))
+
+    def major_permutation(self, composition: Iterable[SupportsIndex]) -> list[int]:
+        """the sheet order of a mix by major index, in a puzzle edition of k sheets: of 1 to k, first all sheets are turned right by the count of
+        kind 1, then the first k - 1 by that of kind 2, and so on to the first two"""
+        return self._converted(C.huz_major_permutation, composition, len(self._upper) + 1)
+
+    def major_code(self, permutation: Iterable[SupportsIndex]) -> list[int]:
+        """the mix of a sheet order by major index, in a puzzle edition; the total is the order's major index, the sum of the places i, from 1, at
+        which sheet i is greater than sheet i + 1"""
+        return self._converted(C.huz_major_code, permutation, len(self._upper))
 
     def open(self) -> Register:
         """a new register of this edition, with no lines"""
@@ -147,6 +159,10 @@ class Edition:
         given = _bytes(composition)
         answer = self._accepted(function(*self._given, *_lent(given)), given=given, end=end)
         return Step(self._cells(answer), answer.gain, answer.loss)
+
+    def _converted(self, function: Callable[..., Any], values: Iterable[SupportsIndex], size: int) -> list[int]:
+        given = _bytes(values)
+        return list(self._filled(size, function, *_lent(given), given=given))
 
     def _cells(self, answer: Any) -> list[int]:
         return list(answer.composition)[:len(self._upper)]

@@ -41,6 +41,7 @@ class Number(IntEnum):
     ORDER_STANDS_EARLIER = 20, "the order number stands on an earlier line", "the lowest serial that it has"
     ALL_WRITTEN = 21, "every serial is written"
     NOT_A_REQUEST = 22, "the slip does not have the form that the listing program reads"
+    MAJOR_INDEX_NOT_TOTAL = 23, "the major index of the sheet order given is not the total"
 
 
 # What is said where the arguments of the call are known; for other numbers the meaning is said.
@@ -61,6 +62,7 @@ _SENTENCES = {
     Number.ALREADY_WRITTEN: "serial {serial} is already written, for order {detail}",
     Number.ABOVE_NEXT: "serial {serial} is above the next serial, {detail}",
     Number.ORDER_STANDS_EARLIER: "order {order} already has serial {detail}",
+    Number.MAJOR_INDEX_NOT_TOTAL: "{given} has another major index than the total, {total}",
 }
 
 

@@ -14,6 +14,7 @@ use Rattle.rank.specs.Rank.{rankAnswer}
 use Rattle.step.specs.Steps.{stepOf}
 use Rattle.permutation.specs.Permutation.{isPermutation, inversions, permutationOf, lift, inversionVector}
 use Rattle.permutation.specs.Conversions.{toPermutation, toComposition}
+use Rattle.major.specs.Major.{majorIndex, turnRows, majorPermutation, majorCode}
 use Rattle.model.specs.Printing.{compositions}
 use Rattle.model.specs.Model.{answer, after, bookFrom}
 use Rattle.model.specs.Record.{opened, opening, consistent, answered, recordAfter, columnAfter, run}
@@ -22,7 +23,8 @@ use Rattle.boundary.specs.Rows.{rows}
 
 all-hold : map given rows ≡ map claimed rows
 unfolding rows same placeOf serialOf compositionOf order listing countOf count firstRefusal firstOutside cellsOf rankAnswer stepOf
-    gainFrom transitionAt filling staircase isStaircase isPermutation inversions permutationOf lift inversionVector toPermutation toComposition
+    gainFrom transitionAt filling staircase isStaircase isPermutation inversions permutationOf lift inversionVector majorIndex turnRows
+    majorPermutation majorCode toPermutation toComposition
     compositions opened opening consistent answered recordAfter columnAfter run answer after bookFrom
 all-hold = refl
 

@@ -14,7 +14,7 @@ use Rattle.bounds.specs.declared.Refusal.{Refusal}
 use Rattle.rank.specs.Rank.{Answer, rankAnswer}
 use Rattle.step.specs.Steps.{successorOf, predecessorOf}
 use Rattle.step.specs.declared.Stepped.{Stepped}
-use Rattle.permutation.specs.Reading.{byInversions}
+use Rattle.permutation.specs.Reading.{Reading}
 use Rattle.permutation.specs.Conversions.{toPermutation, toComposition}
 use Rattle.model.specs.declared.Opened.{Opened}
 use Rattle.model.specs.Printing.{Printing}
@@ -44,9 +44,13 @@ pub data Claim : Type 0 where
   -- it has this composition alone: serial 1, and 9 both ways
   alone : List ℕ → Claim
   -- its permutations in their order
-  permutations : List (List ℕ) → Claim
+  permutations : Reading → List (List ℕ) → Claim
+  -- a composition and its permutation
+  reads : Reading → List ℕ → List ℕ → Claim
+  -- these sheets are refused with this number
+  unread : Reading → List ℕ → ℕ → Claim
   -- it is no puzzle edition: 10 both ways, for this composition and these sheets
-  noPuzzle : List ℕ → List ℕ → Claim
+  noPuzzle : Reading → List ℕ → List ℕ → Claim
   -- what a ledger on it answers to a list of calls; of a composition the first parts are written, the others are 0
   answers : List Told → Claim
 
@@ -97,11 +101,11 @@ module _ (ms : List ℕ) (r : ℕ) where
   edition = refusalList (firstRefusal (editionChecks ms r))
 
   -- each conversion, into a lent part of the right length
-  abbrev permuted : List ℕ → List ℕ
-  permuted g = filledList (toPermutation byInversions ms r g (replicate (length ms + 1) 0))
+  abbrev permuted : Reading → List ℕ → List ℕ
+  permuted reading g = filledList (toPermutation reading ms r g (replicate (length ms + 1) 0))
 
-  abbrev unpermuted : List ℕ → List ℕ
-  unpermuted p = filledList (toComposition byInversions ms r p (replicate (length ms) 0))
+  abbrev unpermuted : Reading → List ℕ → List ℕ
+  unpermuted reading p = filledList (toComposition reading ms r p (replicate (length ms) 0))
 
   -- the pairs of the serials 1, .. , n
   abbrev pairsTo : ℕ → List (List ℕ)
@@ -130,10 +134,15 @@ module _ (ms : List ℕ) (r : ℕ) where
       let end : List ℕ = 9 ∷ 0 ∷ paired blank 0 0 in
       (rankList (rankAnswer ms r g) ∷ stepList (successorOf ms r g) ∷ stepList (predecessorOf ms r g) ∷ [], accepted (1 ∷ []) ∷ end ∷ end ∷ [])
   -- the lent parts stay as they were
-  sides (noPuzzle g p) =
-      (edition ∷ permuted g ∷ unpermuted p ∷ [], accepted [] ∷ (10 ∷ 0 ∷ replicate (length ms + 1) 0) ∷ (10 ∷ 0 ∷ replicate (length ms) 0) ∷ [])
+  sides (noPuzzle reading g p) = (
+    edition ∷ permuted reading g ∷ unpermuted reading p ∷ [],
+    accepted [] ∷ (10 ∷ 0 ∷ replicate (length ms + 1) 0) ∷ (10 ∷ 0 ∷ replicate (length ms) 0) ∷ [],
+  )
+  sides (unread reading p number) = (unpermuted reading p ∷ [], (number ∷ 0 ∷ replicate (length ms) 0) ∷ [])
   -- both ways
-  sides (permutations ps) = (map permuted (order ms r) ++ map unpermuted ps, map accepted ps ++ map accepted (order ms r))
+  sides (permutations reading ps) =
+      (map (permuted reading) (order ms r) ++ map (unpermuted reading) ps, map accepted ps ++ map accepted (order ms r))
+  sides (reads reading g p) = (permuted reading g ∷ unpermuted reading p ∷ [], accepted p ∷ accepted g ∷ [])
   -- the record's own run, and the model
   sides (answers cs) =
       let calls = map (λ (x : Told). x .0) cs in

@@ -1,11 +1,17 @@
--- Document 01, "Boundary copies": the table, with the pairs of document 02, (i), and rows for the withdrawn kinds of (ii).
+-- Document 01, "Boundary copies": the table, with the pairs of document 02, (i), and rows for the withdrawn kinds of (ii) and the permutations by
+-- major index of (iii).
 use mathlib.Core.List.{List, [], _∷_}
 use Prim.Native.Nat.{ℕ}
 use lib.ListN.{replicate}
 use Rattle.walsh.specs.Order.{threeTwos, seven}
 use Rattle.walsh.specs.Withdrawn.{gapped}
+use Rattle.mahonian.specs.Staircase.{staircase}
+use Rattle.permutation.specs.Reading.{byInversions}
+use Rattle.major.specs.Major.{upTo}
+use Rattle.major.specs.Reading.{byMajor}
 use Rattle.model.specs.Model.{peek, claim, void}
-use Rattle.boundary.specs.Row.{Claim, lists, counts, refused, serial, next, back, pairs, alone, answers, permutations, noPuzzle, Row}
+use Rattle.boundary.specs.Row.{Claim, lists, counts, refused, serial, next, back, pairs, alone, answers}
+use Rattle.boundary.specs.Row.{permutations, reads, unread, noPuzzle, Row}
 
 abbrev row : List ℕ → ℕ → Claim → Row
 row ms r what = record { bounds = ms; total = r; claim = what }
@@ -32,10 +38,10 @@ rows =
     ∷ row (3 ∷ 2 ∷ 1 ∷ []) 3
     (lists ((3 ∷ 0 ∷ 0 ∷ []) ∷ (2 ∷ 1 ∷ 0 ∷ []) ∷ (1 ∷ 2 ∷ 0 ∷ []) ∷ (0 ∷ 2 ∷ 1 ∷ []) ∷ (1 ∷ 1 ∷ 1 ∷ []) ∷ (2 ∷ 0 ∷ 1 ∷ []) ∷ []))
     ∷ row (3 ∷ 2 ∷ 1 ∷ []) 3
-    (permutations
+    (permutations byInversions
     ((4 ∷ 1 ∷ 2 ∷ 3 ∷ []) ∷ (3 ∷ 2 ∷ 1 ∷ 4 ∷ []) ∷ (2 ∷ 4 ∷ 1 ∷ 3 ∷ []) ∷ (1 ∷ 4 ∷ 3 ∷ 2 ∷ []) ∷ (2 ∷ 3 ∷ 4 ∷ 1 ∷ []) ∷ (3 ∷ 1 ∷ 4 ∷ 2 ∷ []) ∷ []))
     -- H: the staircase of three
-    ∷ row (2 ∷ 1 ∷ []) 1 (permutations ((2 ∷ 1 ∷ 3 ∷ []) ∷ (1 ∷ 3 ∷ 2 ∷ []) ∷ []))
+    ∷ row (2 ∷ 1 ∷ []) 1 (permutations byInversions ((2 ∷ 1 ∷ 3 ∷ []) ∷ (1 ∷ 3 ∷ 2 ∷ []) ∷ []))
     -- I: bounds 1 1 with total 1, two workers: look 1, look 1, take 1 for 1007, take 1 for 1014, take 2 for 1014, look
     ∷ row (1 ∷ 1 ∷ []) 1
     (answers
@@ -128,6 +134,24 @@ rows =
     ∷ row (1 ∷ 0 ∷ 61 ∷ []) 256 (refused 2 3)
     ∷ row (0 ∷ replicate 24 1) 12 (refused 1 0)
     -- "puzzle editions keep their ceilings"
-    ∷ row (2 ∷ 1 ∷ 0 ∷ []) 1 (noPuzzle (1 ∷ 0 ∷ 0 ∷ []) (2 ∷ 1 ∷ 3 ∷ 4 ∷ []))
-    ∷ row (2 ∷ 0 ∷ 1 ∷ []) 1 (noPuzzle (1 ∷ 0 ∷ 0 ∷ []) (2 ∷ 1 ∷ 3 ∷ 4 ∷ []))
+    ∷ row (2 ∷ 1 ∷ 0 ∷ []) 1 (noPuzzle byInversions (1 ∷ 0 ∷ 0 ∷ []) (2 ∷ 1 ∷ 3 ∷ 4 ∷ []))
+    ∷ row (2 ∷ 0 ∷ 1 ∷ []) 1 (noPuzzle byInversions (1 ∷ 0 ∷ 0 ∷ []) (2 ∷ 1 ∷ 3 ∷ 4 ∷ []))
+    -- document 02, (iii): "Three sheets, total 1: mix 1 0 gives 312 and mix 0 1 gives 213"; copy G by major index; the source's 521643
+    ∷ row (2 ∷ 1 ∷ []) 1 (reads byMajor (1 ∷ 0 ∷ []) (3 ∷ 1 ∷ 2 ∷ []))
+    ∷ row (2 ∷ 1 ∷ []) 1 (permutations byMajor ((3 ∷ 1 ∷ 2 ∷ []) ∷ (2 ∷ 1 ∷ 3 ∷ []) ∷ []))
+    ∷ row (3 ∷ 2 ∷ 1 ∷ []) 3
+    (permutations byMajor
+    ((2 ∷ 3 ∷ 4 ∷ 1 ∷ []) ∷ (1 ∷ 3 ∷ 4 ∷ 2 ∷ []) ∷ (1 ∷ 2 ∷ 4 ∷ 3 ∷ []) ∷ (3 ∷ 2 ∷ 1 ∷ 4 ∷ []) ∷ (4 ∷ 2 ∷ 1 ∷ 3 ∷ []) ∷ (4 ∷ 3 ∷ 1 ∷ 2 ∷ []) ∷ []))
+    ∷ row (5 ∷ 4 ∷ 3 ∷ 2 ∷ 1 ∷ []) 12 (reads byMajor (3 ∷ 4 ∷ 2 ∷ 2 ∷ 1 ∷ []) (5 ∷ 2 ∷ 1 ∷ 6 ∷ 4 ∷ 3 ∷ []))
+    -- two sheets; total 0 is 1..k, and the largest total k..1
+    ∷ row (1 ∷ []) 0 (permutations byMajor ((1 ∷ 2 ∷ []) ∷ []))
+    ∷ row (1 ∷ []) 1 (permutations byMajor ((2 ∷ 1 ∷ []) ∷ []))
+    ∷ row (3 ∷ 2 ∷ 1 ∷ []) 0 (permutations byMajor (upTo 4 ∷ []))
+    ∷ row (3 ∷ 2 ∷ 1 ∷ []) 6 (permutations byMajor ((4 ∷ 3 ∷ 2 ∷ 1 ∷ []) ∷ []))
+    ∷ row (staircase 25) 0 (reads byMajor (replicate 24 0) (upTo 25))
+    -- 132 has one inversion and major index 2, 312 two and 1; 11 before either number, and 10 before 11
+    ∷ row (2 ∷ 1 ∷ []) 1 (unread byMajor (1 ∷ 3 ∷ 2 ∷ []) 23)
+    ∷ row (2 ∷ 1 ∷ []) 1 (unread byInversions (3 ∷ 1 ∷ 2 ∷ []) 12)
+    ∷ row (2 ∷ 1 ∷ []) 1 (unread byMajor (1 ∷ 3 ∷ 3 ∷ []) 11)
+    ∷ row (2 ∷ 2 ∷ []) 1 (noPuzzle byMajor (1 ∷ 0 ∷ []) (1 ∷ 3 ∷ 3 ∷ []))
     ∷ []

@@ -19,12 +19,13 @@ ghost use Rattle.step.specs.Steps.{successorOf, predecessorOf};
 ghost use Rattle.step.specs.Batch.{batchOf};
 ghost use Rattle.permutation.specs.Reading.{byInversions};
 ghost use Rattle.permutation.specs.Conversions.{toPermutation, toComposition};
+ghost use Rattle.major.specs.Reading.{byMajor};
 ghost use Rattle.model.specs.Model.{Call};
 ghost use Rattle.model.specs.Record.{opening, peeking, calling, entriesOf};
 ghost use Rattle.engine.specs.Ranks.{rankedOf};
 ghost use Rattle.engine.specs.Version.{version};
 
-const VERSION: u32 = 1100;
+const VERSION: u32 = 1200;
 
 // A serial, or a refusal's number and detail with serial 0.
 #[repr(C)]
@@ -130,6 +131,34 @@ pub extern "C" fn huz_inversions(
         (toComposition byInversions (now (upper .entry)) total (now (permutation .entry)) (now (out .entry))) ⌝ }
 {
     permutation::inversions(upper, total, permutation, out)
+}
+
+#[no_mangle]
+pub extern "C" fn huz_major_permutation(
+    upper: &[u8],
+    total: u32,
+    composition: &[u8],
+    out: &mut [u8],
+) -> Refusal
+    ensures { λ r.
+        ⌜ _≡_ {A = Refusal × List ℕ} (r, now (out .exit))
+        (toPermutation byMajor (now (upper .entry)) total (now (composition .entry)) (now (out .entry))) ⌝ }
+{
+    major::permutation(upper, total, composition, out)
+}
+
+#[no_mangle]
+pub extern "C" fn huz_major_code(
+    upper: &[u8],
+    total: u32,
+    permutation: &[u8],
+    out: &mut [u8],
+) -> Refusal
+    ensures { λ r.
+        ⌜ _≡_ {A = Refusal × List ℕ} (r, now (out .exit))
+        (toComposition byMajor (now (upper .entry)) total (now (permutation .entry)) (now (out .entry))) ⌝ }
+{
+    major::code(upper, total, permutation, out)
 }
 
 #[no_mangle]

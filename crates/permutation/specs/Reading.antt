@@ -1,5 +1,5 @@
--- A way to read the compositions of staircase bounds as permutations. Document 01, "Sheet orders", has one, by inversions; the calls and
--- their round trips are stated for any.
+-- A way to read the compositions of staircase bounds as permutations. Document 01, "Sheet orders", has one, by inversions, and document 02,
+-- (iii), another, by major index (crate `major`); the calls and their round trips are stated for any.
 use mathlib.Core.Path.{_≡_}
 use mathlib.Core.Bool.{true}
 use mathlib.Core.List.{List}

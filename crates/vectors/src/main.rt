@@ -9,6 +9,7 @@ mod record;
 mod room;
 mod show;
 
+use bounds::Refusal;
 use libc::STDIN_FILENO;
 
 // What a lent part holds before a call.
@@ -132,8 +133,18 @@ fn batch(s: &[u8], from: usize) -> usize
     size.at
 }
 
-// permutation: o, upper, total, composition, length: number, detail, the lent part
-fn permutation(s: &[u8], from: usize) -> usize
+// Between a composition and a permutation, by inversions or by major index.
+fn conversion(letter: u8, upper: &[u8], total: u32, given: &[u8], lent: &mut [u8]) -> Refusal {
+    match letter {
+        b'o' => permutation::permutation(upper, total, given, lent),
+        b'i' => permutation::inversions(upper, total, given, lent),
+        b'm' => major::permutation(upper, total, given, lent),
+        _ => major::code(upper, total, given, lent),
+    }
+}
+
+// a conversion: o, i, m or d, upper, total, composition or permutation, length: number, detail, the lent part
+fn convert(s: &[u8], letter: u8, from: usize) -> usize
     ensures { λ r. ⌜ from ≤ r ⌝ }
 {
     let mut upper = [0u8; 64];
@@ -143,31 +154,11 @@ fn permutation(s: &[u8], from: usize) -> usize
     let g = read::list(s, e.at, &mut given);
     let size = read::number(s, g.at);
     let lent = read::lent(&mut out, size.value);
-    let r = permutation::permutation(
+    let r = conversion(
+        letter,
         read::part(&upper, e.parts),
         e.total,
         read::part(&given, g.len),
-        lent,
-    );
-    show::lent(r, lent);
-    size.at
-}
-
-// inversions: i, upper, total, permutation, length: number, detail, the lent part
-fn inversions(s: &[u8], from: usize) -> usize
-    ensures { λ r. ⌜ from ≤ r ⌝ }
-{
-    let mut upper = [0u8; 64];
-    let mut given = [0u8; 64];
-    let mut out = [FILL; 1024];
-    let e = read::bounded_by(s, from, &mut upper);
-    let p = read::list(s, e.at, &mut given);
-    let size = read::number(s, p.at);
-    let lent = read::lent(&mut out, size.value);
-    let r = permutation::inversions(
-        read::part(&upper, e.parts),
-        e.total,
-        read::part(&given, p.len),
         lent,
     );
     show::lent(r, lent);
@@ -187,8 +178,7 @@ fn command(s: &[u8], letter: u8, from: usize) -> usize
         b's' => step(s, from, false),
         b'p' => step(s, from, true),
         b'b' => batch(s, from),
-        b'o' => permutation(s, from),
-        b'i' => inversions(s, from),
+        b'o' | b'i' | b'm' | b'd' => convert(s, letter, from),
         b'n' => record::opening(s, from),
         b'k' => record::call(s, from),
         b'l' => interleave::list(s, from),

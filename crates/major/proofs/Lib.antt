@@ -1,0 +1,15 @@
+pub mod Erased
+pub mod Digits
+pub mod Packed
+pub mod Words
+pub mod Tallied
+pub mod Circle
+pub mod Start
+pub mod Turning
+pub mod Index
+pub mod Codes
+pub mod Coded
+pub mod ByMajor
+pub mod Drawing
+pub mod Finding
+pub mod Consequences

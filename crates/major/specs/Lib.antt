@@ -1,0 +1,7 @@
+pub mod Major
+pub mod Reading
+pub mod Matched
+pub mod Circle
+pub mod Bits
+pub mod Left
+pub mod Tally
