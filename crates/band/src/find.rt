@@ -168,18 +168,19 @@ fn in_small(
     find_in(upper, total, all, &mut cells[..size], asked, given)
 }
 
-// The same of any band, in larger arrays. It surveys anew, which costs little beside such a band and makes it a call of its own, so that the others
-// have small frames. It is handed slices of their own (`&upper[..]`): the caller's then stay in registers.
-fn in_large(upper: &[u8], total: u32, asked: Conversion, given: &[u8]) -> Converted
-    requires { ⌜ Given asked (now upper) total (now given) ⌝ }
+// The same of any band, in larger arrays. It is a call of its own, so that the others have small frames, and is handed slices of their own
+// (`&upper[..]`): the caller's then stay in registers.
+fn in_large(
+    upper: &[u8],
+    total: u32,
+    all: usize,
+    size: usize,
+    asked: Conversion,
+    given: &[u8],
+) -> Converted
+    requires { ⌜ Sized (now upper) total all size × Given asked (now upper) total (now given) ⌝ }
     ensures { λ r. ⌜ r ≡ convertedOf asked (now (upper .entry)) total (now (given .entry)) ⌝ }
 {
-    let s = crate::survey(upper, total);
-    if 0 < s.number {
-        return nothing(s.number, s.detail);
-    }
-    let all = s.all;
-    let size = s.size;
     if size <= 1536 {
         let mut cells = [0u64; 1536];
         return find_in(upper, total, all, &mut cells[..size], asked, given);
@@ -211,7 +212,14 @@ pub fn serial_of(upper: &[u8], total: u32, composition: &[u8]) -> Converted
     if s.size <= 1024 {
         return in_small(upper, total, s.all, s.size, Conversion::Rank, composition);
     }
-    in_large(&upper[..], total, Conversion::Rank, &composition[..])
+    in_large(
+        &upper[..],
+        total,
+        s.all,
+        s.size,
+        Conversion::Rank,
+        &composition[..],
+    )
 }
 
 // N and the composition of the serial nearest to `serial`, or the refusal. (No composition is given, so the bounds are lent for it.)
@@ -232,5 +240,12 @@ pub fn composition_of(upper: &[u8], total: u32, serial: u64) -> Converted
             upper,
         );
     }
-    in_large(&upper[..], total, Conversion::Unrank(serial), &upper[..])
+    in_large(
+        &upper[..],
+        total,
+        s.all,
+        s.size,
+        Conversion::Unrank(serial),
+        &upper[..],
+    )
 }
