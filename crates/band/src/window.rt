@@ -59,8 +59,10 @@ fn step(
 {
     if enters {
         if leaves {
+            // the cell that enters is read first, which makes the faster loop
+            let y = cell(upper, total, k, row, cells, t);
             let x = cell(upper, total, k, row, cells, t - (m + 1));
-            return moved(w, x, cell(upper, total, k, row, cells, t));
+            return moved(w, x, y);
         }
         return w + cell(upper, total, k, row, cells, t);
     }
