@@ -155,12 +155,19 @@ fn batches(table: &mut Table, e: &Edition, copies: u64, name: &str, rows: Rows) 
     let (mut a, mut b) = (vec![1; n * copies as usize], vec![2; n * copies as usize]);
     assert_eq!((engine::batch(u, r, serial, copies, &mut a).number, peer::batch::<true>(u, r, serial, copies, &mut b).number), (0, 0));
     assert!(a == b);
+    b.fill(3);
+    assert_eq!(peer::batch_by_blocks(u, r, serial, copies, &mut b).number, 0);
+    assert!(a == b);
     let mut ours = |_| seen(engine::batch(u, r, serial, copies, &mut a));
     let theirs = |_| seen(peer::batch::<true>(u, r, serial, copies, &mut b));
     table.row(&format!("batch of {name}: {}", e.name), beside(&mut ours, theirs));
     if rows == Rows::Both {
         let narrow = |_| seen(peer::batch::<false>(u, r, serial, copies, &mut b));
         table.row("  the same, the peer copies no byte too many", beside(&mut ours, narrow));
+    }
+    if copies >= 20_000 {
+        let blocks = |_| seen(peer::batch_by_blocks(u, r, serial, copies, &mut b));
+        table.row("  the same, the peer by blocks too", beside(&mut ours, blocks));
     }
 }
 
@@ -249,7 +256,7 @@ fn listing(table: &mut Table, ours: &str, theirs: &str, folder: &str, e: &Editio
 fn conversions(table: &mut Table) {
     let six = edition("24 x 6, total 72", vec![6; 24], 72);
     let ten = edition("24 x 10, total 239", vec![10; 24], 239);
-    let five = edition("24 x 5, total 60", vec![5; 24], 60);
+    let longer = edition("24 x 5, total 60", vec![5; 24], 60);
     let twenty = edition("20 x 6, total 60", vec![6; 20], 60);
     let twelve = edition("12 sheets, 33 inversions", stairs(11), 33);
     let sheets = edition("25 sheets, 57 inversions", stairs(24), 57);
@@ -264,7 +271,7 @@ fn conversions(table: &mut Table) {
     for e in [&six, &twelve] {
         refusals(table, e);
     }
-    for e in [&twelve, &five, &twenty, &ten, &six] {
+    for e in [&twelve, &longer, &twenty, &ten, &six] {
         successors(table, e);
         predecessors(table, e);
     }
@@ -277,6 +284,14 @@ fn conversions(table: &mut Table) {
         batches(table, e, 1_000_000, "a million", Rows::First);
     }
     batches(table, &six, 1_000, "a thousand", Rows::Both);
+    let two = edition("2 kinds, 60 and 60, total 60", vec![60, 60], 60);
+    let five = edition("20 x 5, total 50", vec![5; 20], 50);
+    for e in [&six, &twelve, &five] {
+        batches(table, e, 1, "one", Rows::First);
+        batches(table, e, 100, "a hundred", Rows::First);
+    }
+    batches(table, &two, 1, "one", Rows::First);
+    batches(table, &two, 61, "61, all", Rows::First);
     for e in [&few, &sheets, &twelve] {
         permutations(table, e);
     }

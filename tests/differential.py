@@ -225,6 +225,17 @@ def full_tray(rng):
     batch(rng, ms, r, serial, copies, copies * len(ms))
 
 
+def long_trays(rng):
+    """trays that are written by blocks, from 20,000 copies on, and some that are not quite so long; one in five is refused"""
+    for ms, r in inputs.LONG + [inputs.many(rng) for _ in range(30)]:
+        n = ref.number(ms, r)
+        copies = min(n, rng.choice((19_999, 20_000, 20_001, rng.randint(20_000, 40_000))))
+        serial = rng.choice((1, rng.randint(1, n - copies + 1), rng.randint(1, n - copies + 1), n - copies + 1))
+        batch(rng, ms, r, serial, copies, copies * len(ms))
+        if rng.random() < 0.25:
+            batch(rng, ms, r, *rng.choice(((serial, copies, copies * len(ms) - 1), (n - copies + 2, copies, copies * len(ms)), (0, copies, 0))))
+
+
 def round_of(rng):
     for _ in range(40):
         ms, r = inputs.any_edition(rng)
@@ -277,6 +288,7 @@ def main():
     conversions.every_order(rng)
     conversions.every_edition()
     large_register(rng)
+    long_trays(rng)
     rounds = 0
     while rounds < options.rounds and len(differences) <= 50:
         if rounds >= FLOOR and time.monotonic() - start > options.seconds:

@@ -41,6 +41,14 @@ EDGES = NAMED + WITHDRAWN + [
 ]
 
 
+# editions of 20,000 mixes and more: many kinds and few, with small ceilings and large, with withdrawn kinds of which none, some or all the first are
+LONG = [
+    ((6,) * 24, 72), (stairs(11), 33), ((5,) * 20, 50), ((0,) * 4 + (5,) * 20, 50), ((0,) * 4 + stairs(11), 33), ((11, 0) + stairs(11)[1:], 33),
+    ((60,) * 6, 180), ((60,) * 4, 120), ((60, 1) * 6, 90), ((1,) * 24, 12), ((2,) * 24, 24), ((0,) * 14 + (6,) * 10, 30), ((0,) * 16 + (9,) * 8, 36),
+    ((0,) * 20 + (60,) * 4, 100), ((9, 0, 0, 0) * 6, 27), ((1,) * 8 + (60,) * 8, 12), ((60,) * 24, 5), ((60,) * 8 + (1,) * 8, 250),
+]
+
+
 def withdraw(rng, ms):
     """the first kinds withdrawn, the last ones, a run, some here and there, all but two, all but one, or all"""
     n = len(ms)
@@ -48,6 +56,14 @@ def withdraw(rng, ms):
     run, some, two = [*range(a), *range(b, n)], [k for k in range(n) if rng.random() < 0.7], rng.sample(range(n), min(n, 2))
     kept = rng.choice((range(a, n), range(a, n), range(b), run, run, some, some, some, two, two, two[:1], ()))
     return tuple(m if k in kept else 0 for k, m in enumerate(ms))
+
+
+def many(rng):
+    """an accepted edition of 20,000 mixes or more"""
+    while True:
+        ms, r = sound(rng)
+        if ref.number(ms, r) >= 20_000:
+            return ms, r
 
 
 def sound(rng, small=False):

@@ -1,8 +1,9 @@
-"""Document 01, and of document 02 requests (i) to (iii), in plain Python: what every call of the engine has to answer, and what the listing program
+"""Document 01, and of document 02 requests (i) to (iv), in plain Python: what every call of the engine has to answer, and what the listing program
 has to print. Written from the documents, for comparison only: numbers are unbounded, nothing is fast, and each function follows the documents' own
 words. The answer of a call is a tuple that starts with number and detail."""
 import re
 from functools import lru_cache
+from itertools import islice
 
 import sheets
 
@@ -112,6 +113,23 @@ def mix_at(ms, r, serial):
     return put_back(ms, mix)
 
 
+def mixes_from(ms, r, serial):
+    """the mixes from a serial of 1..N on, in their order: the walk without the blocks before it"""
+    kept = left(ms)
+
+    def endings(i, t, ending, skip):
+        if i < 0:
+            yield ending
+            return
+        for v in values(kept, i, r, t):
+            block = number(kept[:i], r - t - v) if skip else 1
+            if skip < block:
+                yield from endings(i - 1, t + v, (v, *ending), skip)
+            skip = max(0, skip - block)
+    mixes = endings(len(kept) - 1, 0, (), serial - 1)
+    return mixes if all(ms) else (put_back(ms, mix) for mix in mixes)
+
+
 def serial_of(ms, r, mix):
     kept, mix, before, t = left(ms), left(ms, mix), 0, 0
     for i in reversed(range(len(kept))):
@@ -198,7 +216,7 @@ def batch(ms, r, serial, copies, out):
     refusal = first(lambda: edition(ms, r), serials, lambda: lent_part(copies * len(ms), len(out)))
     if refusal[0]:
         return (*refusal, out)
-    return 0, 0, b"".join(bytes(mix_at(ms, r, serial + j)) for j in range(copies))
+    return 0, 0, b"".join(bytes(mix) for mix in islice(mixes_from(ms, r, serial), copies))
 
 
 # ---- Sheet orders

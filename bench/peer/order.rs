@@ -208,6 +208,66 @@ fn write_runs<const WIDE: bool>(upper: &[u8], total: usize, (i, j): (usize, usiz
     }
 }
 
+/// The first parts that are listed for each of their sums, as many as have room for their entries and have long lists: their number, the entries one
+/// behind the other, and how many stand before the list of each sum.
+fn prefixes(upper: &[u8], total: usize) -> Option<(usize, Vec<u8>, Vec<usize>)> {
+    let (mut width, mut size, mut sums) = (0, 1, 1);
+    for (i, &m) in upper.iter().take(16).enumerate() {
+        let more = size * (m as usize + 1);
+        if more * (i + 1) > 12_272 {
+            break;
+        }
+        (width, size, sums) = (i + 1, more, sums + m as usize);
+    }
+    if size / 16 < sums || upper[..width].iter().filter(|&&m| m > 0).count() < 3 {
+        return None;
+    }
+    let upper = &upper[..width];
+    let (mut entries, mut starts) = (Vec::with_capacity(12_288), vec![0]);
+    for sum in 0..=total.min(sums - 1) {
+        let count = number(upper, sum as u32).ok()? as usize;
+        let at = entries.len();
+        entries.resize(at + count * width, 0);
+        batch_in::<true>(upper, sum as u32, 1, count as u64, &mut entries[at..]).ok()?;
+        starts.push(starts.last().unwrap() + count);
+    }
+    entries.resize(entries.len() + 16, 0);
+    Some((width, entries, starts))
+}
+
+/// Copies block by block: while the parts behind the first ones stay, these run through the list of their sum, forwards or backwards.
+fn write_blocks(upper: &[u8], total: usize, first: [u8; 24], out: &mut [u8]) -> Option<usize> {
+    let n = upper.len();
+    let (width, entries, starts) = prefixes(upper, total)?;
+    let mut cells = [0u8; 40];
+    cells[..24].copy_from_slice(&first);
+    let end = (out.len() / n).checked_sub(40)?;
+    let mut done = 0;
+    let mut whole = false;
+    while done < end {
+        let sum: usize = cells[..width].iter().map(|&v| v as usize).sum();
+        let (low, high, falling) = (starts[sum], starts[sum + 1], (total - sum) % 2 == 1);
+        let mut entry = if falling { high - 1 } else { low };
+        if !whole {
+            entry = (low..high).find(|&e| entries[e * width..(e + 1) * width] == cells[..width])?;
+            whole = true;
+        }
+        let ending: [u8; 24] = cells[width..width + 24].try_into().unwrap();
+        let copies = (if falling { entry + 1 - low } else { high - entry }).min(end - done);
+        for j in 0..copies {
+            let from = (if falling { entry - j } else { entry + j }) * width;
+            let at = (done + j) * n;
+            out[at..at + 16].copy_from_slice(&entries[from..from + 16]);
+            out[at + width..at + width + 24].copy_from_slice(&ending);
+        }
+        let last = (if falling { entry + 1 - copies } else { entry + copies - 1 }) * width;
+        cells[..width].copy_from_slice(&entries[last..last + width]);
+        advance(upper, total, &mut cells[..n], 0);
+        done += copies;
+    }
+    Some(done)
+}
+
 fn batch_in<const WIDE: bool>(upper: &[u8], total: u32, serial: u64, copies: u64, out: &mut [u8]) -> Result<(), Refused> {
     let n = upper.len();
     let all = shape(upper, total)?;
@@ -230,6 +290,23 @@ fn batch_in<const WIDE: bool>(upper: &[u8], total: u32, serial: u64, copies: u64
         None => out.copy_from_slice(&cells[..n]), // one composition
     }
     Ok(())
+}
+
+/// The same by blocks where the lists have room, and the last copies by runs.
+#[inline(never)]
+pub fn batch_by_blocks(upper: &[u8], total: u32, serial: u64, copies: u64, out: &mut [u8]) -> Refusal {
+    let n = upper.len();
+    let mut first = [0u8; 24];
+    if copies < 20_000 || copies.checked_mul(n as u64) != Some(out.len() as u64) {
+        return batch::<true>(upper, total, serial, copies, out);
+    }
+    match number(upper, total) {
+        Ok(count) if serial > 0 && serial <= count && copies <= count - serial + 1 => {}
+        _ => return batch::<true>(upper, total, serial, copies, out),
+    }
+    unrank::<false>(upper, total, serial, &mut first[..n]);
+    let done = write_blocks(upper, total as usize, first, out).unwrap_or(0);
+    batch::<true>(upper, total, serial + done as u64, copies - done as u64, &mut out[done * n..])
 }
 
 #[inline(never)]

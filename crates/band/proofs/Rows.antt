@@ -3,7 +3,7 @@ use mathlib.Core.Path.{_≡_, sym, ap, _∙_, subst}
 use mathlib.Core.List.{List}
 use Prim.Native.Nat.{ℕ, suc, _+_, _-_, _*_, _≤_, _<_, min}
 use native.Mathlib.Omega.{arith}
-use native.Mathlib.Nat.{add-comm, min-le-left}
+use native.Mathlib.Nat.{add-comm, le-of-lt, le-refl, min-le-left}
 use native.Mathlib.Numerals.{add-one}
 use lib.ListN.{length, getD, set}
 use lib.Seq.{getD-set-same, getD-set-other}
@@ -14,8 +14,9 @@ use Rattle.walsh.proofs.Lists.{sumTo-mono, sumTo-step}
 use Rattle.walsh.proofs.Listing.{count-none}
 use Rattle.walsh.proofs.Window.{count-zero}
 use Rattle.bounds.specs.Edition.{whole}
-use Rattle.band.specs.Band.{InBand, lowest, highest, width, rowStart, bandSize, cellIndex, cap, Row-holds, Rows-hold, IsRow}
+use Rattle.band.specs.Band.{InBand, lowest, highest, width, rowStart, bandSize, cellIndex, cap, Row-holds, Rows-hold, IsRow, Sizing}
 use Rattle.band.specs.declared.Row.{Row}
+use Rattle.band.proofs.Numbers.{suc-pred}
 use Rattle.band.proofs.Bands.{start-small, cell-lt, cell-room, cell-earlier, cell-differs}
 
 back : (a b : ℕ) → a + b - b ≡ a
@@ -153,11 +154,43 @@ base-rows ms r table reach room j l t b h =
     let p = first-place ms r t reach b′ in
     rw (z, p .1, p .0, count-zero ms) (getD-set-same table 0 1 0 (base-room ms r table reach room), omega arith)
 
--- the table ends behind the one cell of its last row
-pub last-size : (ms : List ℕ) (r : ℕ) (last : Row) → r ≤ whole ms → IsRow ms r (length ms) last → last .start + 1 ≡ bandSize ms r
-last-size ms r last reach i =
+-- the cells counted from the last part down: the last row has one
+pub sizing-starts : (ms : List ℕ) (r : ℕ) → r ≤ whole ms → (all : ℕ) → all ≡ whole ms → Sizing ms r (length ms) all 1
+sizing-starts ms r reach all e =
     let one : width ms r (length ms) ≡ 1 = omega arith in
-    rw (i .start) (ap (λ (n : ℕ). rowStart ms r (length ms) + n) (sym one))
+    record { few = le-refl _; left = e; size = rw one (add-comm 1 (rowStart ms r (length ms))) }
+
+-- the bound of the part before k comes off, and its row is counted
+module _ (ms : List ℕ) (r : ℕ) (reach : r ≤ whole ms) (k left size : ℕ) (sizing : Sizing ms r k left size) (some : 0 < k) where
+  pub sizing-inside : k - 1 < length ms
+  sizing-inside = omega (arith, sizing .few)
+
+  pub sizing-left : left ≡ sumTo ms (k - 1) + getD ms (k - 1) 0
+  sizing-left = sizing .left ∙ ap (λ (n : ℕ). sumTo ms n) (suc-pred some)
+
+  sizing-size : size + (rowStart ms r (k - 1) + width ms r (k - 1)) ≡ bandSize ms r
+  sizing-size = ap (λ (n : ℕ). size + rowStart ms r n) (sym (suc-pred some)) ∙ sizing .size
+
+  pub sizing-next : (all m low high : ℕ) → all ≡ whole ms → m ≡ getD ms (k - 1) 0 → low ≡ r - (all - (left - m)) → high ≡ min r (left - m)
+      → (low ≤ high) × (high ≤ r) × Sizing ms r (k - 1) (left - m) (size + (high + 1 - low))
+  sizing-next all m low high ea em e1 e2 =
+      let el : left - m ≡ sumTo ms (k - 1) = rw (sizing-left, em) (back (sumTo ms (k - 1)) (getD ms (k - 1) 0)) in
+      let elo : low ≡ lowest ms r (k - 1) = e1 ∙ rw (el, ea) in
+      let ehi : high ≡ highest ms r (k - 1) = e2 ∙ rw el in
+      let ew : high + 1 - low ≡ width ms r (k - 1) = rw (ehi, elo, add-one) in (
+        rw (elo, ehi) (row-low ms r (k - 1) reach sizing-inside),
+        rw ehi (min-le-left r (sumTo ms (k - 1))),
+        record { few = le-of-lt sizing-inside; left = el; size = joined size (rowStart ms r (k - 1)) ew ∙ sizing-size },
+      )
+    where
+      joined : (s b : ℕ) {w v : ℕ} → w ≡ v → s + w + b ≡ s + (b + v)
+      joined s b e = omega arith
+
+pub sizing-done : (ms : List ℕ) (r k left size : ℕ) → Sizing ms r k left size → k ≡ 0 → size ≡ bandSize ms r
+sizing-done ms r k left size sizing e = let none : rowStart ms r k ≡ 0 = rw e in sym (rest size none) ∙ sizing .size
+  where
+    rest : (s : ℕ) {b : ℕ} → b ≡ 0 → s + b ≡ s
+    rest s e = omega arith
 
 pub size-small : (ms : List ℕ) (r : ℕ) → r ≤ whole ms → r ≤ 255 → length ms ≤ 24 → bandSize ms r ≤ 6145
 size-small ms r reach s few =

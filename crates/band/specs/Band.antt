@@ -70,6 +70,13 @@ pub record IsRow (ms : List ℕ) (r k : ℕ) (row : Row) : Type 0 where
   pub low : row .low ≡ lowest ms r k
   pub high : row .high ≡ highest ms r k
 
+-- the cells counted from the last part down, when k parts are left: the sum that is kept is that of the bounds to the left, and the cells counted are
+-- those from row k on
+pub record Sizing (ms : List ℕ) (r k left′ size′ : ℕ) : Type 0 where
+  pub few : k ≤ length ms
+  pub left : left′ ≡ sumTo ms k
+  pub size : size′ + rowStart ms r k ≡ bandSize ms r
+
 -- ---- the answers
 
 -- the checks 1 to 4; where they refuse nothing, the sum of the ceilings and the size of the table

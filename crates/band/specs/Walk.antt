@@ -15,7 +15,7 @@ use Rattle.band.specs.declared.walk.Run.{Run}
 
 pub record Walks (ms : List ℕ) (r k rem t : ℕ) (row′ : Row) : Type 0 where
   pub few : k ≤ length ms
-  -- the sum that is kept is that of the bounds to the left
+  -- document 02, request (iv): the sum that is kept, from which a bound has come off for each part that is done, is that of the bounds to the left
   pub left : row′ .left ≡ sumTo ms k
   -- the parts that are done, those to the right, sum to t, and rem is left of the total
   pub sum : t + rem ≡ r

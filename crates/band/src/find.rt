@@ -156,44 +156,104 @@ fn in_small(
         let mut cells = [0u64; 128];
         return find_in(upper, total, all, &mut cells[..size], asked, given);
     }
-    if size <= 256 {
-        let mut cells = [0u64; 256];
+    if size <= 192 {
+        let mut cells = [0u64; 192];
         return find_in(upper, total, all, &mut cells[..size], asked, given);
     }
-    if size <= 512 {
-        let mut cells = [0u64; 512];
+    if size <= 288 {
+        let mut cells = [0u64; 288];
+        return find_in(upper, total, all, &mut cells[..size], asked, given);
+    }
+    if size <= 384 {
+        let mut cells = [0u64; 384];
+        return find_in(upper, total, all, &mut cells[..size], asked, given);
+    }
+    if size <= 544 {
+        let mut cells = [0u64; 544];
+        return find_in(upper, total, all, &mut cells[..size], asked, given);
+    }
+    if size <= 704 {
+        let mut cells = [0u64; 704];
+        return find_in(upper, total, all, &mut cells[..size], asked, given);
+    }
+    if size <= 896 {
+        let mut cells = [0u64; 896];
         return find_in(upper, total, all, &mut cells[..size], asked, given);
     }
     let mut cells = [0u64; 1024];
     find_in(upper, total, all, &mut cells[..size], asked, given)
 }
 
-// The same of any band, in larger arrays. It surveys anew, which costs little beside such a band and makes it a call of its own, so that the others
-// have small frames. It is handed slices of their own (`&upper[..]`): the caller's then stay in registers.
-fn in_large(upper: &[u8], total: u32, asked: Conversion, given: &[u8]) -> Converted
-    requires { ⌜ Given asked (now upper) total (now given) ⌝ }
+// The same of any band, in the largest arrays.
+fn in_largest(
+    upper: &[u8],
+    total: u32,
+    all: usize,
+    size: usize,
+    asked: Conversion,
+    given: &[u8],
+) -> Converted
+    requires { ⌜ Sized (now upper) total all size × Given asked (now upper) total (now given) ⌝ }
     ensures { λ r. ⌜ r ≡ convertedOf asked (now (upper .entry)) total (now (given .entry)) ⌝ }
 {
-    let s = crate::survey(upper, total);
-    if 0 < s.number {
-        return nothing(s.number, s.detail);
-    }
-    let all = s.all;
-    let size = s.size;
-    if size <= 1536 {
-        let mut cells = [0u64; 1536];
+    if size <= 3072 {
+        let mut cells = [0u64; 3072];
         return find_in(upper, total, all, &mut cells[..size], asked, given);
     }
-    if size <= 2048 {
-        let mut cells = [0u64; 2048];
+    if size <= 3584 {
+        let mut cells = [0u64; 3584];
         return find_in(upper, total, all, &mut cells[..size], asked, given);
     }
     if size <= 4096 {
         let mut cells = [0u64; 4096];
         return find_in(upper, total, all, &mut cells[..size], asked, given);
     }
+    if size <= 5120 {
+        let mut cells = [0u64; 5120];
+        return find_in(upper, total, all, &mut cells[..size], asked, given);
+    }
     let mut cells = [0u64; 6145];
     find_in(upper, total, all, &mut cells[..size], asked, given)
+}
+
+// The same of a large band. It has two call places and many steps, so the compiler leaves it a call of its own, and the others have small frames. It
+// is handed slices of its own (`&upper[..]`): the caller's then stay in registers.
+fn in_large(
+    upper: &[u8],
+    total: u32,
+    all: usize,
+    size: usize,
+    asked: Conversion,
+    given: &[u8],
+) -> Converted
+    requires { ⌜ Sized (now upper) total all size × Given asked (now upper) total (now given) ⌝ }
+    ensures { λ r. ⌜ r ≡ convertedOf asked (now (upper .entry)) total (now (given .entry)) ⌝ }
+{
+    if size <= 1152 {
+        let mut cells = [0u64; 1152];
+        return find_in(upper, total, all, &mut cells[..size], asked, given);
+    }
+    if size <= 1280 {
+        let mut cells = [0u64; 1280];
+        return find_in(upper, total, all, &mut cells[..size], asked, given);
+    }
+    if size <= 1536 {
+        let mut cells = [0u64; 1536];
+        return find_in(upper, total, all, &mut cells[..size], asked, given);
+    }
+    if size <= 1792 {
+        let mut cells = [0u64; 1792];
+        return find_in(upper, total, all, &mut cells[..size], asked, given);
+    }
+    if size <= 2048 {
+        let mut cells = [0u64; 2048];
+        return find_in(upper, total, all, &mut cells[..size], asked, given);
+    }
+    if size <= 2560 {
+        let mut cells = [0u64; 2560];
+        return find_in(upper, total, all, &mut cells[..size], asked, given);
+    }
+    in_largest(upper, total, all, size, asked, given)
 }
 
 // The serial of a composition, or the refusal. What is no composition is refused before the table is filled, and so before 5 is known.
@@ -211,7 +271,14 @@ pub fn serial_of(upper: &[u8], total: u32, composition: &[u8]) -> Converted
     if s.size <= 1024 {
         return in_small(upper, total, s.all, s.size, Conversion::Rank, composition);
     }
-    in_large(&upper[..], total, Conversion::Rank, &composition[..])
+    in_large(
+        &upper[..],
+        total,
+        s.all,
+        s.size,
+        Conversion::Rank,
+        &composition[..],
+    )
 }
 
 // N and the composition of the serial nearest to `serial`, or the refusal. (No composition is given, so the bounds are lent for it.)
@@ -232,5 +299,12 @@ pub fn composition_of(upper: &[u8], total: u32, serial: u64) -> Converted
             upper,
         );
     }
-    in_large(&upper[..], total, Conversion::Unrank(serial), &upper[..])
+    in_large(
+        &upper[..],
+        total,
+        s.all,
+        s.size,
+        Conversion::Unrank(serial),
+        &upper[..],
+    )
 }

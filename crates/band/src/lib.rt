@@ -2,6 +2,8 @@
 // it is at most N (document 01: N, and everything that counts). Here are the places of its rows; `window` fills a row from the row before,
 // `window::table` the whole; `walk` goes from a serial to its composition and back over a filled band, and `find` gives both directions the band
 // they need.
+// Document 02, request (iv): a conversion adds the bounds up once, in `bounds::shape`. `size` and the walks begin with that sum and take one bound
+// off at each part; only the filling, which goes up the rows, adds them to a sum of its own.
 ghost use mathlib.Core.Path.{_≡_};
 ghost use Prim.Native.Nat.{_+_, _-_, _≤_, _<_, min};
 ghost use lib.ListN.{length};
@@ -16,7 +18,8 @@ pub mod window;
 // One more than the largest N that is accepted: what a count that stops there answers.
 pub const CAP: u64 = 9_223_372_036_854_775_808;
 
-// Row k: the cells before it, the sum of the first k bounds and of all, and the lowest and the highest sum in the band.
+// Row k: the cells before it, the sum of the first k bounds, which are those to the left of part k, and of all, and the lowest and the highest sum in
+// the band. A walk keeps `left`: it begins as `all`, and `walk::down` takes one bound off.
 struct Row {
     start: usize,
     left: usize,
@@ -61,19 +64,22 @@ fn up(upper: &[u8], total: usize, k: usize, from: Row) -> Row
     )
 }
 
-// The row of all parts.
-fn last(upper: &[u8], total: usize, all: usize) -> Row
+// How many cells the band has, counted from the last part down: the sum of the bounds to the left begins as that of all, and at each part its bound
+// comes off.
+fn size(upper: &[u8], total: usize, all: usize) -> usize
     requires { ⌜ (length (now upper) ≤ 24) × (total ≤ 255) × (total ≤ whole (now upper)) × (all ≡ whole (now upper)) ⌝ }
-    ensures { λ r. ⌜ IsRow (now (upper .entry)) total (length (now (upper .entry))) r ⌝ }
+    ensures { λ r. ⌜ r ≡ bandSize (now (upper .entry)) total ⌝ }
 {
-    let n = upper.len();
-    let mut row = row_of(total, 0, 0, all);
-    let mut k = 0;
-    while k < n {
-        row = up(upper, total, k, row);
-        k += 1;
+    let mut cells = 1;
+    let mut left = all;
+    let mut k = upper.len();
+    while 0 < k {
+        k -= 1;
+        left -= walsh::wide(upper[k]);
+        let low = walsh::over(total, all - left);
+        cells += walsh::lesser(total, left) + 1 - low;
     }
-    row
+    cells
 }
 
 // The number of compositions of the sum `t` of the band into the first `k` parts.
@@ -98,11 +104,10 @@ fn survey(upper: &[u8], total: u32) -> Surveyed
             size: 0,
         };
     }
-    let row = last(upper, total as usize, s.all);
     Surveyed {
         number: 0,
         detail: 0,
         all: s.all,
-        size: row.start + 1,
+        size: size(upper, total as usize, s.all),
     }
 }

@@ -60,7 +60,7 @@ fn block(cells: &[u64], row: Row, rem: usize, w: Run, i: usize) -> u64
     cells[row.start + (rem - value(w, i) - row.low)]
 }
 
-// The row before.
+// The row before: the bound of part `k` comes off the sum that is kept, which is then that of the bounds to its left.
 fn down(upper: &[u8], total: usize, k: usize, from: Row) -> Row
     requires { ⌜ (total ≤ 255) × (total ≤ whole (now upper)) × (k < length (now upper)) × IsRow (now upper) total (k + 1) from ⌝ }
     ensures { λ r. ⌜ IsRow (now (upper .entry)) total k r ⌝ }

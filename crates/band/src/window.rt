@@ -31,8 +31,7 @@ fn head(upper: &[u8], total: usize, k: usize, row: Row, next: Row, cells: &[u64]
     w
 }
 
-// w - x + y modulo 2^64, which is w - x + y itself where the numbers are within the limit and x is at most w. The difference of x and y comes
-// first, so that the next turn of a loop waits for one operation only.
+// w - x + y modulo 2^64, which is w - x + y itself where the numbers are within the limit and x is at most w.
 pub fn moved(w: u64, x: u64, y: u64) -> u64
     ensures { λ r. ⌜ (r + x) % 18446744073709551616 ≡ (w + y) % 18446744073709551616 ⌝ }
 {
@@ -59,8 +58,10 @@ fn step(
 {
     if enters {
         if leaves {
+            // the cell that enters is read first, which makes the faster loop
+            let y = cell(upper, total, k, row, cells, t);
             let x = cell(upper, total, k, row, cells, t - (m + 1));
-            return moved(w, x, cell(upper, total, k, row, cells, t));
+            return moved(w, x, y);
         }
         return w + cell(upper, total, k, row, cells, t);
     }

@@ -102,7 +102,7 @@ pub extern "C" fn huz_batch(
         ⌜ _≡_ {A = Refusal × List ℕ} (r, now (out .exit))
         (batchOf (now (upper .entry)) total serial copies (now (out .entry))) ⌝ }
 {
-    step::batch::batch(upper, total, serial, copies, out)
+    blocks::batch(upper, total, serial, copies, out)
 }
 
 #[no_mangle]

@@ -6,17 +6,17 @@ use Prim.Native.Nat.{ℕ, _+_, _-_, _*_, _≤_, _<_}
 use native.Mathlib.Omega.{arith}
 use lib.Dec.{ltb}
 use lib.ListN.{length}
-use borrow.Author.Tests.{eqb-true, ltb-false, not-false}
+use borrow.Author.Tests.{eqb-true, eq-eqb, ltb-false, le-ltb, not-false}
 use Rattle.walsh.specs.Order.{countOf}
 use Rattle.walsh.proofs.Cases.{on-test}
-use Rattle.bounds.specs.Refusal.{Check, firstRefusal}
+use Rattle.bounds.specs.Refusal.{Check, refused, firstRefusal}
 use Rattle.bounds.specs.Edition.{editionChecks}
 use Rattle.bounds.specs.Places.{isNoSerial, noSerial, lentChecks}
 use Rattle.bounds.specs.declared.Refusal.{Refusal}
 use Rattle.bounds.proofs.Refusals.{same-number, refusal-next, passed}
 use Rattle.bounds.proofs.Editions.{neither}
-use Rattle.bounds.proofs.Chains.{answer-first, answer-later}
-use Rattle.bounds.proofs.Filling.{filling-refused, filling-done}
+use Rattle.bounds.proofs.Chains.{Accepts, accepts-join, answer-first, answer-later}
+use Rattle.bounds.proofs.Filling.{filling-refused, filling-done, filling-accepted}
 use Rattle.step.specs.Batch.{rangeChecks, batchChecks, copiesOf, batchOf}
 
 -- a serial that is refused is none of 1..all, and one that is not is one of them
@@ -75,3 +75,12 @@ module _ (ms : List ℕ) (r s c : ℕ) (out : List ℕ) where
     pub batch-done : v .number ≡ 0 → {bytes : List ℕ} → bytes ≡ copiesOf ms r s c → _≡_ {A = Refusal × List ℕ} (v, bytes) (batchOf ms r s c out)
     unfolding batchOf
     batch-done none is = filling-done (editionChecks ms r ++ range) (copiesOf ms r s c) out table none is
+
+  -- a batch that is accepted
+  pub batch-accepts : Accepts (editionChecks ms r) → 0 < s → s ≤ countOf ms r → s + c ≤ countOf ms r + 1 → length out ≡ c * length ms
+      → batchOf ms r s c out ≡ (refused 0 0, copiesOf ms r s c)
+  unfolding batchOf firstRefusal
+  batch-accepts accepted low high few room =
+      filling-accepted (editionChecks ms r ++ range) (copiesOf ms r s c) out refl
+      (accepts-join (editionChecks ms r) range refl accepted
+      (rw (le-ltb s 1 (omega arith), le-ltb (countOf ms r) s high, le-ltb (countOf ms r - s + 1) c (omega arith), eq-eqb (length out) (c * length ms) room)))

@@ -84,22 +84,22 @@ module _ (ms : List ℕ) (r : ℕ) where
   -- ---- an accepted batch of c copies from serial s on, which found the bytes `out` and left the bytes `left`
 
   module _ (s c : ℕ) (out left : List ℕ) (v : Refusal) (e : (v, left) ≡ batchOf ms r s c out) (ok : v .number ≡ 0) where
-    accepted : Ranged (countOf ms r) (length ms) s c (length out) × (left ≡ copiesOf ms r s c)
+    pub batch-accepted : Ranged (countOf ms r) (length ms) s c (length out) × (left ≡ copiesOf ms r s c)
     unfolding batchOf filling
-    accepted =
+    batch-accepted =
         let range = batchChecks ms r s c ++ lentChecks (c * length ms) (length out) in
         let done = ap (λ (p : Refusal × List ℕ). p .0 .number) (sym e) ∙ ok in
         let p = accepts-split (editionChecks ms r) range refl done in
         (ranged (countOf ms r) (length ms) s c (length out) refl (p .1), ap (λ (p : Refusal × List ℕ). p .1) e ∙ rw done)
 
     copy-is : (j : ℕ) → j < c → take (length ms) (drop (j * length ms) left) ≡ compositionOf ms r (s + j)
-    copy-is j l = rw (accepted .1) (copy-at ms r s (accepted .0 .some) c j (accepted .0 .few) l)
+    copy-is j l = rw (batch-accepted .1) (copy-at ms r s (batch-accepted .0 .some) c j (batch-accepted .0 .few) l)
 
     -- byte j × n + i of the tray is part i of the composition of serial s + j
     pub batch-bytes : (length left ≡ c * length ms)
         × ((j i : ℕ) → j < c → i < length ms → getD left (j * length ms + i) 0 ≡ getD (compositionOf ms r (s + j)) i 0)
     batch-bytes = (
-      ap length (accepted .1) ∙ copies-length ms r s (accepted .0 .some) c (accepted .0 .few),
+      ap length (batch-accepted .1) ∙ copies-length ms r s (batch-accepted .0 .some) c (batch-accepted .0 .few),
       λ j i l b.
           sym (getD-drop (j * length ms) left i 0)
           ∙ sym (getD-take (length ms) (drop (j * length ms) left) i 0 b)

@@ -260,30 +260,31 @@ module _ (ms : List ℕ) (r : ℕ) (p : Front) (inFront : InFront ms p) (x : Run
         )
         (sym traded)
 
--- ---- fewer than two parts that are left have one composition
+-- ---- one copy, or none; and fewer than two parts that are left have one composition
 
-module _ (ms : List ℕ) (r : ℕ) (first : List ℕ) (c have : ℕ) (asked : Asked ms r first c have) (low : ℕ) (before : sumTo ms low ≡ 0)
-    (alone : sumTo ms (length ms) ≤ sumTo ms (suc low)) where
+module _ (ms : List ℕ) (r : ℕ) (first : List ℕ) (c have : ℕ) (asked : Asked ms r first c have) where
   abbrev only : List ℕ
   only = take (length ms) first
 
-  last : serialOf ms r only ≡ countOf ms r
-  last =
-      let inside = moving ms r only (asked .valid) r (le-refl r) in
-      successor-none ms r only (asked .valid) .0
-      (λ j l. part-stays ms r only j l (front-stays ms low (length ms) before alone only (inside .fits) r j l) inside)
+  module _ (few : c ≤ 1) where
+    copies : (k : ℕ) → k ≤ 1 → take (k * length ms) first ≡ copiesOf ms r (serialOf ms r only) k
+    unfolding copiesOf
+    copies zero l = rw (zero-mul (length ms))
+    copies (suc zero) l = rw (one-mul (length ms), add-zero) (sym (composition-serial ms r only (asked .valid)))
+    copies (suc (suc k)) l = absurd (omega arith)
 
-  single-few : c ≤ 1
-  single-few = omega (arith, asked .within, last)
+    pub single-room : have ≤ 24
+    single-room = omega (arith, asked .room, mul-le-mul-right (length ms) few, one-mul (length ms), asked .few)
 
-  copies : (k : ℕ) → k ≤ 1 → take (k * length ms) first ≡ copiesOf ms r (serialOf ms r only) k
-  unfolding copiesOf
-  copies zero l = rw (zero-mul (length ms))
-  copies (suc zero) l = rw (one-mul (length ms), add-zero) (sym (composition-serial ms r only (asked .valid)))
-  copies (suc (suc k)) l = absurd (omega arith)
+    pub single-copies : take have first ≡ copiesFrom ms r first c
+    single-copies = ap (λ (n : ℕ). take n first) (asked .room) ∙ copies c few
 
-  pub single-room : have ≤ 24
-  single-room = omega (arith, asked .room, mul-le-mul-right (length ms) single-few, one-mul (length ms), asked .few)
+  module _ (low : ℕ) (before : sumTo ms low ≡ 0) (alone : sumTo ms (length ms) ≤ sumTo ms (suc low)) where
+    last : serialOf ms r only ≡ countOf ms r
+    last =
+        let inside = moving ms r only (asked .valid) r (le-refl r) in
+        successor-none ms r only (asked .valid) .0
+        (λ j l. part-stays ms r only j l (front-stays ms low (length ms) before alone only (inside .fits) r j l) inside)
 
-  pub single-copies : take have first ≡ copiesFrom ms r first c
-  single-copies = ap (λ (n : ℕ). take n first) (asked .room) ∙ copies c single-few
+    pub single-few : c ≤ 1
+    single-few = omega (arith, asked .within, last)

@@ -34,18 +34,19 @@ fn is_beyond(count: u64, serial: u64, copies: u64) -> bool
 
 // `have` bytes are as many as the copies have. By division: the product may not fit.
 fn is_room(n: usize, copies: u64, have: usize) -> bool
-    requires { ⌜ 0 < n ⌝ }
     ensures { λ r. ⌜ r ≡ eqb have (copies * n) ⌝ }
 {
+    if n == 0 {
+        return have == 0;
+    }
     if have % n != 0 {
         return false;
     }
     (have / n) as u64 == copies
 }
 
-// The places 'serial given' and 'lent part'.
-fn room_refusal(count: u64, n: usize, serial: u64, copies: u64, have: usize) -> Refusal
-    requires { ⌜ 0 < n ⌝ }
+// The places 'serial given' and 'lent part', where N is `count` and a copy has n bytes.
+pub fn room_refusal(count: u64, n: usize, serial: u64, copies: u64, have: usize) -> Refusal
     ensures { λ r. ⌜ r ≡ firstRefusal (rangeChecks count serial copies ++ lentChecks (copies * n) have) ⌝ }
 {
     if is_beyond(count, serial, copies) {
@@ -223,17 +224,17 @@ fn write_runs(
     }
 }
 
-// The same, where fewer than two parts are left too: then there is one composition.
+// The same of any number of copies. Where there are two compositions or more, two parts are left.
 fn write(upper: &[u8], total: usize, first: [u8; 24], copies: u64, out: &mut [u8])
     requires { ⌜ Asked (now upper) total first copies (length (now out)) ⌝ }
     ensures { λ _. ⌜ now (out .exit) ≡ copiesFrom (now (upper .entry)) total first copies ⌝ }
 {
-    let low = next_left(upper, 0);
-    let high = next_left(upper, low + 1);
-    if upper.len() <= high {
+    if copies < 2 {
         copy(&first, out);
         return;
     }
+    let low = next_left(upper, 0);
+    let high = next_left(upper, low + 1);
     write_runs(upper, total, Front { low, high }, first, copies, out);
 }
 

@@ -122,7 +122,7 @@ fn batch(s: &[u8], from: usize) -> usize
     let copies = read::number(s, serial.at);
     let size = read::number(s, copies.at);
     let lent = read::lent(&mut out, size.value);
-    let r = step::batch::batch(
+    let r = blocks::batch(
         read::part(&upper, e.parts),
         e.total,
         serial.value,

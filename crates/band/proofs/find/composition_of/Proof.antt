@@ -30,5 +30,5 @@ composition-of-spec =
     returns
     (λ c κs. (sized-at (c .before .before), c .if2 .taken, serial-given _ _ _ _))
     (λ c. c .in-small .ensures ∙ entry-any _ _ _ _ _)
-    (λ c κs. serial-given _ _ _ _)
+    (λ c κs. (sized-at (c .before .before), serial-given _ _ _ _))
     (λ c. c .in-large .ensures ∙ entry-any _ _ _ _ _))

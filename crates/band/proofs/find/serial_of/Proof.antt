@@ -52,5 +52,5 @@ serial-of-spec =
     returns-2
     (λ c κs. (sized-at (c .before .before .before .before .before), c .if3 .taken, λ _. given-at (c .before .before)))
     (λ c. c .in-small .ensures)
-    (λ c κs _. given-at (c .before .before))
+    (λ c κs. (sized-at (c .before .before .before .before .before), λ _. given-at (c .before .before)))
     (λ c. c .in-large .ensures))

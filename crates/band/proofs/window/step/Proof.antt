@@ -86,10 +86,11 @@ asks-at c t b =
 returns : tie.Need-returns
 returns c =
     let s = c .before .before .before .before .before .before .before in
-    let x = c .before .before .cell in
+    let y = c .before .before .cell in
+    let x = c .before .cell2 in
     let less = rest-at s (x .result) (c .before .before .before .if2 .taken) (x .ensures .0) in
-    rw (moved-within (c .moved .ensures) (c .moved .ok) less (s .pre .4 .small) (c .before .cell2 .ensures .1))
-    (over-at s _ _ (c .before .before .before .if2 .taken) (x .ensures .0) (c .before .cell2 .ensures .0))
+    rw (moved-within (c .moved .ensures) (c .moved .ok) less (s .pre .4 .small) (y .ensures .1))
+    (over-at s _ _ (c .before .before .before .if2 .taken) (x .ensures .0) (y .ensures .0))
 
 returns-3 : tie.Need-returns-3
 returns-3 c =
@@ -108,10 +109,10 @@ pub step-spec : {M : Type 1} → statement M
 step-spec =
     tie.close
     (tie.spec
-    (λ c. back-at (c .before .before .before .before) (c .if2 .taken) .0)
-    (λ c. back-at (c .before .before .before .before) (c .if2 .taken) .1)
-    (λ c κs. let s = c .before .before .before .before in asks-at s _ (leave-at s (c .if2 .taken)))
-    (λ c κs. let s = c .before .before .before .before .before in asks-at s _ (enter-at s (c .before .before .if1 .taken)))
+    (λ c κs. let s = c .before .before .before .before in asks-at s _ (enter-at s (c .before .if1 .taken)))
+    (λ c. back-at (c .before .before .before .before .before) (c .before .if2 .taken) .0)
+    (λ c. back-at (c .before .before .before .before .before) (c .before .if2 .taken) .1)
+    (λ c κs. let s = c .before .before .before .before .before in asks-at s _ (leave-at s (c .before .if2 .taken)))
     (λ c κs. search needs)
     returns
     (λ c κs. let s = c .before .before .before .before in asks-at s _ (enter-at s (c .before .if1 .taken)))

@@ -89,7 +89,7 @@ batch-spec =
     (λ c κs. search needs)
     (λ c κs. search needs)
     returns
-    (λ c κs. shape-at c .some)
+    (λ c κs. search needs)
     returns-2
     write-requires
     (λ c. search needs)
