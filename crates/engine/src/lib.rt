@@ -190,7 +190,12 @@ pub extern "C" fn huz_void(ledger: Ledger, orders: &mut [u32], serial: u64) -> C
 }
 
 #[no_mangle]
-pub extern "C" fn huz_claim_all(ledger: Ledger, orders: &mut [u32], serial: u64, bundle: &[u32]) -> Claimed
+pub extern "C" fn huz_claim_all(
+    ledger: Ledger,
+    orders: &mut [u32],
+    serial: u64,
+    bundle: &[u32],
+) -> Claimed
     ensures { λ r. ⌜ (r, now (orders .exit)) ≡ calling ledger (now (orders .entry)) (Call.claim-all serial (now (bundle .entry))) ⌝ }
 {
     ledger::claim_all(ledger, orders, serial, bundle)

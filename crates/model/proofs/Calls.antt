@@ -90,7 +90,7 @@ module _ (p : Printing) where
   -- ---- the takes of a bundle
 
   -- neither 0 nor 16 is among their numbers
-  takes-numbered : (es l : List Entry) (s : ℕ) → numbered (takesChecks p l s es) ≡ true
+  pub takes-numbered : (es l : List Entry) (s : ℕ) → numbered (takesChecks p l s es) ≡ true
   takes-numbered [] l s = refl
   takes-numbered (e ∷ es) l s = takes-numbered es (l ++ (e ∷ [])) (suc s)
 

@@ -16,5 +16,6 @@ pub mod Replies
 pub mod Bundles
 pub mod Reasons
 pub mod BundleReasons
+pub mod BundleLaws
 pub mod Simulation
 pub mod Whole

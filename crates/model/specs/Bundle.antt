@@ -2,15 +2,15 @@
 -- of the first that would fail, with its detail, and no line is written. An accepted bundle answers its first serial and that mix." The model's own
 -- bundle is a table of refusals (specs/Model); that it is this is `as-takes` in proofs/Bundles.
 use mathlib.Core.Path.{_≡_, refl}
-use mathlib.Core.Bool.{cond}
+use mathlib.Core.Bool.{true, cond}
 use mathlib.Core.List.{List, [], _∷_, map}
-use Prim.Native.Nat.{ℕ, suc}
+use Prim.Native.Nat.{ℕ, suc, _+_}
 use Rattle.walsh.specs.Order.{order, listing, countOf, count}
 use Rattle.bounds.specs.Refusal.{refused, firstRefusal, decided}
 use Rattle.bounds.specs.Edition.{cellsOf}
 use Rattle.bounds.specs.declared.Refusal.{Refusal}
 use Rattle.model.specs.declared.Answer.{Answer}
-use Rattle.model.specs.Entry.{Entry, Lent, entriesIn}
+use Rattle.model.specs.Entry.{Entry, Lent, entriesIn, room}
 use Rattle.model.specs.Printing.{Printing, compositions}
 use Rattle.model.specs.Model.{Call, peek, claim, void, claim-all, given, refusedWith, answerBy, answer, accepted, after, Event, bookFrom}
 
@@ -29,6 +29,12 @@ pub record AsTakes (p : Printing) (l : List Entry) (s : ℕ) (b : Lent) : Type 0
   pub answers : answer p l (claim-all s b) ≡ answerBy (firstFailed (bookFrom p l (takes s (entriesIn b)) .trace)) p s
   pub leaves : after p l (claim-all s b)
       ≡ decided (firstFailed (bookFrom p l (takes s (entriesIn b)) .trace)) (bookFrom p l (takes s (entriesIn b)) .entries) l
+
+-- the bundle ab has the orders of a and then those of b: both are accepted one after the other, and leave the lines that it leaves
+pub record TwoParts (p : Printing) (l : List Entry) (s : ℕ) (a b ab : Lent) : Type 0 where
+  pub first-accepted : accepted (answer p l (claim-all s a)) ≡ true
+  pub second-accepted : accepted (answer p (after p l (claim-all s a)) (claim-all (s + room a) b)) ≡ true
+  pub same-lines : after p l (claim-all s ab) ≡ after p (after p l (claim-all s a)) (claim-all (s + room a) b)
 
 -- ---- for example, with the three copies of 1 1 1 of total 1
 
