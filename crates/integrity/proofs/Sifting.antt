@@ -16,6 +16,18 @@ use Rattle.model.proofs.Orders.{place-at, place-lowest, place-none}
 use Rattle.integrity.specs.Sift.{Before, New, Sifted, slots, Marked}
 use Rattle.integrity.proofs.Again.{earlier, lowest, First}
 
+-- ---- places
+
+-- an order that stands at no place before f is none of those
+pub not-among : (x : Entry) (es : List Entry) {f k : ℕ} → f ≤ length es → k ≡ firstPlace (sameOrder x) es → f ≤ k
+    → (j : ℕ) → j < f → x ≢ getD es j voidEntry
+not-among x es m e h j b y = let n = place-lowest x es j (omega (arith, b, m)) (sym y) in omega (arith, n, e, h, b)
+
+at-order : (l es : List Entry) (q : ℕ) → length l ≤ q → getD (l ++ es) q voidEntry ≡ getD es (q - length l) voidEntry
+at-order l es q h =
+    let all : length l + (q - length l) ≡ q = omega (arith, h) in
+    ap (λ (j : ℕ). getD (l ++ es) j voidEntry) (sym all) ∙ getD-append-add l es (q - length l) voidEntry
+
 -- ---- at the end
 
 module _ (l es : List Entry) where
@@ -95,9 +107,7 @@ module _ (l es : List Entry) {i f p : ℕ} (s : Sifted l es i f p) (h : i < leng
       behind : f < length es → length l ≤ p → getD l i voidEntry ≢ getD es f voidEntry
       behind m b x =
           let w = s .here m in
-          let all : length l + (p - length l) ≡ p = omega (arith, b) in
-          let twin = sym (getD-append-add l es (p - length l) voidEntry) ∙ ap (λ (j : ℕ). getD (l ++ es) j voidEntry) all ∙ w .1 in
-          other (p - length l) (omega (arith, w .0 .0, b)) (x ∙ sym twin)
+          other (p - length l) (omega (arith, w .0 .0, b)) (x ∙ sym (w .1) ∙ at-order l es p b)
 
       here : f < length es → Before l (i + 1) f p × (getD (l ++ es) p voidEntry ≡ getD es f voidEntry) × New l es (i + 1) f p
       here m =
@@ -122,16 +132,11 @@ module _ (l es : List Entry) {i f p : ℕ} (s : Sifted l es i f p) (h : i < leng
           ap (λ (j : ℕ). getD es j voidEntry) e ∙ place-at (getD l i voidEntry) es (omega (arith, e, m, s .most))
 
       below : (k : ℕ) → k < g → getD l i voidEntry ≢ getD es k voidEntry
-      below k b y = let n = place-lowest (getD l i voidEntry) es k (omega (arith, b, m, s .most)) (sym y) in omega (arith, n, e, b)
+      below k b = not-among (getD l i voidEntry) es (omega (arith, m, s .most)) e (omega arith) k b
 
       lower : New l es (i + 1) g i
       lower =
           new-more g i (record { none = λ j hj w y. s .new g m .none j (omega (arith, hj, h)) w y }) (λ b. absurd (omega (arith, b)))
-
--- an order that stands at no place before f is none of those
-pub not-among : (x : Entry) (es : List Entry) {f k : ℕ} → f ≤ length es → k ≡ firstPlace (sameOrder x) es → f ≤ k
-    → (j : ℕ) → j < f → x ≢ getD es j voidEntry
-not-among x es m e h j b y = let n = place-lowest x es j (omega (arith, b, m)) (sym y) in omega (arith, n, e, h, b)
 
 -- ---- the bundle alone
 
@@ -161,11 +166,6 @@ module _ (es : List Entry) where
       not-among (getD es i voidEntry) (take i es) (omega (arith, length-take-le i es m)) e h q b (y ∙ sym (getD-take i es q voidEntry b))
 
   module _ {i : ℕ} (a : Apart i) (l : List Entry) where
-    at-order : (q : ℕ) → length l ≤ q → getD (l ++ es) q voidEntry ≡ getD es (q - length l) voidEntry
-    at-order q h =
-        let all : length l + (q - length l) ≡ q = omega (arith, h) in
-        ap (λ (j : ℕ). getD (l ++ es) j voidEntry) (sym all) ∙ getD-append-add l es (q - length l) voidEntry
-
     -- no line is looked at
     new-orders : (k : ℕ) → k < i → New l es 0 k (length l + k)
     new-orders k h =
@@ -173,7 +173,7 @@ module _ (es : List Entry) where
           none = λ q hq w x.
               ⊎-elim
               (λ m. absurd (omega (arith, m)))
-              (λ m. a .new k (q - length l) h (omega (arith, hq, m)) (sym (at-order q m) ∙ x))
+              (λ m. a .new k (q - length l) h (omega (arith, hq, m)) (sym (at-order l es q m) ∙ x))
               (w .1);
         }
 
@@ -204,7 +204,7 @@ module _ (es : List Entry) where
                   (λ m.
                   let j = q - length l in
                   let k : j < i = omega (arith, hq, b, m) in
-                  let y = getD-take i es j voidEntry k ∙ sym (at-order q m) ∙ x in
+                  let y = getD-take i es j voidEntry k ∙ sym (at-order l es q m) ∙ x in
                   let z = place-lowest (getD es i voidEntry) (take i es) j (omega (arith, k, n)) y in
                   omega (arith, z, e, hq, m))
                   (w .1);
