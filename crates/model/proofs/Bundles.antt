@@ -151,7 +151,7 @@ module _ (p : Printing) where
     unfolding firstRefusal
     refusal-none a = left-to (length es) (omega arith) a ∙ rw (drop-length es)
 
-    lines-at : (k : ℕ) → k ≤ length es → length (linesAt k) ≡ length l + k
+    pub lines-at : (k : ℕ) → k ≤ length es → length (linesAt k) ≡ length l + k
     lines-at k h = length-append l (take k es) ∙ ap (λ n. length l + n) (length-take-le k es h)
 
     -- where the first is in turn, so are the later ones
@@ -177,24 +177,23 @@ module _ (p : Printing) where
     all-taken a = by-takes p l s b small ∙ ap (λ (v : Refusal). answerBy v p s) (refusal-none l s es a)
 
     -- the take at place k is the first that fails
-    pub fails-at : (k n d : ℕ) → k < length es → Before l s es k → n ≢ 0
-        → answer p (linesAt l s es k) (claim (s + k) (orderAt l s es k)) ≡ refusedWith n d
-        → answer p l (claim-all s b) ≡ refusedWith n d
+    pub fails-at : (k : ℕ) → k < length es → Before l s es k
+        → answer p (linesAt l s es k) (claim (s + k) (orderAt l s es k)) .number ≢ 0
+        → answer p l (claim-all s b) ≡ answer p (linesAt l s es k) (claim (s + k) (orderAt l s es k))
     unfolding answer
-    fails-at k n d h a some q =
+    fails-at k h a some =
         let v = firstRefusal (takeAt l s es k) in
-        let number : v .number ≡ n = sym (answer-number v p (s + k)) ∙ ap (λ (x : Answer). x .number) q in
-        let f = ne-eqb (v .number) 0 (λ z. some (sym number ∙ z)) in
-        let same : answerBy v p s ≡ answerBy v p (s + k) = rw f in
-        by-takes p l s b small
-        ∙ ap (λ (w : Refusal). answerBy w p s) (refusal-at l s es k h a (λ z. some (sym number ∙ z)))
-        ∙ same
-        ∙ q
+        let n : v .number ≢ 0 = λ z. some (answer-number v p (s + k) ∙ z) in
+        let f = ne-eqb (v .number) 0 n in
+        by-takes p l s b small ∙ ap (λ (w : Refusal). answerBy w p s) (refusal-at l s es k h a n) ∙ rw f
 
     -- the first of them
-    pub fails-first : (n d : ℕ) → length es ≢ 0 → n ≢ 0 → answer p l (claim s (getD es 0 voidEntry)) ≡ refusedWith n d
-        → answer p l (claim-all s b) ≡ refusedWith n d
-    fails-first n d some z q = fails-at 0 n d (omega (arith, some)) (λ j h. absurd (omega (arith, h))) z (rw (append-nil l, add-zero s) q)
+    pub fails-first : length es ≢ 0 → answer p l (claim s (getD es 0 voidEntry)) .number ≢ 0
+        → answer p l (claim-all s b) ≡ answer p l (claim s (getD es 0 voidEntry))
+    fails-first some f =
+        let same : answer p (linesAt l s es 0) (claim (s + 0) (orderAt l s es 0)) ≡ answer p l (claim s (getD es 0 voidEntry)) =
+        rw (append-nil l, add-zero s) in
+        fails-at 0 (omega (arith, some)) (λ j h. absurd (omega (arith, h))) (rw same f) ∙ same
 
   -- the lines of an accepted bundle are all sold
   pub takes-sold : (es l : List Entry) (s : ℕ) → Accepts (takesChecks p l s es) → (soldIn es ≡ length es) × (voidedIn es ≡ 0)
