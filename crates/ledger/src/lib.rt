@@ -171,10 +171,10 @@ pub fn void(ledger: Ledger, orders: &mut [u32], serial: u64) -> Claimed
 pub fn claim_all(ledger: Ledger, orders: &mut [u32], serial: u64, bundle: &[u32]) -> Claimed
     ensures { λ r. ⌜ (r, now (orders .exit)) ≡ calling ledger (now (orders .entry)) (Call.claim-all serial (now (bundle .entry))) ⌝ }
 {
-    let claimed = reply::claim_all(ledger, orders, serial, bundle);
-    if claimed.number != 0 {
+    let taken = reply::claim_all(ledger, orders, serial, bundle);
+    if taken.number != 0 {
         return Claimed {
-            answer: claimed,
+            answer: taken,
             ledger,
         };
     }
@@ -186,7 +186,7 @@ pub fn claim_all(ledger: Ledger, orders: &mut [u32], serial: u64, bundle: &[u32]
     let more = lines as u64;
     counted(
         ledger,
-        claimed,
+        taken,
         next,
         more,
         ledger.sold + more,

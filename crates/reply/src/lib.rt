@@ -147,15 +147,15 @@ pub fn void(ledger: Ledger, orders: &[u32], serial: u64) -> Answer
 // The most orders of a bundle.
 const MOST_ORDERS: usize = 40;
 
-// Number 24, behind 16: what a bundle of no orders or of too many answers.
+// What a bundle of no orders or of too many answers: 24, but 16 stands before it.
 fn missized(ledger: Ledger, orders: &[u32]) -> Answer
     ensures { λ r. ⌜ r ≡ cond (consistent ledger (now (orders .entry))) (refusedWith 24 0) (refusedWith 16 0) ⌝ }
 {
     let seen = integrity::examine(ledger, orders);
-    if !seen.fits {
-        return refused(16, 0);
+    if seen.fits {
+        return refused(24, 0);
     }
-    refused(24, 0)
+    refused(16, 0)
 }
 
 // The takes one after another: of the first its order and its serial; then of each its order, whether a serial is left for it, and whether the order
