@@ -102,16 +102,16 @@ module _ (r : Ledger) (x : Script) (b b′ b″ : Buffers) (l : Ledger) (used i 
       → Progress r x b b′ l used i
       → i < length (x .rows) / callWidth
       → used′ ≡ used + usesAt (x .rows) i
-      → os ≡ take (used′ - used) (drop used (x .orders))
       → _≡_ {A = Claimed × Lent} (t, b″ .column) (calling l (b′ .column) made)
       → x′ ≡ told (printingOf l) made (t .answer)
+      → os ≡ take (used′ - used) (drop used (x .orders))
       → part ≡ rowOf (t .answer) x′
       → length part ≡ length (take long (drop (i * rowWidth) (b′ .answers)))
       → b″ .answers ≡ take (i * rowWidth) (b′ .answers) ++ (part ++ drop long (drop (i * rowWidth) (b′ .answers)))
       → length (b″ .column) ≡ length (b′ .column)
       → Progress r x b b″ (t .ledger) used′ (i + 1)
   unfolding calling
-  onward f w h up of g pair is wide put kept =
+  onward f w h up g pair of is wide put kept =
       let col = b′ .column in
       let whole-row : i * callWidth + callWidth ≤ length (x .rows) = omega arith in
       let wanted : used + usesAt (x .rows) i - used ≡ usesAt (x .rows) i = omega arith in

@@ -33,16 +33,20 @@ loop-again c =
     let next = named-next (now (a .rows)) (test .before .loop .k) (omega (arith, test .loop-test .taken)) in
     omega (arith, next, test .before .loop .inv, c .before .uses .ensures, c .if1 .left)
 
+-- nothing is left just where the pool has what is named
+none-left : (left pool named : ℕ) → pool ≡ left + named → eqb left 0 ≡ eqb pool named
+none-left left pool named e =
+    on-test (eqb left 0) (λ t. let h = eqb-true left 0 t in rw (t, eq-eqb pool named (omega (arith, e, h))))
+    (λ t. let h = eqb-false left 0 t in rw (t, ne-eqb pool named (λ p. h (omega (arith, e, p)))))
+
 returns-2 : tie.Need-returns-2 Inv-loop μ-loop
 returns-2 c =
     let at = c .before .loop in
     let a = c .before .before .before .args in
     let rows = now (a .rows) in
-    let rest = drop (at .k * callWidth) rows in
-    let none = named-none rest (omega (arith, length-drop (at .k * callWidth) rows, c .loop-test .left)) in
-    on-test (eqb (at .left) 0)
-    (λ t. let h = eqb-true (at .left) 0 t in rw (t, eq-eqb (a .pool) (namedIn rows) (omega (arith, at .inv, none, h))))
-    (λ t. let h = eqb-false (at .left) 0 t in rw (t, ne-eqb (a .pool) (namedIn rows) (λ e. h (omega (arith, at .inv, none, e)))))
+    let over = length-drop (at .k * callWidth) rows in
+    let none = named-none (drop (at .k * callWidth) rows) (omega (arith, over, c .loop-test .left)) in
+    none-left (at .left) (a .pool) (namedIn rows) (omega (arith, at .inv, none))
 
 pub named-spec : {M : Type 1} → statement M
 named-spec =

@@ -2,7 +2,7 @@
 use mathlib.Core.Path.{refl, ap}
 use Prim.Native.Nat.{ℕ, _+_, _*_, _/_, _-_, _≤_, _<_}
 use native.Mathlib.Omega.{arith}
-use lib.ListN.{length}
+use lib.ListN.{length, take, drop}
 use denote.Ref.{now}
 use borrow.Author.Needs.{needs}
 use Rattle.replay.specs.Rows.{callWidth, rowWidth}
@@ -69,11 +69,12 @@ loop-again c =
     let at = test .before .loop in
     let s = test .before .before .before .before .before .before in
     let uses = c .before .before .before .before .before .before .before .before .before .before .before .before .uses in
+    let end = at .next + uses .result in
     let call = c .before .before .before .before .before .before .before .before .call in
     let put = c .before .before .before .put in
     onward (s .args .ledger) (asked s) (lent s) (buffers (at .column) (at .answers)) (buffers (call .last .1 .0) _) (at .l) (at .next) (at .i)
-    (call .result .claimed) (call .result .pair) _ _ _ (fit s) (at .inv) (test .loop-test .taken)
-    (ap (λ (n : ℕ). at .next + n) (uses .ensures)) refl (call .ensures .0) (call .ensures .1) (put .ensures) (put .kept .1 .1 .0) refl (call .kept .1 .0)
+    (call .result .claimed) (call .result .pair) (take (end - at .next) (drop (at .next) (now (s .args .orders)))) end _ (fit s) (at .inv) (test .loop-test .taken)
+    (ap (λ (n : ℕ). at .next + n) (uses .ensures)) (call .ensures .0) (call .ensures .1) refl (put .ensures) (put .kept .1 .1 .0) refl (call .kept .1 .0)
 
 returns : tie.Need-returns Inv-loop μ-loop
 returns c =
