@@ -184,14 +184,7 @@ pub fn claim_all(ledger: Ledger, orders: &mut [u32], serial: u64, bundle: &[u32]
     let end = at + lines;
     lay(bundle, &mut orders[at..end]);
     let more = lines as u64;
-    counted(
-        ledger,
-        taken,
-        next,
-        more,
-        ledger.sold + more,
-        ledger.voided,
-    )
+    counted(ledger, taken, next, more, ledger.sold + more, ledger.voided)
 }
 
 // The entries so far, as the beginning of the lent column itself; none where number 16 holds.
