@@ -130,9 +130,10 @@ class Draw:
         return "n", *inputs.opening(self.rng, ENTRIES)
 
     def call(self):
-        record, column, serial, order = inputs.call(self.rng)
+        which = self.rng.choice((0, 1, 1, 2, 3, 3))
+        record, column, serial, orders = inputs.bundle(self.rng) if which == interleave.BUNDLE else inputs.call(self.rng)
         n, upper, r, lines, sold, voided, mix = record
-        return "k", n, upper, r, lines, sold, voided, mix, column, self.rng.choice((0, 1, 1, 2)), serial, order
+        return "k", n, upper, r, lines, sold, voided, mix, column, which, serial, orders if isinstance(orders, list) else [orders]
 
     def kinds(self):
         yield self.count
@@ -236,9 +237,10 @@ def called(read):
     n, upper, r = read.number(), read.list(), read.number()
     record = n, upper, r, read.number(), read.number(), read.number(), read.list()
     column, which = list(read.list()), read.number()
-    serial, order = read.number(), read.number()
+    serial, orders = read.number(), list(read.list())
     before = column[:ref.entries(record, column)]
-    answer, record, column = ref.call(record, column, interleave.WORDS[which], ((), (serial, order), (serial,))[which])
+    arguments = (), (serial, *orders[:1]), (serial,), (serial, orders)
+    answer, record, column = ref.call(record, column, interleave.WORDS[which], arguments[which])
     return [(len(before), before), answer, record, (len(column), column)]
 
 
@@ -247,7 +249,7 @@ def replayed(read):
     script, pool, rows = read.list(), read.list(), [ROOM] * read.number()
     calls = interleave.calls_of(script, pool)
     number, detail, record = ref.opening(ms, r, len(column))
-    if not number and (len(script) % 2 or len(rows) != interleave.ROW * len(calls)):
+    if not number and (len(script) % interleave.CALL or len(rows) != interleave.ROW * len(interleave.rows_of(script)) or calls is None):
         number, record = 13, ref.NO_RECORD
     if not number:
         paper = ref.Paper(ms, r)
@@ -279,7 +281,7 @@ ANSWERED_BY = {
 CALLS = {
     "c": ["huz_check"], "r": ["huz_rank"], "u": ["huz_unrank"], "s": ["huz_successor"], "p": ["huz_predecessor"], "b": ["huz_batch"],
     "o": ["huz_permutation"], "i": ["huz_inversions"], "m": ["huz_major_permutation"], "d": ["huz_major_code"], "n": ["huz_open"],
-    "k": ["huz_peek", "huz_claim", "huz_void"],
+    "k": ["huz_peek", "huz_claim", "huz_void", "huz_claim_all"],
 }
 
 
