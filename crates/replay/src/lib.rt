@@ -157,7 +157,7 @@ fn run(
 }
 
 // Whether a pool of so many orders has just those that the calls name.
-fn named(rows: &[u64], pool: usize) -> bool
+fn pool_fits(rows: &[u64], pool: usize) -> bool
     ensures { λ r. ⌜ r ≡ eqb pool (namedIn (now (rows .entry))) ⌝ }
 {
     let mut left = pool;
@@ -188,7 +188,7 @@ fn fits(script: &[u64], answers: usize, orders: usize) -> bool
     if answers / ROW != script.len() / CALL {
         return false;
     }
-    named(script, orders)
+    pool_fits(script, orders)
 }
 
 // A list of calls on a newly opened ledger over `column`. The script has a row of three numbers for each call, and the pool `orders` just the orders

@@ -46,7 +46,7 @@ returns-4 c =
     let s = last .before .before .before .before in
     let rows = eq-eqb _ 0 (last .before .before .if1 .left) in
     let answers = eq-eqb (s .args .answers) (calls s * rowWidth) (omega (arith, last .before .if2 .left, last .if3 .left)) in
-    c .named .ensures
+    c .pool-fits .ensures
     ∙ rw (rows, answers)
     (on-test (eqb (s .args .orders) (namedIn (now (s .args .script)))) (λ t. rw t) (λ t. rw t))
 

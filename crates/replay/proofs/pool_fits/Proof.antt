@@ -1,4 +1,4 @@
--- `replay::named` meets its contract: what is left of the pool, less what the rows to come name, is the whole pool less what all name.
+-- `replay::pool_fits` meets its contract: what is left of the pool, less what the rows to come name, is the whole pool less what all name.
 use mathlib.Core.Path.{_≡_, sym, ap, _∙_}
 use Prim.Native.Nat.{ℕ, _+_, _-_, _*_, _/_, _≤_}
 use native.Mathlib.Omega.{arith}
@@ -10,8 +10,8 @@ use borrow.Author.Tests.{eq-eqb, ne-eqb, eqb-true, eqb-false}
 use Rattle.walsh.proofs.Cases.{on-test}
 use Rattle.replay.specs.Rows.{callWidth, namedIn}
 use Rattle.replay.proofs.Rows.{named-none, named-next}
-use Rattle.replay.proofs.named.Statement.{statement}
-use Rattle.replay.proofs.named.Tie as tie
+use Rattle.replay.proofs.pool_fits.Statement.{statement}
+use Rattle.replay.proofs.pool_fits.Tie as tie
 
 abbrev Inv-loop : tie.InvT-loop
 Inv-loop rows pool left₀ k₀ left k = pool + namedIn (drop (k * callWidth) rows) ≡ left + namedIn rows
@@ -48,8 +48,8 @@ returns-2 c =
     let none = named-none (drop (at .k * callWidth) rows) (omega (arith, over, c .loop-test .left)) in
     none-left (at .left) (a .pool) (namedIn rows) (omega (arith, at .inv, none))
 
-pub named-spec : {M : Type 1} → statement M
-named-spec =
+pub pool-fits-spec : {M : Type 1} → statement M
+pool-fits-spec =
     tie.close
     (tie.spec
     Inv-loop
