@@ -186,8 +186,10 @@ fn calls(random: &mut Random, u: &[u8], r: u32, count: u64) {
         let bundle = bundle(random, &orders);
         let (a, b) = match random.below(6) {
             0 => (engine::void(ledger, &mut orders, serial), peer::void(ledger, &mut copy, serial)),
-            1 => (engine::claim_all(ledger, &mut orders, serial, &bundle), peer::claim_all::<false>(ledger, &mut copy, serial, &bundle)),
-            2 => (engine::claim_all(ledger, &mut orders, serial, &bundle), peer::claim_all::<true>(ledger, &mut copy, serial, &bundle)),
+            1 | 2 => {
+                let several = [peer::claim_all::<false>, peer::claim_all::<true>, peer::claim_all_by_passes][random.below(3) as usize];
+                (engine::claim_all(ledger, &mut orders, serial, &bundle), several(ledger, &mut copy, serial, &bundle))
+            }
             _ => (engine::claim(ledger, &mut orders, serial, order), peer::claim(ledger, &mut copy, serial, order)),
         };
         assert_eq!((a, &orders), (b, &copy), "claim, void or claim of several {u:?} {r} {ledger:?} {serial} {order} {bundle:?}");

@@ -49,8 +49,12 @@ impl Opened {
         engine::claim_all(black_box(self.ledger), &mut self.orders, self.ledger.entries + 1, bundle)
     }
 
-    fn claim_all_of_peer<const PASSES: bool>(&mut self, bundle: &[u32]) -> peer::Claimed {
-        peer::claim_all::<PASSES>(black_box(self.ledger), &mut self.orders, self.ledger.entries + 1, bundle)
+    fn claim_all_of_peer<const EIGHTS: bool>(&mut self, bundle: &[u32]) -> peer::Claimed {
+        peer::claim_all::<EIGHTS>(black_box(self.ledger), &mut self.orders, self.ledger.entries + 1, bundle)
+    }
+
+    fn claim_all_by_passes(&mut self, bundle: &[u32]) -> peer::Claimed {
+        peer::claim_all_by_passes(black_box(self.ledger), &mut self.orders, self.ledger.entries + 1, bundle)
     }
 
     /// Single claims, one after another: the answer of the first with the record after the last.
@@ -118,6 +122,10 @@ pub fn rows(table: &mut Table, e: &Edition, entries: &[u64]) {
 pub fn bundles(table: &mut Table, e: &Edition, entries: u64) {
     let bundle = new_orders(40);
     row(table, "bundle of 40", (e, entries), |o| o.claim_all(&bundle), |o| o.claim_all_of_peer::<false>(&bundle));
+    if entries > 1 {
+        let times = timed((e, entries), |o| o.claim_all(&bundle), |o| o.claim_all_of_peer::<true>(&bundle));
+        table.row("  the same, the peer tests eight lines at a time", times);
+    }
 }
 
 /// The last order of the bundle is that of the last line.
@@ -136,7 +144,7 @@ pub fn club(e: &Edition, entries: &[u64]) {
     let bundle = new_orders(40);
     for &entries in entries {
         let claims = timed((e, entries), |o| o.claim_all(&bundle), |o| o.claims(&bundle));
-        let passes = timed((e, entries), |o| o.claim_all(&bundle), |o| o.claim_all_of_peer::<true>(&bundle));
+        let passes = timed((e, entries), |o| o.claim_all(&bundle), |o| o.claim_all_by_passes(&bundle));
         let [ours, single, passed] = [claims.ours, claims.theirs, passes.theirs].map(|times| shown(times.median));
         println!("| {entries} | {ours} | {single} | {} | {passed} | {} |", claims.factor(), passes.factor());
     }

@@ -64,9 +64,9 @@ fn mark(bundle: &[u32], marks: &mut [u8; SLOTS]) -> (usize, Refused) {
     (bundle.len(), (0, 0))
 }
 
-/// How many lines are 0; the first of the marked orders that stands among the lines, or their number, and its lowest place. The marks are tested for
-/// eight lines at a time, and only a line with a mark is compared, with the orders before the first that was found.
-fn zeros_and_first(lines: &[u32], orders: &[u32], marks: &[u8; SLOTS]) -> (u64, (usize, usize)) {
+/// How many lines are 0; the first of the marked orders that stands among the lines, or their number, and its lowest place. Each line is tested for a
+/// mark, with EIGHTS eight of them at a time, and only a marked line is compared, with the orders before the first that was found.
+fn zeros_and_first<const EIGHTS: bool>(lines: &[u32], orders: &[u32], marks: &[u8; SLOTS]) -> (u64, (usize, usize)) {
     let (mut zeros, mut first, mut place) = (0u32, orders.len(), lines.len());
     let mut search = |from: usize, few: &[u32]| {
         for (i, &o) in few.iter().enumerate() {
@@ -81,7 +81,7 @@ fn zeros_and_first(lines: &[u32], orders: &[u32], marks: &[u8; SLOTS]) -> (u64, 
         for &o in block {
             zeros += (o == 0) as u32;
         }
-        let (eights, rest) = block.as_chunks::<8>();
+        let (eights, rest) = if EIGHTS { block.as_chunks::<8>() } else { (&[][..], block) };
         for (j, few) in eights.iter().enumerate() {
             if few.iter().fold(0, |any, &o| any | marks[slot(o)]) != 0 {
                 search(i * BLOCK + j * 8, few);
@@ -94,15 +94,13 @@ fn zeros_and_first(lines: &[u32], orders: &[u32], marks: &[u8; SLOTS]) -> (u64, 
 
 /// The same by a pass for each order, until one stands there.
 fn zeros_and_first_by_passes(lines: &[u32], orders: &[u32]) -> (u64, (usize, usize)) {
-    let mut zeros = 0;
     for (i, &order) in orders.iter().enumerate() {
-        let (all, place) = zeros_and_place(lines, order);
+        let (zeros, place) = zeros_and_place(lines, order);
         if place < lines.len() {
-            return (all, (i, place));
+            return (zeros, (i, place));
         }
-        zeros = all;
     }
-    (zeros, (orders.len(), lines.len()))
+    (zeros(lines), (orders.len(), lines.len()))
 }
 
 /// N and what the pass finds besides the zeros, or 16.
@@ -202,20 +200,23 @@ pub fn void(ledger: Ledger, orders: &mut [u32], serial: u64) -> Claimed {
     enter(placed, ledger, orders, 0)
 }
 
-/// The refusal of the first of a bundle's takes that would fail.
+/// The refusal of the first of a bundle's takes that would fail. The pass is handed the lines, and the orders before the first that is wrong by
+/// itself, with their marks.
 #[inline(always)]
-fn takes<const PASSES: bool>(ledger: &Ledger, orders: &[u32], serial: u64, bundle: &[u32]) -> Result<(), Refused> {
-    let allowed = (1..=MOST).contains(&bundle.len());
-    if !allowed {
+fn takes(
+    ledger: &Ledger,
+    orders: &[u32],
+    serial: u64,
+    bundle: &[u32],
+    pass: impl Fn(&[u32], &[u32], &[u8; SLOTS]) -> (u64, (usize, usize)),
+) -> Result<(), Refused> {
+    if bundle.is_empty() || bundle.len() > MOST {
         register(ledger, orders, |lines| (zeros(lines), ()))?;
         return Err((24, 0));
     }
     let mut marks = [0; SLOTS];
     let (sound, own) = mark(bundle, &mut marks);
-    let (count, (found, at)) = register(ledger, orders, |lines| match PASSES && sound > 0 {
-        true => zeros_and_first_by_passes(lines, &bundle[..sound]),
-        false => zeros_and_first(lines, &bundle[..sound], &marks),
-    })?;
+    let (count, (found, at)) = register(ledger, orders, |lines| pass(lines, &bundle[..sound], &marks))?;
     if bundle[0] == 0 {
         return Err((17, 0));
     }
@@ -230,10 +231,10 @@ fn takes<const PASSES: bool>(ledger: &Ledger, orders: &[u32], serial: u64, bundl
     if room < bundle.len() { Err((if bundle[room] == 0 { 17 } else { 6 }, 0)) } else { Ok(()) }
 }
 
-/// Each order in the next line, or none. With PASSES the lines are passed over once for each order.
-#[inline(never)]
-pub fn claim_all<const PASSES: bool>(mut ledger: Ledger, orders: &mut [u32], serial: u64, bundle: &[u32]) -> Claimed {
-    if let Err((number, detail)) = takes::<PASSES>(&ledger, orders, serial, bundle) {
+/// Each order in the next line, where nothing is refused.
+#[inline(always)]
+fn enter_all(placed: Result<(), Refused>, mut ledger: Ledger, orders: &mut [u32], serial: u64, bundle: &[u32]) -> Claimed {
+    if let Err((number, detail)) = placed {
         return Claimed { number, detail, ledger, ..Claimed::default() };
     }
     let (composition, n) = (ledger.next, ledger.bounds.parts);
@@ -244,4 +245,16 @@ pub fn claim_all<const PASSES: bool>(mut ledger: Ledger, orders: &mut [u32], ser
         advance(&ledger.bounds.upper[..n], ledger.bounds.total as usize, &mut ledger.next[..n], 0);
     }
     Claimed { number: 0, detail: 0, serial, composition, ledger }
+}
+
+#[inline(never)]
+pub fn claim_all<const EIGHTS: bool>(ledger: Ledger, orders: &mut [u32], serial: u64, bundle: &[u32]) -> Claimed {
+    let placed = takes(&ledger, orders, serial, bundle, zeros_and_first::<EIGHTS>);
+    enter_all(placed, ledger, orders, serial, bundle)
+}
+
+#[inline(never)]
+pub fn claim_all_by_passes(ledger: Ledger, orders: &mut [u32], serial: u64, bundle: &[u32]) -> Claimed {
+    let placed = takes(&ledger, orders, serial, bundle, |lines, orders, _| zeros_and_first_by_passes(lines, orders));
+    enter_all(placed, ledger, orders, serial, bundle)
 }
