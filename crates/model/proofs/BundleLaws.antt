@@ -25,9 +25,9 @@ use Rattle.model.specs.Record.{printingOf, written, notTogether, consist
 use Rattle.model.specs.Bundle.{TwoParts}
 use Rattle.model.proofs.Lists.{snoc-append}
 use Rattle.model.proofs.Entries.{room-entries}
-use Rattle.model.proofs.Calls.{accepting, accepts-answer, takes-numbered, takes-split, bundle-takes}
+use Rattle.model.proofs.Calls.{size-good, size-known, accepting, takes-numbered, takes-split, bundle-takes}
 use Rattle.model.proofs.Records.{answered-16, answered-by}
-use Rattle.model.proofs.Bundles.{size-good, by-takes}
+use Rattle.model.proofs.Bundles.{by-takes}
 
 -- ---- a bundle of one order is a take: the same answer, record and column, of any record and column
 
@@ -84,7 +84,7 @@ module _ (p : Printing) where
     small : (b : Lent) → accepted (answer p l (claim-all s b)) ≡ true → room b ≤ 40
     small b t =
         let q = passed (badBundle b) _ (takes-numbered p (entriesIn b) l s) (accepting p l (claim-all s b) t .0) in
-        ltb-false 40 (room b) (neither (eqb (room b) 0) (ltb 40 (room b)) (q .0) .1)
+        size-known b (q .0) .1
 
   pub two-parts : (l : List Entry) (s : ℕ) (a b ab : Lent) → entriesIn ab ≡ entriesIn a ++ entriesIn b → room a ≢ 0 → room b ≢ 0
       → accepted (answer p l (claim-all s ab)) ≡ true

@@ -19,8 +19,8 @@ use Rattle.model.specs.Model.{Call, peek, claim, void, claim-all, badBun
 use Rattle.model.specs.Model.{Event, event}
 use Rattle.model.specs.Trace.{writes, named, entryOf, those, kept, countedAs, singles, writers, serials, entriesBy, countFrom}
 use Rattle.model.specs.Reason.{ClaimReason, TakeReason, fails, taken, TakesReason, ClaimAllReason, wrong-size, right-size, Reason}
-use Rattle.model.proofs.Calls.{accepting, claim-turn, number-of, takes-next, takes-refused}
-use Rattle.model.proofs.Bundles.{size-good, size-bad, by-takes}
+use Rattle.model.proofs.Calls.{size-good, size-wrong, accepting, claim-turn, number-of, takes-next, takes-refused}
+use Rattle.model.proofs.Bundles.{size-bad, by-takes}
 use Rattle.model.proofs.Reasons.{only-peek, only-claim, only-void}
 
 -- ---- a take behind other calls
@@ -168,15 +168,11 @@ module _ (p : Printing) where
     size-of : (b : Lent) → Size b
     size-of b =
         on-test (eqb (room b) 0)
-        (λ t. bad (inl (eqb-true (room b) 0 t)) (rw t))
+        (λ t. let e = inl (eqb-true (room b) 0 t) in bad e (size-wrong b e))
         (λ f.
         on-less 40 (room b)
-        (λ h t. bad (inr h) (rw (f, t)))
+        (λ h t. bad (inr h) (size-wrong b (inr h)))
         (λ h t. let some = eqb-false (room b) 0 f in good some h (size-good b some h)))
-
-    over-bad : (b : Lent) → (room b ≡ 0) ⊎ (40 < room b) → badBundle b .holds ≡ true
-    over-bad b (inl z) = rw (eq-eqb (room b) 0 z)
-    over-bad b (inr h) = rw (ne-eqb (room b) 0 (λ z. omega (arith, z, h)), lt-ltb 40 (room b) h)
 
     only-bundle : (s : ℕ) (b : Lent) (a : Answer) → ClaimAllReason p past s b a ↔ (a ≡ answer p (lines past) (claim-all s b))
     only-bundle s b a = (decides, reason (size-of b))
@@ -185,7 +181,7 @@ module _ (p : Printing) where
         takes = only-takes s (entriesIn b) past s (record { turn = turn; fits = fits }) a
 
         decides : ClaimAllReason p past s b a → a ≡ answer p (lines past) (claim-all s b)
-        decides (wrong-size size is) = is ∙ sym (size-bad p (lines past) s b (over-bad b size))
+        decides (wrong-size size is) = is ∙ sym (size-bad p (lines past) s b (size-wrong b size))
         decides (right-size some few why) = takes .0 why ∙ sym (by-takes p (lines past) s b (size-good b some few))
 
         reason : Size b → a ≡ answer p (lines past) (claim-all s b) → ClaimAllReason p past s b a

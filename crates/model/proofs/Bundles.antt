@@ -8,28 +8,23 @@ use native.Mathlib.Nat.{add-zero, add-suc}
 use native.Mathlib.Omega.{arith}
 use lib.ListN.{length, getD, take, drop, length-append}
 use lib.Seq.{drop-cons, drop-length, take-suc, length-take-le}
-use lib.Dec.{eqb, ltb}
-use borrow.Author.Tests.{eqb-true, eqb-false, eq-eqb, ne-eqb, le-ltb}
+use lib.Dec.{eqb}
+use borrow.Author.Tests.{eqb-true, eqb-false, eq-eqb, ne-eqb}
 use Rattle.walsh.proofs.Cases.{on-test}
 use Rattle.bounds.specs.Refusal.{Check, refused, firstRefusal}
 use Rattle.bounds.specs.declared.Refusal.{Refusal}
-use Rattle.bounds.proofs.Refusals.{passed, refusal-here, refusal-next, same-number}
+use Rattle.bounds.proofs.Refusals.{passed, refusal-here, refusal-next}
 use Rattle.bounds.proofs.Chains.{Accepts}
 use Rattle.model.specs.declared.Answer.{Answer}
 use Rattle.model.specs.Basics.{firstPlace}
-use Rattle.model.specs.Entry.{Entry, voidEntry, sameOrder, soldIn, voidedIn, Lent, entriesIn, room}
-use Rattle.model.specs.Printing.{Printing, size, lowest}
+use Rattle.model.specs.Entry.{Entry, voidEntry, sameOrder, soldIn, voidedIn, Lent, entriesIn}
+use Rattle.model.specs.Printing.{Printing, size}
 use Rattle.model.specs.Model.{claim, claim-all, next, badBundle, orderChecks, claimChecks, takesChecks, given, refusedWith, answerBy, answer}
 use Rattle.model.specs.Model.{accepted, after, bookFrom}
 use Rattle.model.specs.Bundle.{takes, firstFailed, AsTakes}
 use Rattle.model.proofs.Lists.{snoc-append}
-use Rattle.model.proofs.Answers.{answer-number, placed, placed-next, claim-good}
+use Rattle.model.proofs.Answers.{answer-number, placed-next, claim-good}
 use Rattle.model.proofs.Calls.{number-of, claim-turn, takes-split, takes-next, takes-refused}
-
--- ---- a bundle's size
-
-pub size-good : (b : Lent) → room b ≢ 0 → room b ≤ 40 → badBundle b .holds ≡ false
-size-good b some few = rw (ne-eqb (room b) 0 some, le-ltb 40 (room b) few)
 
 module _ (p : Printing) (l : List Entry) (s : ℕ) (b : Lent) where
   pub size-bad : badBundle b .holds ≡ true → answer p l (claim-all s b) ≡ refusedWith 24 0

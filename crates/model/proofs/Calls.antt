@@ -1,13 +1,13 @@
 -- Laws of one call of the model: what an accepted answer says, and which numbers an answer can have.
 use mathlib.Core.Path.{_≡_, refl, sym, ap, _∙_}
-use mathlib.Core.Logic.{_≢_, _↔_}
+use mathlib.Core.Logic.{_≢_, _↔_, _⊎_, inl, inr}
 use mathlib.Core.Bool.{true, false, false≢true}
 use mathlib.Core.List.{List, [], _∷_, _++_, append-nil}
 use Prim.Native.Nat.{ℕ, suc, _≤_, _<_}
 use native.Mathlib.Omega.{arith}
 use lib.Dec.{ltb, eqb}
 use lib.ListN.{length}
-use borrow.Author.Tests.{ltb-false, lt-ltb, eqb-true, eqb-false}
+use borrow.Author.Tests.{ltb-false, lt-ltb, le-ltb, eq-eqb, ne-eqb, eqb-true, eqb-false}
 use Rattle.walsh.proofs.Cases.{on-test, on-less}
 use Rattle.bounds.specs.Refusal.{Check, firstRefusal}
 use Rattle.bounds.specs.Places.{isOutside}
@@ -32,6 +32,20 @@ module _ (c : Check) (cs : List Check) where
 
   number-next : c .holds ≡ false → firstRefusal (c ∷ cs) .number ≡ firstRefusal cs .number
   number-next t = ap (λ (v : Refusal). v .number) (refusal-next c cs t)
+
+-- ---- the size of a bundle
+
+pub size-good : (b : Lent) → room b ≢ 0 → room b ≤ 40 → badBundle b .holds ≡ false
+size-good b some few = rw (ne-eqb (room b) 0 some, le-ltb 40 (room b) few)
+
+pub size-wrong : (b : Lent) → (room b ≡ 0) ⊎ (40 < room b) → badBundle b .holds ≡ true
+size-wrong b (inl z) = rw (eq-eqb (room b) 0 z)
+size-wrong b (inr h) = rw (ne-eqb (room b) 0 (λ z. omega (arith, z, h)), lt-ltb 40 (room b) h)
+
+pub size-known : (b : Lent) → badBundle b .holds ≡ false → (room b ≢ 0) × (room b ≤ 40)
+size-known b f =
+    let q = neither (eqb (room b) 0) (ltb 40 (room b)) f in
+    (eqb-false (room b) 0 (q .0), ltb-false 40 (room b) (q .1))
 
 module _ (p : Printing) where
   -- what holds of every list that the model reaches
@@ -127,8 +141,7 @@ module _ (p : Printing) where
         → (length (entriesIn b) ≢ 0) × Accepts (takesChecks p l s (entriesIn b))
     bundle-takes s b t =
         let q = passed (badBundle b) _ (takes-numbered (entriesIn b) l s) (accepting l (claim-all s b) t .0) in
-        let some = eqb-false (room b) 0 (neither (eqb (room b) 0) (ltb 40 (room b)) (q .0) .0) in
-        ((λ z. some (sym (room-entries b) ∙ z)), q .2)
+        ((λ z. size-known b (q .0) .0 (sym (room-entries b) ∙ z)), q .2)
 
     bundle-turn : (s : ℕ) (es : List Entry) → length es ≢ 0 → Accepts (takesChecks p l s es) → (s ≡ next p l) × (next p l ≤ size p)
     bundle-turn s [] n a = absurd (n refl)

@@ -27,9 +27,9 @@ use Rattle.model.proofs.Entries.{room-entries, entries-over}
 use Rattle.model.proofs.Stock.{stock-size, stock-distinct, stock-near, stock-place, place-stock}
 use Rattle.model.proofs.Opening.{Opens, opens, opening-accepted}
 use Rattle.model.proofs.Answers.{order-good, placed, placed-next, claim-good}
-use Rattle.model.proofs.Calls.{Reached, reached-none, after-reached, accepting, not-16, peek-21, already-written}
+use Rattle.model.proofs.Calls.{size-good, Reached, reached-none, after-reached, accepting, not-16, peek-21, already-written}
 use Rattle.model.proofs.Orders.{place-none, distinct-none, distinct-at}
-use Rattle.model.proofs.Bundles.{size-good, good-take, all-taken}
+use Rattle.model.proofs.Bundles.{good-take, all-taken}
 use Rattle.model.proofs.Books.{grown, Facts, facts, Stood, stood, claims-and-voids}
 use Rattle.model.proofs.Lines.{counts, distinct-lines}
 use Rattle.model.proofs.Places.{once-at, distinct-take, not-among, mem-count, count-mem}

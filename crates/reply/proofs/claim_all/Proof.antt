@@ -1,20 +1,21 @@
 -- `reply::claim_all` meets its contract.
 use mathlib.Core.Path.{_≡_, sym, ap, _∙_}
-use mathlib.Core.Logic.{_≢_}
+use mathlib.Core.Logic.{inl, inr}
 use mathlib.Core.Bool.{true, false, cond}
-use Prim.Native.Nat.{ℕ, _≤_, _<_}
+use Prim.Native.Nat.{ℕ}
 use native.Mathlib.Omega.{arith}
 use denote.Ref.{now}
 use borrow.Author.Needs.{needs}
-use borrow.Author.Tests.{not-true, not-false, eq-eqb, ne-eqb, lt-ltb}
+use borrow.Author.Tests.{not-true, not-false}
 use Rattle.walsh.proofs.Cases.{on-test}
 use Rattle.model.specs.declared.Answer.{Answer}
 use Rattle.model.specs.declared.Ledger.{Ledger}
-use Rattle.model.specs.Entry.{Lent, room}
+use Rattle.model.specs.Entry.{Lent}
 use Rattle.model.specs.Model.{Call, badBundle, refusedWith}
 use Rattle.model.specs.Record.{consistent, answered}
 use Rattle.model.proofs.Records.{answered-16, answered-by}
-use Rattle.model.proofs.Bundles.{size-good, size-bad}
+use Rattle.model.proofs.Calls.{size-good, size-wrong}
+use Rattle.model.proofs.Bundles.{size-bad}
 use Rattle.integrity.proofs.Checks.{met-fits}
 use Rattle.reply.proofs.claim_all.Statement.{statement}
 use Rattle.reply.proofs.claim_all.Tie as tie
@@ -29,16 +30,12 @@ badly-sized r col s b a bad e =
     (λ f. rw f at e ∙ sym (answered-16 r col (Call.claim-all s b) f))
 
 returns : tie.Need-returns
-returns c = badly-sized _ _ _ _ _ (rw (eq-eqb _ 0 (c .before .if1 .taken))) (c .missized .ensures)
-
--- more than 40 are not 0
-over : (b : Lent) → 40 < room b → badBundle b .holds ≡ true
-over b h = rw (ne-eqb (room b) 0 (λ z. omega (arith, z, h)), lt-ltb 40 (room b) h)
+returns c = badly-sized _ _ _ _ _ (size-wrong (now (c .before .before .before .before .args .bundle)) (inl (c .before .if1 .taken))) (c .missized .ensures)
 
 returns-2 : tie.Need-returns-2
 returns-2 c =
     let a = c .before .before .before .before .before .args in
-    badly-sized _ _ _ _ _ (over (now (a .bundle)) (c .before .if2 .taken)) (c .missized2 .ensures)
+    badly-sized _ _ _ _ _ (size-wrong (now (a .bundle)) (inr (c .before .if2 .taken))) (c .missized2 .ensures)
 
 returns-3 : tie.Need-returns-3
 returns-3 c =

@@ -5,19 +5,17 @@ use mathlib.Core.Bool.{true, false}
 use mathlib.Core.List.{List}
 use Prim.Native.Nat.{ℕ, _+_, _-_, _≤_, _<_}
 use native.Mathlib.Omega.{arith}
-use lib.Dec.{eqb, ltb}
 use lib.ListN.{length, getD}
 use denote.Ref.{now}
 use borrow.Author.Needs.{needs}
-use borrow.Author.Tests.{eqb-false, ltb-false}
 use Rattle.walsh.proofs.Cases.{last-or-less}
-use Rattle.bounds.proofs.Editions.{neither}
-use Rattle.model.specs.Entry.{Entry, Lent, room}
+use Rattle.model.specs.Entry.{Entry, Lent}
 use Rattle.model.specs.Printing.{Printing, size}
 use Rattle.model.specs.Model.{refusedWith}
 use Rattle.model.specs.Record.{printingOf, written}
 use Rattle.model.specs.declared.Answer.{Answer}
 use Rattle.model.proofs.Answers.{placed}
+use Rattle.model.proofs.Calls.{size-known}
 use Rattle.model.proofs.Records.{parts}
 use Rattle.integrity.specs.Again.{firstAgain, placeAgain}
 use Rattle.integrity.proofs.Checks.{met-count, met-first, met-place}
@@ -47,7 +45,7 @@ abbrev b : tie.Start Inv-loop μ-loop → Lent
 b s = now (s .args .bundle)
 
 some : (s : tie.Start Inv-loop μ-loop) → length (b s) ≢ 0
-some s = eqb-false (room (b s)) 0 (neither (eqb (room (b s)) 0) (ltb 40 (room (b s))) (s .pre .1) .0)
+some s = size-known (b s) (s .pre .1) .0
 
 count : (s : tie.Start Inv-loop μ-loop) → s .args .met .count ≡ size (p s)
 count s = met-count _ _ _ refl (s .pre .2)
@@ -154,7 +152,7 @@ few : (s : tie.Start Inv-loop μ-loop) → (size (p s) ≤ 1000000) × (length (
 few s =
     let q = parts _ _ (s .pre .0) in
     let n = q .length-written in
-    (q .small, omega (arith, n, q .entries, q .small), ltb-false 40 _ (neither (eqb (room (b s)) 0) (ltb 40 (room (b s))) (s .pre .1) .1))
+    (q .small, omega (arith, n, q .entries, q .small), size-known (b s) (s .pre .1) .1)
 
 add-if4 : tie.Need-add-if4 Inv-loop μ-loop
 add-if4 c =
