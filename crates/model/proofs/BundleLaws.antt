@@ -1,27 +1,22 @@
 -- What a bundle of one order is, and a bundle in two parts.
 use mathlib.Core.Path.{_≡_, refl, sym, ap, _∙_}
-use mathlib.Core.Bool.{true, false, not}
+use mathlib.Core.Bool.{true}
 use mathlib.Core.List.{List, [], _∷_, _++_, append-nil, append-assoc}
 use mathlib.Core.Logic.{_≢_}
 use Prim.Native.Nat.{ℕ, suc, _+_, _≤_}
 use native.Mathlib.Nat.{add-zero}
 use native.Mathlib.Omega.{arith}
-use lib.Dec.{eqb, ltb}
 use lib.ListN.{length, length-append}
-use borrow.Author.Tests.{eq-eqb, ltb-false}
+use borrow.Author.Tests.{eq-eqb}
 use Rattle.walsh.proofs.Cases.{on-test}
 use Rattle.bounds.specs.Refusal.{Check, firstRefusal}
-use Rattle.bounds.specs.declared.Refusal.{Refusal}
-use Rattle.bounds.proofs.Editions.{neither}
-use Rattle.bounds.proofs.Refusals.{passed, refusal-here, refusal-next}
+use Rattle.bounds.proofs.Refusals.{passed}
 use Rattle.bounds.proofs.Chains.{Accepts, accepts-join}
-use Rattle.model.specs.declared.Answer.{Answer}
-use Rattle.model.specs.declared.Claimed.{Claimed}
 use Rattle.model.specs.declared.Ledger.{Ledger}
 use Rattle.model.specs.Entry.{Entry, Lent, entriesIn, room}
 use Rattle.model.specs.Printing.{Printing}
 use Rattle.model.specs.Model.{claim, claim-all, badBundle, claimChecks, takesChecks, answerBy, answer, accepted, after}
-use Rattle.model.specs.Record.{printingOf, written, notTogether, consistent, answered, recordAfter, columnAfter, calling}
+use Rattle.model.specs.Record.{printingOf, written, consistent, answered, recordAfter, columnAfter, calling}
 use Rattle.model.specs.Bundle.{TwoParts}
 use Rattle.model.proofs.Lists.{snoc-append}
 use Rattle.model.proofs.Entries.{room-entries}

@@ -2,20 +2,19 @@
 use mathlib.Core.Path.{_≡_, refl, sym, ap, _∙_}
 use mathlib.Core.Logic.{_≢_, _↔_, _⊎_, inl, inr}
 use mathlib.Core.Bool.{Bool, true, false}
-use mathlib.Core.List.{List, [], _∷_, _++_, append-nil, append-assoc}
+use mathlib.Core.List.{List, [], _∷_, _++_, append-assoc}
 use Prim.Native.Nat.{ℕ, zero, suc, _+_, _≤_, _<_}
 use native.Mathlib.Omega.{arith}
-use lib.Dec.{ltb, eqb}
+use lib.Dec.{eqb}
 use lib.ListN.{length, length-append, length-map}
-use borrow.Author.Tests.{eqb-true, eqb-false, eq-eqb, ne-eqb, ltb-false, lt-ltb}
+use borrow.Author.Tests.{eqb-true, eqb-false, ne-eqb}
 use Rattle.walsh.proofs.Cases.{on-test, on-less}
 use Rattle.bounds.specs.Refusal.{firstRefusal}
 use Rattle.bounds.specs.declared.Refusal.{Refusal}
-use Rattle.bounds.proofs.Editions.{neither}
 use Rattle.model.specs.declared.Answer.{Answer}
 use Rattle.model.specs.Entry.{Entry, Lent, entriesIn, room}
 use Rattle.model.specs.Printing.{Printing, size, lowest}
-use Rattle.model.specs.Model.{Call, peek, claim, void, claim-all, badBundle, claimChecks, takesChecks, given, refusedWith, answerBy, answer, accepted}
+use Rattle.model.specs.Model.{Call, peek, claim, void, claim-all, badBundle, claimChecks, takesChecks, given, answerBy, answer, accepted}
 use Rattle.model.specs.Model.{Event, event}
 use Rattle.model.specs.Trace.{writes, named, entryOf, those, kept, countedAs, singles, writers, serials, entriesBy, countFrom}
 use Rattle.model.specs.Reason.{ClaimReason, TakeReason, fails, taken, TakesReason, ClaimAllReason, wrong-size, right-size, Reason}

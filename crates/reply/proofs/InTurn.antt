@@ -1,17 +1,16 @@
 -- The takes of a bundle as the code goes through them: what is known before each, and which answer each way out is.
 use mathlib.Core.Path.{_≡_, refl, sym, ap, _∙_}
 use mathlib.Core.Logic.{_≢_}
-use mathlib.Core.Bool.{true, false}
+use mathlib.Core.Bool.{false}
 use mathlib.Core.List.{List, []}
 use Prim.Native.Nat.{ℕ, _+_, _≤_, _<_}
 use native.Mathlib.Omega.{arith}
 use lib.ListN.{length, getD}
 use borrow.Author.Tests.{eq-eqb}
-use Rattle.model.specs.Entry.{Entry, voidEntry, orderOf, Lent, entriesIn, room}
+use Rattle.model.specs.Entry.{Entry, voidEntry, orderOf, Lent, entriesIn}
 use Rattle.model.specs.Printing.{Printing, size, serialAt}
-use Rattle.model.specs.Model.{Call, next, badBundle, given, refusedWith, answer}
+use Rattle.model.specs.Model.{Call, badBundle, refusedWith, answer}
 use Rattle.model.specs.declared.Answer.{Answer}
-use Rattle.model.proofs.Entries.{room-entries}
 use Rattle.model.proofs.Answers.{order-none, order-good, placed, placed-high, placed-next, claim-none, claim-refused, claim-again}
 use Rattle.model.proofs.Calls.{InTurn, in-turn, accepting}
 use Rattle.model.proofs.Bundles.{orderAt, linesAt, Before, lines-at, turn-at, good-take, all-taken, fails-at, fails-first}

@@ -1,6 +1,5 @@
 -- `replay::uses` meets its contract.
 use native.Mathlib.Omega.{arith}
-use borrow.Author.Needs.{needs}
 use borrow.Author.Tests.{eq-eqb, ne-eqb}
 use Rattle.replay.proofs.uses.Statement.{statement}
 use Rattle.replay.proofs.uses.Tie as tie
