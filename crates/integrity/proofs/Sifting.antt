@@ -1,8 +1,8 @@
 -- The pass that looks for the orders of a bundle: a law for each turn of its loops, and what it has found at the end.
-use mathlib.Core.Path.{_≡_, sym, ap, _∙_}
+use mathlib.Core.Path.{_≡_, refl, sym, ap, subst, _∙_}
 use mathlib.Core.Logic.{_≢_, _⊎_, inl, inr, ⊎-elim}
 use mathlib.Core.List.{List, _++_}
-use Prim.Native.Nat.{ℕ, _+_, _-_, _%_, _≤_, _<_}
+use Prim.Native.Nat.{ℕ, zero, suc, _+_, _-_, _%_, _≤_, _<_}
 use native.Mathlib.Nat.{eq-or-lt-of-le}
 use native.Mathlib.Omega.{arith}
 use lib.Dec.{eqb}
@@ -13,7 +13,7 @@ use Rattle.walsh.proofs.Cases.{on-test, on-less}
 use Rattle.model.specs.Basics.{firstPlace}
 use Rattle.model.specs.Entry.{Entry, voidEntry, sameOrder}
 use Rattle.model.proofs.Orders.{place-at, place-lowest, place-none}
-use Rattle.integrity.specs.Sift.{Before, New, Sifted, slots, Marked}
+use Rattle.integrity.specs.Sift.{Before, New, Sifted, slots, Marked, markOf, Unmarked}
 use Rattle.integrity.proofs.Again.{earlier, lowest, First}
 
 -- ---- places
@@ -254,3 +254,30 @@ module _ {marks es : List ℕ} {n : ℕ} (m : Marked marks es n) where
           let one = ap (λ (j : ℕ). getD (set marks s 1) j 0) (eqb-true t s c) ∙ here in
           omega (arith, one, z))
           (λ c. let d = eqb-false t s c in other d (sym (getD-set-other marks s t 1 0 d) ∙ z))
+
+-- ---- lines without a mark
+
+pub unmarked-none : (marks : List ℕ) (l : List Entry) (i : ℕ) → Unmarked marks l i 0
+unmarked-none marks l i = record { none = λ j h. absurd (omega (arith, h)) }
+
+-- one line more, line q
+pub unmarked-more : {marks : List ℕ} {l : List Entry} {i n : ℕ} → Unmarked marks l i n → {q m : ℕ} → m ≡ markOf marks l q → q ≡ i + n → m ≡ 0
+    → Unmarked marks l i (suc n)
+unmarked-more {marks} {l} {i} {n} u {q} e b z =
+    record {
+      none = λ j h.
+          let at : (j ≡ n) ⊎ (j < n) = eq-or-lt-of-le (omega (arith, h)) in
+          ⊎-elim (λ c. ap (markOf marks l) (omega (arith, b, c)) ∙ sym e ∙ z) (u .none j) at;
+    }
+
+-- they are passed over
+pub sifted-over : (l es : List Entry) {marks : List ℕ} {i f p m : ℕ} (n : ℕ) → Sifted l es i f p → Marked marks es m → f ≤ m
+    → Unmarked marks l i n
+    → i + n ≤ length l
+    → Sifted l es (i + n) f p
+sifted-over l es {marks} {i} {f} {p} zero s k h u b = subst (λ (j : ℕ). Sifted l es j f p) (omega arith) s
+sifted-over l es {marks} {i} {f} {p} (suc n) s k h u b =
+    let before = sifted-over l es n s k h (record { none = λ j c. u .none j (omega (arith, c)) }) (omega (arith, b)) in
+    let other = marked-not k (getD l (i + n) voidEntry) refl (u .none n (omega arith)) in
+    subst (λ (j : ℕ). Sifted l es j f p) (omega arith)
+    (sifted-miss l es before (omega (arith, b)) (λ j c. other j (omega (arith, c, h))) refl refl)

@@ -31,3 +31,11 @@ slots = 8192
 pub record Marked (marks es : List ℕ) (n : ℕ) : Type 0 where
   pub all : length marks ≡ slots
   pub set : (k : ℕ) → k < n → getD marks (getD es k 0 % slots) 0 ≢ 0
+
+-- the mark of line q
+abbrev pub markOf : List ℕ → List Entry → ℕ → ℕ
+markOf marks l q = getD marks (getD l q voidEntry % slots) 0
+
+-- none of the n lines from place i on is marked
+pub record Unmarked (marks : List ℕ) (l : List Entry) (i n : ℕ) : Type 0 where
+  pub none : (j : ℕ) → j < n → markOf marks l (i + j) ≡ 0

@@ -1,46 +1,31 @@
--- `integrity::meet::sift` meets its contract.
-use mathlib.Core.Path.{_≡_, subst, _∙_}
+-- `integrity::meet::sift` meets its contract: after each eight lines, looked at or passed over, the orders before the first are new.
 use mathlib.Core.Logic.{⊎-elim}
-use Prim.Native.Nat.{ℕ, _-_, _≤_, _<_}
+use Prim.Native.Nat.{_+_, _-_, _≤_}
 use native.Mathlib.Omega.{arith}
-use lib.ListN.{length}
-use denote.Ref.{now}
 use borrow.Author.Needs.{needs}
 use Rattle.integrity.specs.Sift.{Sifted}
-use Rattle.integrity.proofs.Sifting.{sifted-hit, sifted-miss, not-among, marked-not}
+use Rattle.integrity.proofs.Sifting.{sifted-over, marked-fewer}
 use Rattle.integrity.proofs.meet.sift.Statement.{statement}
 use Rattle.integrity.proofs.meet.sift.Tie as tie
 
 abbrev Inv-loop : tie.InvT-loop
-Inv-loop lines from to bundle marks first₀ place₀ i₀ first place i =
-    Sifted lines bundle i first place × (first ≤ first₀) × (i ≤ to)
+Inv-loop lines from to bundle marks hit₀ i₀ hit i =
+    Sifted lines bundle i (hit .first) (hit .place) × (hit .first ≤ hit₀ .first) × (i ≤ to)
 
 abbrev μ-loop : tie.MeasureT-loop
-μ-loop lines from to bundle marks first₀ place₀ i₀ first place i = to - i
+μ-loop lines from to bundle marks hit₀ i₀ hit i = to - i
 
 loop-again : tie.Need-loop-again Inv-loop μ-loop
 loop-again c =
-    let at = c .before .before .before .before .before .loop in
-    let start = c .before .before .before .before .before .before .before .before .before in
-    let lines = now (start .args .lines) in
-    let bundle = now (start .args .bundle) in
-    let s = at .inv .0 in
-    let h : at .i < length lines = omega (arith, c .before .before .before .before .loop-test .taken, start .pre .1) in
+    let at = c .before .before .before .loop in
+    let start = c .before .before .before .before .before .before .before in
+    let h : at .i + 8 ≤ start .args .to = omega (arith, c .before .before .loop-test .taken) in
     ⊎-elim
-    (λ w. (sifted-hit lines bundle s h (omega (arith, w .2 .taken, w .3)) (w .3 ∙ w .1 .ensures) (w .4), omega (arith, w .2 .taken, w .3), omega arith))
-    (⊎-elim
-    (λ w. (sifted-miss lines bundle s h (not-among _ bundle (s .most) (w .1 .ensures) (omega (arith, w .2 .left))) (w .3) (w .4), omega (arith, w .3), omega arith))
+    (λ w. rw (w .2) (w .1 .ensures .0, omega (arith, w .1 .ensures .1, at .inv .1), h))
     (λ w.
-    let other = marked-not (start .pre .2) _ (c .before .before .slot .ensures .0) (w .0 .left) in
-    (sifted-miss lines bundle s h (λ k b. other k (omega (arith, b, at .inv .1))) (w .1) (w .2), omega (arith, w .1), omega arith)))
+    let over = c .before .marked .ensures (w .0 .left) in
+    rw (w .1) (sifted-over _ _ 8 (at .inv .0) (start .pre .2) (at .inv .1) over (omega (arith, h, start .pre .1)), at .inv .1, h))
     (c .if1 .came)
-
-returns : tie.Need-returns Inv-loop μ-loop
-returns c =
-    let at = c .before .loop in
-    let a = c .before .before .before .before .before .args in
-    let e : at .i ≡ a .to = omega (arith, c .loop-test .left, at .inv .2) in
-    (subst (λ (i : ℕ). Sifted (now (a .lines)) (now (a .bundle)) i (at .first) (at .place)) e (at .inv .0), at .inv .1)
 
 pub sift-spec : {M : Type 1} → statement M
 sift-spec =
@@ -49,12 +34,18 @@ sift-spec =
     Inv-loop
     μ-loop
     (λ c. let p = c .before .before .before .pre in (p .3, omega arith, p .0))
+    (λ c. c .loop .inv .2)
+    (λ c κs. let p = c .before .before .before .before .before .pre in (omega (arith, p .1, c .loop-test .taken), p .2 .all))
     (λ c. search needs)
-    (λ c. let p = c .before .before .before .before .before .before .pre in omega (arith, p .1, c .before .loop-test .taken))
-    (λ c κs. search needs)
-    (λ c. let p = c .before .before .before .before .before .before .before .before .pre in omega (arith, p .2 .all, c .before .slot .ensures .1))
-    (λ c κs. search needs)
+    (λ c κs.
+    let p = c .before .before .before .before .before .before .before .pre in
+    let at = c .before .before .before .loop in
+    (omega arith, omega (arith, p .1, c .before .before .loop-test .taken), marked-fewer (p .2) (at .inv .1), at .inv .0))
     (λ c. search needs)
     (λ c. search needs)
     loop-again
-    returns)
+    (λ c κs.
+    let p = c .before .before .before .before .before .pre in
+    let at = c .before .loop in
+    (at .inv .2, p .1, marked-fewer (p .2) (at .inv .1), at .inv .0))
+    (λ c. (c .look2 .ensures .0, omega (arith, c .look2 .ensures .1, c .before .before .loop .inv .1))))
