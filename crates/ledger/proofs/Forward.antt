@@ -1,4 +1,4 @@
--- One step on from the record's composition is the composition of the serial after the next.
+-- Steps on from the record's composition, one or several: the composition of the serial that is as many after the next.
 use mathlib.Core.Path.{_≡_, sym, ap, _∙_}
 use mathlib.Core.List.{List, _++_}
 use Prim.Native.Nat.{ℕ, _+_, _≤_, _<_, min}
@@ -13,6 +13,7 @@ use Rattle.walsh.proofs.Serials.{composition-is, serial-composition}
 use Rattle.bounds.specs.Edition.{cellsOf}
 use Rattle.bounds.proofs.Cells.{cells-back, cells-replaced}
 use Rattle.step.specs.Advance.{advanceOf, Advances}
+use Rattle.step.specs.Stride.{Strides}
 use Rattle.step.proofs.Ways.{advance-serial}
 use Rattle.model.specs.Printing.{Printing, size, nextComposition}
 use Rattle.model.proofs.Stock.{serial-cells}
@@ -60,3 +61,24 @@ module _ (p : Printing) (e : ℕ) where
           let last : e + 1 ≡ size p = omega arith in
           let same : e + 1 ≡ min (e + 1 + 1) (size p) = omega arith in
           rw (serial, eq-eqb (e + 1) (size p) last) (ap (compositionOf ms r) same))
+
+  pub onward : (n k : ℕ) (next h : List ℕ)
+      → n ≡ length ms
+      → length ms ≤ 24
+      → next ≡ nextComposition p e
+      → 0 < size p
+      → Strides ms r (take n next) k h
+      → h ++ drop n next ≡ nextComposition p (e + k)
+  onward n k next h count few is some step =
+      let s : ℕ = min (e + 1) (size p) in
+      let g : List ℕ = compositionOf ms r s in
+      let cells : next ≡ cellsOf g = is ∙ at-serial e in
+      let valid : Composition ms r g = composition-is ms r s (omega arith) (omega arith) in
+      let long : n ≡ length g = count ∙ sym (valid .size) in
+      let same : take n next ≡ g = rw (cells, long) (cells-back g) in
+      let serial : serialOf ms r g ≡ s = serial-composition ms r s (omega arith) (omega arith) in
+      let did : h ≡ compositionOf ms r (min (s + k) (size p)) = rw (same, serial) at (step .next few (rw same valid)) in
+      let there : min (s + k) (size p) ≡ min (e + k + 1) (size p) = omega arith in
+      let to : h ≡ compositionOf ms r (min (e + k + 1) (size p)) = did ∙ ap (compositionOf ms r) there in
+      let valid′ : Composition ms r h = rw to (composition-is ms r (min (e + k + 1) (size p)) (omega arith) (omega arith)) in
+      rw cells (cells-replaced g h n (sym long) (valid′ .size ∙ sym count)) ∙ ap cellsOf to ∙ sym (at-serial (e + k))

@@ -25,7 +25,7 @@ inside : (c : tie.Else1) → let a = c .before .before .before .before .before .
 inside c = let w = wrote c in omega (arith, w .inside, parts _ _ (w .belongs) .fits)
 
 following-requires : tie.Need-following-requires
-following-requires c κs = let w = wrote c in let p = parts _ _ (w .belongs) in (p .few, p .next, w .inside)
+following-requires c κs = let w = wrote c in let p = parts _ _ (w .belongs) in (p .few, p .next, omega (arith, w .inside))
 
 counted-requires : tie.Need-counted-requires
 counted-requires c κs =
