@@ -67,23 +67,8 @@ pub fn open(upper: &[u8], total: u32, orders: &[u32]) -> Opened
 
 // ---- what an accepted call writes
 
-// The composition after the record's; the last stays.
-fn following(ledger: Ledger) -> [u8; 24]
-    requires { ⌜ (ledger .bounds .parts ≤ 24)
-        × (ledger .next ≡ nextComposition (printingOf ledger) (ledger .entries))
-        × (ledger .entries < size (printingOf ledger)) ⌝ }
-    ensures { λ r. ⌜ r ≡ nextComposition (printingOf ledger) (ledger .entries + 1) ⌝ }
-{
-    let bounds = ledger.bounds;
-    let n = bounds.parts;
-    let upper = bounds.upper;
-    let mut cells = ledger.next;
-    step::advance(&upper[..n], bounds.total, &mut cells[..n]);
-    cells
-}
-
 // The composition so many steps after the record's; the last stays.
-fn following_by(ledger: Ledger, lines: usize) -> [u8; 24]
+fn following(ledger: Ledger, lines: usize) -> [u8; 24]
     requires { ⌜ (ledger .bounds .parts ≤ 24)
         × (ledger .next ≡ nextComposition (printingOf ledger) (ledger .entries))
         × (0 < size (printingOf ledger)) ⌝ }
@@ -93,6 +78,10 @@ fn following_by(ledger: Ledger, lines: usize) -> [u8; 24]
     let n = bounds.parts;
     let upper = bounds.upper;
     let mut cells = ledger.next;
+    if lines == 1 {
+        step::advance(&upper[..n], bounds.total, &mut cells[..n]);
+        return cells;
+    }
     stride(&upper[..n], bounds.total, &mut cells[..n], lines);
     cells
 }
@@ -156,7 +145,7 @@ pub fn claim(ledger: Ledger, orders: &mut [u32], serial: u64, order: u32) -> Cla
             ledger,
         };
     }
-    let next = following(ledger);
+    let next = following(ledger, 1);
     let at = ledger.entries as usize;
     orders[at] = order;
     counted(ledger, claimed, next, 1, ledger.sold + 1, ledger.voided)
@@ -173,7 +162,7 @@ pub fn void(ledger: Ledger, orders: &mut [u32], serial: u64) -> Claimed
             ledger,
         };
     }
-    let after = following(ledger);
+    let after = following(ledger, 1);
     let entry = ledger.entries as usize;
     orders[entry] = 0;
     counted(ledger, voided, after, 1, ledger.sold, ledger.voided + 1)
@@ -191,7 +180,7 @@ pub fn claim_all(ledger: Ledger, orders: &mut [u32], serial: u64, bundle: &[u32]
         };
     }
     let lines = bundle.len();
-    let next = following_by(ledger, lines);
+    let next = following(ledger, lines);
     let at = ledger.entries as usize;
     let end = at + lines;
     lay(bundle, &mut orders[at..end]);

@@ -12,7 +12,8 @@ use Rattle.walsh.specs.Order.{Composition, countOf}
 use Rattle.walsh.specs.Serial.{serialOf, compositionOf}
 use Rattle.walsh.proofs.Cases.{on-test, on-less}
 use Rattle.walsh.proofs.Serials.{composition-is, serial-composition, composition-serial, serial-le, serial-pos}
-use Rattle.step.specs.Advance.{advanceOf, turnOf, turnAny}
+use Rattle.walsh.specs.declared.Transition.{Transition}
+use Rattle.step.specs.Advance.{advanceOf, turnOf, turnAny, Advances}
 use Rattle.step.specs.Run.{InFront, Running, BehindRun, sumOf, movedOf, shown}
 use Rattle.step.specs.Stride.{turnsOf, Strides, slidOf, CanSlide}
 use Rattle.step.specs.Turn.{Begins}
@@ -79,6 +80,11 @@ module _ (ms : List ℕ) (r : ℕ) (g : List ℕ) where
 
   pub strides : {k : ℕ} {h : List ℕ} → h ≡ turnsOf ms r g k → Strides ms r g k h
   strides {k} e = record { always = e; next = λ few valid. e ∙ turns-serial few valid k }
+
+  -- a single step is one of them
+  pub one-stride : {x : Transition} {h : List ℕ} → Advances ms r g x h → Strides ms r g 1 h
+  unfolding turnsOf
+  one-stride a = strides {k = 1} (a .always)
 
 -- ---- a run
 

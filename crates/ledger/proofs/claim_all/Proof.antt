@@ -35,13 +35,13 @@ inside c =
     let p = parts _ _ (w .belongs) in
     record { fits = omega (arith, w .all-inside, p .fits); few = omega (arith, w .all-inside, p .small) }
 
-following-by-requires : tie.Need-following-by-requires
-following-by-requires c κs = let w = wrote c in let p = parts _ _ (w .belongs) in (p .few, p .next, omega (arith, w .inside))
+following-requires : tie.Need-following-requires
+following-requires c κs = let w = wrote c in let p = parts _ _ (w .belongs) in (p .few, p .next, omega (arith, w .inside))
 
 counted-requires : tie.Need-counted-requires
 counted-requires c κs =
     let f = c .before .before .before .before .before in
-    (inside (f .before) .few, f .following-by .ensures)
+    (inside (f .before) .few, f .following .ensures)
 
 -- a part of the column, and the column with that part written over
 part-size : (col : List ℕ) (at n : ℕ) → at + n ≤ length col → length (take (at + n - at) (drop at col)) ≡ n
@@ -77,7 +77,7 @@ claim-all-spec =
     (λ c κs. search needs)
     (λ c. search needs)
     returns
-    following-by-requires
+    following-requires
     (λ c. omega (arith, inside (c .before) .few))
     (λ c. omega (arith, inside (c .before) .fits, c .before .before .before .before .before .before .before .good .1 .0 .1))
     (λ c. search needs)
