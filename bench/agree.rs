@@ -157,6 +157,22 @@ fn spoilt(random: &mut Random, mut ledger: peer::Ledger) -> peer::Ledger {
     ledger
 }
 
+/// The orders of a bundle: mostly new ones, some of them with a slot that another or a line has too; then one that is 0, of the column, or of the
+/// bundle.
+fn bundle(random: &mut Random, orders: &[u32]) -> Vec<u32> {
+    let size = [0, 1, 2, 39, 40, 41, 1 + random.below(40), 1 + random.below(12)][random.below(8) as usize];
+    let mut bundle: Vec<u32> = Vec::new();
+    for _ in 0..size {
+        let near = bundle.last().or(orders.first()).map_or(1, |o| o ^ 8192 << random.below(19));
+        bundle.push([random.next() as u32, random.next() as u32, near][random.below(3) as usize]);
+    }
+    if size > 0 && random.below(2) == 0 {
+        let at = random.below(size) as usize;
+        bundle[at] = [0, orders[random.below(orders.len() as u64) as usize], bundle[random.below(size) as usize]][random.below(3) as usize];
+    }
+    bundle
+}
+
 fn calls(random: &mut Random, u: &[u8], r: u32, count: u64) {
     let (mut ledger, mut orders) = lines(random, u, r, count);
     let mut copy = orders.clone();
@@ -167,11 +183,16 @@ fn calls(random: &mut Random, u: &[u8], r: u32, count: u64) {
         let serial = [next, next, next, ledger.entries, random.below(count + 2)][random.below(5) as usize];
         // one of the column's, or any
         let order = [orders[random.below(count) as usize], random.below(60) as u32, random.next() as u32][random.below(3) as usize];
-        let (a, b) = match random.below(4) {
+        let bundle = bundle(random, &orders);
+        let (a, b) = match random.below(6) {
             0 => (engine::void(ledger, &mut orders, serial), peer::void(ledger, &mut copy, serial)),
+            1 | 2 => {
+                let several = [peer::claim_all::<false>, peer::claim_all::<true>, peer::claim_all_by_passes][random.below(3) as usize];
+                (engine::claim_all(ledger, &mut orders, serial, &bundle), several(ledger, &mut copy, serial, &bundle))
+            }
             _ => (engine::claim(ledger, &mut orders, serial, order), peer::claim(ledger, &mut copy, serial, order)),
         };
-        assert_eq!((a, &orders), (b, &copy), "claim or void {u:?} {r} {ledger:?} {serial} {order}");
+        assert_eq!((a, &orders), (b, &copy), "claim, void or claim of several {u:?} {r} {ledger:?} {serial} {order} {bundle:?}");
         ledger = a.ledger;
     }
 }

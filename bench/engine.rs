@@ -22,6 +22,7 @@ mod c {
         pub fn huz_peek(ledger: Ledger, orders: *const u32, len: usize) -> Peeked;
         pub fn huz_claim(ledger: Ledger, orders: *mut u32, len: usize, serial: u64, order: u32) -> Claimed;
         pub fn huz_void(ledger: Ledger, orders: *mut u32, len: usize, serial: u64) -> Claimed;
+        pub fn huz_claim_all(ledger: Ledger, orders: *mut u32, len: usize, serial: u64, bundle: *const u32, count: usize) -> Claimed;
     }
 }
 
@@ -79,4 +80,8 @@ pub fn claim(ledger: Ledger, orders: &mut [u32], serial: u64, order: u32) -> Cla
 
 pub fn void(ledger: Ledger, orders: &mut [u32], serial: u64) -> Claimed {
     unsafe { c::huz_void(ledger, orders.as_mut_ptr(), orders.len(), serial) }
+}
+
+pub fn claim_all(ledger: Ledger, orders: &mut [u32], serial: u64, bundle: &[u32]) -> Claimed {
+    unsafe { c::huz_claim_all(ledger, orders.as_mut_ptr(), orders.len(), serial, bundle.as_ptr(), bundle.len()) }
 }

@@ -329,7 +329,13 @@ fn main() {
     let long = edition("24 kinds, N = 999476", upper, 7);
     register::rows(&mut table, &million, &[1, 1_000, 999_999]);
     register::claims(&mut table, &long, 1);
+    for entries in [1, 1_000, 999_000] {
+        register::bundles(&mut table, &million, entries);
+    }
+    register::refused_bundle(&mut table, &million, 999_000);
+    register::bundles(&mut table, &long, 1);
     listing(&mut table, ours, theirs, folder, &long);
+    register::club(&million, &[1, 1_000, 999_000]);
     sqlite::compare(&million, &[1, 1_000, 999_999], folder);
     println!("\n## Over 1.05\n");
     println!("{}", if table.over.is_empty() { "No row.".into() } else { format!("- {}", table.over.join("\n- ")) });

@@ -22,9 +22,16 @@ impl Spread {
 /// Nanoseconds a call of both, and the ratio of two runs that follow each other.
 #[derive(Clone, Copy)]
 pub struct Beside {
-    ours: Spread,
-    theirs: Spread,
+    pub ours: Spread,
+    pub theirs: Spread,
     ratio: Spread,
+}
+
+impl Beside {
+    /// How many times the time of the first the second takes, and its quartiles.
+    pub fn factor(&self) -> String {
+        format!("{:.1}, {:.1} to {:.1}", 1.0 / self.ratio.median, 1.0 / self.ratio.high, 1.0 / self.ratio.low)
+    }
 }
 
 /// A run of so many calls that it takes a millisecond or more: it answers nanoseconds a call by a clock.

@@ -20,35 +20,36 @@
 extern "C" {
 #endif
 
-#define HUZ_VERSION 1200 /* of this header, 0.12.0: major * 10000 + minor * 100 + patch */
+#define HUZ_VERSION 1300 /* of this header, 0.13.0: major * 10000 + minor * 100 + patch */
 #define HUZ_PARTS 24 /* the most kinds of an edition; the arrays in the structures have as many cells, and those past n are 0 */
 
 /* The numbers of answers: what each means, and its detail where that is not 0. */
 enum huz_number {
-    HUZ_ACCEPTED = 0,              /* the call is accepted */
-    HUZ_PARTS_OUT_OF_RANGE = 1,    /* the edition has no kinds, or more than 24 */
-    HUZ_UPPER_OUT_OF_RANGE = 2,    /* a ceiling is over 60; detail: the first such kind, from 1 */
-    HUZ_TOTAL_OUT_OF_RANGE = 3,    /* the total is over 255 */
-    HUZ_TOTAL_ABOVE_SUM = 4,       /* the total is over the sum of the ceilings */
-    HUZ_COUNT_TOO_LARGE = 5,       /* the edition has more than 9,223,372,036,854,775,807 mixes */
-    HUZ_SERIAL_OUT_OF_RANGE = 6,   /* the serial is 0 or over the number of mixes, or a tray runs past the last mix */
-    HUZ_COMPOSITION_LENGTH = 7,    /* the mix given does not have one count for each kind */
-    HUZ_NOT_A_COMPOSITION = 8,     /* a count of the mix given is over its ceiling, or their sum is not the total */
-    HUZ_NO_NEIGHBOUR = 9,          /* no mix follows the last, and none stands before the first */
-    HUZ_NOT_A_STAIRCASE = 10,      /* the edition is no puzzle edition: its ceilings are not k-1, .., 2, 1 */
-    HUZ_NOT_A_PERMUTATION = 11,    /* the sheet order given is no permutation of 1 to k */
-    HUZ_INVERSIONS_NOT_TOTAL = 12, /* the inversions of the sheet order given are not as many as the total */
-    HUZ_OUTPUT_LENGTH = 13,        /* the memory lent for the answer is not exactly as long as the answer */
-    HUZ_COUNT_ABOVE_MILLION = 14,  /* the edition has more than 1,000,000 mixes */
-    HUZ_COLUMN_TOO_SHORT = 15,     /* the column has fewer entries than the edition has mixes */
-    HUZ_LEDGER_INCONSISTENT = 16,  /* the record and the column do not belong together */
-    HUZ_NO_ORDER = 17,             /* the order number is 0 */
-    HUZ_ALREADY_WRITTEN = 18,      /* the serial is already written; detail: the order number on its line, 0 if it is spoilt */
-    HUZ_ABOVE_NEXT = 19,           /* the serial is above the next one; detail: the next serial */
-    HUZ_ORDER_STANDS_EARLIER = 20, /* the order number stands on an earlier line; detail: the lowest serial that it has */
-    HUZ_ALL_WRITTEN = 21,          /* every serial is written */
-    HUZ_NOT_A_REQUEST = 22,        /* the slip does not have the form that the listing program reads */
-    HUZ_MAJOR_INDEX_NOT_TOTAL = 23 /* the major index of the sheet order given is not the total */
+    HUZ_ACCEPTED = 0,               /* the call is accepted */
+    HUZ_PARTS_OUT_OF_RANGE = 1,     /* the edition has no kinds, or more than 24 */
+    HUZ_UPPER_OUT_OF_RANGE = 2,     /* a ceiling is over 60; detail: the first such kind, from 1 */
+    HUZ_TOTAL_OUT_OF_RANGE = 3,     /* the total is over 255 */
+    HUZ_TOTAL_ABOVE_SUM = 4,        /* the total is over the sum of the ceilings */
+    HUZ_COUNT_TOO_LARGE = 5,        /* the edition has more than 9,223,372,036,854,775,807 mixes */
+    HUZ_SERIAL_OUT_OF_RANGE = 6,    /* the serial is 0 or over the number of mixes, or a tray or a bundle runs past the last mix */
+    HUZ_COMPOSITION_LENGTH = 7,     /* the mix given does not have one count for each kind */
+    HUZ_NOT_A_COMPOSITION = 8,      /* a count of the mix given is over its ceiling, or their sum is not the total */
+    HUZ_NO_NEIGHBOUR = 9,           /* no mix follows the last, and none stands before the first */
+    HUZ_NOT_A_STAIRCASE = 10,       /* the edition is no puzzle edition: its ceilings are not k-1, .., 2, 1 */
+    HUZ_NOT_A_PERMUTATION = 11,     /* the sheet order given is no permutation of 1 to k */
+    HUZ_INVERSIONS_NOT_TOTAL = 12,  /* the inversions of the sheet order given are not as many as the total */
+    HUZ_OUTPUT_LENGTH = 13,         /* the memory lent for the answer is not exactly as long as the answer */
+    HUZ_COUNT_ABOVE_MILLION = 14,   /* the edition has more than 1,000,000 mixes */
+    HUZ_COLUMN_TOO_SHORT = 15,      /* the column has fewer entries than the edition has mixes */
+    HUZ_LEDGER_INCONSISTENT = 16,   /* the record and the column do not belong together */
+    HUZ_NO_ORDER = 17,              /* the order number is 0 */
+    HUZ_ALREADY_WRITTEN = 18,       /* the serial is already written; detail: the order number on its line, 0 if it is spoilt */
+    HUZ_ABOVE_NEXT = 19,            /* the serial is above the next one; detail: the next serial */
+    HUZ_ORDER_STANDS_EARLIER = 20,  /* the order number stands earlier, on a line or in the bundle; detail: the lowest serial that it has there */
+    HUZ_ALL_WRITTEN = 21,           /* every serial is written */
+    HUZ_NOT_A_REQUEST = 22,         /* the slip does not have the form that the listing program reads */
+    HUZ_MAJOR_INDEX_NOT_TOTAL = 23, /* the major index of the sheet order given is not the total */
+    HUZ_BUNDLE_LENGTH = 24          /* the bundle has no orders, or more than 40 */
 };
 
 /* An edition, as a record keeps it: the number of kinds n, their ceilings, the total. (bounds::Bounds) */
@@ -66,8 +67,8 @@ typedef struct {
     uint8_t next[HUZ_PARTS];
 } huz_ledger;
 
-/* Answers. In a refused one all fields but number and detail are 0, except that a refused huz_claim or huz_void answers
- * the record that went in. */
+/* Answers. In a refused one all fields but number and detail are 0, except that a refused huz_claim, huz_void or
+ * huz_claim_all answers the record that went in. */
 
 /* Nothing but whether it was done. (bounds::Refusal) */
 typedef struct {
@@ -124,7 +125,8 @@ typedef struct {
     uint8_t composition[HUZ_PARTS];
 } huz_answer;
 
-/* Of a take or a spoil: the serial, its mix, and the record as it is now. (model::Claimed) */
+/* Of a take, a spoil or a bundle: the serial, of a bundle its first, the mix of that serial, and the record as it is now.
+ * (model::Claimed) */
 typedef struct {
     uint32_t number;
     uint64_t detail;
@@ -190,6 +192,11 @@ huz_peeked huz_peek(huz_ledger ledger, const uint32_t *orders, size_t len);
 huz_claimed huz_claim(huz_ledger ledger, uint32_t *orders, size_t len, uint64_t serial, uint32_t order);
 /* Spoil: writes 0 into the line of the serial. Refusals: 16, 6, 18, 19. */
 huz_claimed huz_void(huz_ledger ledger, uint32_t *orders, size_t len, uint64_t serial);
+/* A bundle, for a club that wants consecutive serials or nothing: what takes of `serial`, `serial` + 1 and so on do, one for
+ * each of the `count` order numbers in `bundle`, 1 to 40, if all of them would be accepted, each after those before it. Else
+ * it answers the refusal of the first that would fail, and no line is written; so an order number that stands twice in the
+ * bundle is 20, with the serial that the first of the two would have had. Refusals: 16, 24, 17, 6, 18, 19, 20. */
+huz_claimed huz_claim_all(huz_ledger ledger, uint32_t *orders, size_t len, uint64_t serial, const uint32_t *bundle, size_t count);
 /* Take and spoil on a lent record: `ledger` points to it, and an accepted call updates it there (the bytes between two
  * fields may change as well); a refused call writes no byte, none between two fields either. They answer what
  * huz_claim and huz_void answer, and both forms may be used in turn on one register. */

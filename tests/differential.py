@@ -5,20 +5,21 @@
 
 Every lent part has guard bytes around it and is compared whole after each call. After SECONDS no further round begins, but for the FLOOR that has to
 be run. The test fails on any difference, and where an answer that a function can give (reference.ANSWERS) has not come up, or has not with a kind
-withdrawn (reference.WITHDRAWN), or something that may be wrong with a sheet order has not come up alone and with each other (conversions.FAULTS). The
-last line is `differential: N cases, 0 differences`.
+withdrawn (reference.WITHDRAWN), or something that may be wrong with a sheet order has not come up alone and with each other (conversions.FAULTS), or
+with a bundle not at each of its places (bundles.FAULTS). The last line is `differential: N cases, 0 differences`.
 """
 import argparse
 import random
 import sys
 import time
 
+import bundles
 import conversions
 import documents
 import inputs
 import reference as ref
 from cases import FILL, came_up, cases, compare, differences, lend
-from lent import Lent, LentRecord, call, flat, huztiral, ledger_of
+from lent import Lent, LentRecord, call, called, flat, ledger_of
 
 FLOOR = 150  # rounds
 
@@ -66,7 +67,7 @@ def opening(rng, ms, r, size):
     compare("huz_open", (ms, r, size), answer, (*expected[:2], *expected[2]), (upper, ms), (column, values))
 
 
-CALLS = {"look": "huz_peek", "take": "huz_claim", "spoil": "huz_void"}
+CALLS = {"look": "huz_peek", "take": "huz_claim", "spoil": "huz_void", "bundle": "huz_claim_all"}
 
 
 def on_record(rng, record, column, name, *arguments):
@@ -103,15 +104,15 @@ class Running:
 
     def __init__(self, rng, ms, r, values):
         self.rng, self.column, self.values = rng, Lent(values, 4), values
-        answer = huztiral.C.huz_open(*Lent(ms).passed(), r, *self.column.passed())
+        answer = called("huz_open", Lent(ms), r, self.column)
         self.place = LentRecord(answer.ledger)
         compare("huz_open", (ms, r, "a register"), flat(answer), (0, 0, *ref.record_of(ms, r, [])), (self.column, values))
 
     def call(self, name, *arguments):
         """the answer, and the function that was called"""
-        lent = name != "look" and self.rng.random() < 0.5
+        lent = name in ("take", "spoil") and self.rng.random() < 0.5
         function = CALLS[name] + ("_in" if lent else "")
-        answer = getattr(huztiral.C, function)(self.place.ledger, *self.column.passed(), *arguments)
+        answer = called(function, self.place.ledger, self.column, *arguments)
         if name != "look" and not lent:
             self.place.write(answer.ledger, self.place.ledger)
         return flat(answer)[:6 if name == "look" else 4], function
@@ -120,15 +121,36 @@ class Running:
 def agree(running, paper, name, arguments, given):
     """one call on both, and the whole state afterwards; the answer"""
     expected, before = getattr(paper, name)(*arguments), running.place.raw()
-    got, function = running.call(name, *arguments)
+    lent = [lend(running.rng, a, 4) if isinstance(a, list) else a for a in arguments]
+    got, function = running.call(name, *lent)
     state = ref.record_of(paper.ms, paper.r, paper.lines)
     compare(function, (*given, len(paper.lines), arguments), (*got, *flat(running.place.ledger)), (*expected, *state),
-            (running.column, paper.lines + running.values[len(paper.lines):]), (running.place, before if expected[0] or name == "look" else None))
+            (running.column, paper.lines + running.values[len(paper.lines):]), (running.place, before if expected[0] or name == "look" else None),
+            *((part, values) for part, values in zip(lent, arguments) if isinstance(values, list)))
     return expected
 
 
+def club(rng, paper):
+    """the orders of a bundle: mostly new ones, and mostly some that are left, all of them, or one too many"""
+    left = paper.n - len(paper.lines)
+    size = rng.choice((1, 2, 3, rng.randint(1, 40), left, left + 1) if left <= 40 else (1, 2, 3, rng.randint(1, 40), 40))
+    orders = inputs.new_orders(rng, rng.choice((size,) * 9 + (0, 41)), paper.lines)
+    if orders and rng.random() < 0.3:
+        orders[rng.randrange(len(orders))] = rng.choice((0, orders[0], *paper.lines[-2:]))
+    return orders
+
+
+def singles(name, arguments, answer):
+    """an accepted call as what it is counted as: a bundle as its takes, the first with its answer, the others with any that is accepted"""
+    if name != "bundle":
+        return [(name, arguments, answer)]
+    serial, orders = arguments
+    return [("take", (at, order), answer if at == serial else None) for at, order in enumerate(orders, serial)]
+
+
 def interleaving(rng):
-    """several workers on one register, each with the serial that it saw last, in either form; then the accepted calls alone, a look before each"""
+    """several workers on one register, each with the serial that it saw last, in either form; then the accepted calls alone, for a bundle its takes,
+    a look before each"""
     ms, r = inputs.sound(rng, small=True)
     n = ref.number(ms, r)
     values = [rng.getrandbits(32) if rng.random() < 0.7 else rng.randint(0, 30) for _ in range(n + rng.randint(0, 3))]
@@ -141,19 +163,25 @@ def interleaving(rng):
         serial = rng.choice((workers[worker], workers[worker], paper.next(), paper.next(), inputs.any_serial(rng, n)))
         if act < 0.3:
             name, arguments = "look", ()
-        elif act < 0.85:
+        elif act < 0.7:
             name, arguments = "take", (serial, rng.choice((rng.getrandbits(32), rng.getrandbits(32), rng.randint(0, 30))))
+        elif act < 0.85:
+            name, arguments = "bundle", (serial, club(rng, paper))
         else:
             name, arguments = "spoil", (serial,)
+        before = len(paper.lines)
         answer = agree(running, paper, name, arguments, (ms, r, turn))
         if name == "look":
             workers[worker] = answer[2]
         elif answer[0] == 0:
-            done.append((name, arguments, answer))
+            done += singles(name, arguments, answer)
+        if name == "bundle":
+            bundles.watched(paper, before, *arguments, answer)
     again = Running(rng, ms, r, values)
     for name, arguments, answer in done:
         compare("second list", (ms, r), again.call("look")[0][2], arguments[0])
-        compare("second list", (ms, r), again.call(name, *arguments)[0], answer)
+        got, expected = again.call(name, *arguments)[0], answer or (0, 0, arguments[0], ref.cells(ref.mix_at(ms, r, arguments[0])))
+        compare("second list", (ms, r), got, expected)
     compare("second list", (ms, r), flat(again.place.ledger), flat(running.place.ledger), (again.column, paper.lines + values[len(paper.lines):]),
             (again.place, None))
 
@@ -178,6 +206,7 @@ def large_register(rng):
             on_record(rng, record, column, "spoil", written // 2 + 1)
             on_record(rng, record, column, "look")
             lines_so_far(rng, record, column)
+        bundles.in_large_register(rng, ms, r, n)
 
 
 # ---- all of it
@@ -250,6 +279,7 @@ def round_of(rng):
         opening(rng, *inputs.opening(rng))
     for _ in range(40):
         any_call(rng)
+        bundles.any_bundle(rng)
     for _ in range(5):
         full_tray(rng)
     whole_edition(rng)
@@ -266,6 +296,7 @@ def missing():
             yield from (f"{name} has not answered {number}{WORDS[where]}" for number in numbers if not came_up[name, number, where])
     yield from (f"{name} is not expected to answer {number}{WORDS[where]}" for name, number, where in came_up if number not in KINDS[where][name])
     yield from conversions.missing()
+    yield from bundles.missing()
 
 
 def report(rounds):
@@ -274,6 +305,7 @@ def report(rounds):
         for where, answers in KINDS.items():
             print(f"{name}{WORDS[where]}: answered", ", ".join(f"{number} {came_up[name, number, where]} times" for number in answers[name]))
     conversions.report()
+    bundles.report()
 
 
 def main():
@@ -287,6 +319,9 @@ def main():
     edges(rng)
     conversions.every_order(rng)
     conversions.every_edition()
+    bundles.edges(rng)
+    bundles.every_place(rng)
+    bundles.same_slots(rng)
     large_register(rng)
     long_trays(rng)
     rounds = 0

@@ -90,6 +90,32 @@ def puzzle_books():
                 (mix, (23, 0), code, (12, 0)))
 
 
+def a_club_order():
+    """request (v), on the three copies of 1 1 1 with total 1 and on the seven of 2 2 2 with total 3"""
+    three = huztiral.Edition([1, 1, 1], 1).open()
+    compare("document", "all three", (three.claim_all(1, [1007, 1014, 1021]), refused(three.peek), three.entries()),
+            ((1, [1, 0, 0]), (21, 0), [1007, 1014, 1021]))
+    three = huztiral.Edition([1, 1, 1], 1).open()
+    compare("document", "none, with serial 0", refused(three.claim_all, 0, []), (24, 0))
+    compare("document", "a void", three.void(1), (1, [1, 0, 0]))
+    for serial, orders, refusal in ((2, [1007, 1007], (20, 2)), (2, [1007, 1014, 1021], (6, 0)), (2, [1007, 1014, 0], (17, 0)),
+                                    (2, [1007, 0, 1021], (17, 0)), (1, [1007, 1014], (18, 0)), (3, [1007], (19, 2)), (4, [1007, 1014], (6, 0)),
+                                    (2, [], (24, 0)), (2, [0] * 41, (24, 0))):
+        compare("document", (serial, orders), (refused(three.claim_all, serial, orders), three.entries(), three.peek()),
+                (refusal, [0], (2, [0, 1, 0], 2, 1)))
+    compare("document", "the two that are left", (three.claim_all(2, [1007, 1014]), three.entries()), ((2, [0, 1, 0]), [0, 1007, 1014]))
+    seven = huztiral.Edition([2, 2, 2], 3).open()
+    compare("document", "between single takes", (seven.claim(1, 5), seven.claim_all(2, [6, 7, 8]), refused(seven.claim, 4, 9),
+                                                 refused(seven.claim_all, 5, [9, 7]), seven.peek(), seven.claim_all(5, [9]), seven.void(6)),
+            ((1, [2, 1, 0]), (2, [1, 2, 0]), (18, 8), (20, 3), (5, [2, 0, 1], 1, 2), (5, [2, 0, 1]), (6, [1, 0, 2])))
+    compare("document", "and the lines", seven.entries(), [5, 6, 7, 8, 9, 0])
+    forty = huztiral.Edition([4, 3, 3, 2], 6)
+    register = forty.open()
+    compare("document", "an edition of 40", (forty.count, refused(register.claim_all, 1, range(1, 42)), register.claim_all(1, range(1, 41))),
+            (40, (24, 0), (1, forty.unrank(1))))
+    compare("document", "all of it", register.entries(), list(range(1, 41)))
+
+
 def the_reference():
     """it is at one with its own listing, and the rule of document 01, read with ceilings of 0, gives the same"""
     for ms, r in ((2, 2, 2), 3), ((3, 2, 1), 3), ((4, 1, 2, 3, 1), 6), ((1,) * 9, 4), ((2, 5, 3), 5), *inputs.WITHDRAWN:
@@ -104,4 +130,5 @@ def compared():
     copies_of_the_document()
     a_tile_withdrawn()
     puzzle_books()
+    a_club_order()
     the_reference()

@@ -285,3 +285,31 @@ def call(rng):
     serial = rng.choice((following, following, following, following - 1, 0, following + 1, any_serial(rng, len(column)), rng.randint(1, 9)))
     order = rng.choice((any_order(rng, lines), any_order(rng, lines), rng.getrandbits(32), (column + [3] * 2000)[len(lines)]))
     return record, column, serial, order
+
+
+def new_orders(rng, size, lines=()):
+    """orders for a bundle that differ and stand in none of the lines; some of them differ in one bit from each other or from a line"""
+    taken, orders = {0, *lines}, []
+    while len(orders) < size:
+        near = rng.choice((*orders[-3:], *lines[:3], 1)) ^ 1 << rng.randrange(32)
+        order = rng.choice((rng.getrandbits(32), rng.getrandbits(32), near))
+        if order not in taken:
+            taken.add(order)
+            orders.append(order)
+    return orders
+
+
+def bundle(rng):
+    """a record and a column, sound or damaged, a first serial and the orders of a bundle, of which up to two are 0, stand already or stand twice"""
+    record, column = register(rng)
+    if rng.random() < 0.3:
+        record, column = damaged(rng, record, column)
+    lines = column[:min(record[3], 2000)]
+    following, left = len(lines) + 1, len(column) - len(lines)
+    serial = rng.choice((following,) * 8 + (following - 1, 0, following + 1, any_serial(rng, len(column)), rng.randint(1, 9)))
+    size = rng.choice((0, 1, 2, 39, 40, 41, left, left + 1, rng.randint(1, 40), rng.randint(1, 5), rng.randint(41, 300)))
+    orders = new_orders(rng, min(size, 300), lines)
+    for _ in range(rng.choice((0, 0, 1, 2)) if orders else 0):
+        at = rng.randrange(len(orders))
+        orders[at] = rng.choice((any_order(rng, lines), orders[rng.randint(0, at)], orders[rng.randint(0, at)], (column + [3] * 2000)[len(lines)]))
+    return record, column, serial, orders

@@ -92,9 +92,14 @@ def ledger_of(record):
     return LEDGER(BOUNDS(n, CELLS(*upper), total), lines, sold, spoilt, CELLS(*mix))
 
 
-def call(name, *arguments):
-    """the flat answer of a function of the C interface"""
+def called(name, *arguments):
+    """the answer of a function of the C interface; a lent part is a pointer and a length there"""
     passed = []
     for a in arguments:
         passed += a.passed() if hasattr(a, "passed") else [a]
-    return flat(getattr(huztiral.C, name)(*passed))
+    return getattr(huztiral.C, name)(*passed)
+
+
+def call(name, *arguments):
+    """the same, flat"""
+    return flat(called(name, *arguments))

@@ -1,4 +1,4 @@
-"""Document 01, and of document 02 requests (i) to (iv), in plain Python: what every call of the engine has to answer, and what the listing program
+"""Document 01, and of document 02 requests (i) to (v), in plain Python: what every call of the engine has to answer, and what the listing program
 has to print. Written from the documents, for comparison only: numbers are unbounded, nothing is fast, and each function follows the documents' own
 words. The answer of a call is a tuple that starts with number and detail."""
 import re
@@ -9,6 +9,7 @@ import sheets
 
 LIMIT = 9_223_372_036_854_775_807
 MOST_LINES = 1_000_000
+MOST_ORDERS = 40
 BLANK = (0,) * 24
 
 
@@ -334,9 +335,21 @@ class Paper:
     def spoil(self, serial):
         return self.write(self.place(serial), serial, 0)
 
+    def bundle(self, serial, orders):
+        """document 02, (v): single takes one after another, tried on a copy; the first refusal, or all of them"""
+        if not 1 <= len(orders) <= MOST_ORDERS:
+            return 24, 0, 0, BLANK
+        copy = Paper(self.ms, self.r, self.lines)
+        for at, order in enumerate(orders, serial):
+            answer = copy.take(at, order)
+            if answer[0]:
+                return answer
+        self.lines = copy.lines
+        return self.answer(serial)
+
 
 def call(record, column, name, arguments):
-    """look, take or spoil on any record and column: the answer, the record and the column afterwards"""
+    """look, take, spoil or bundle on any record and column: the answer, the record and the column afterwards"""
     if not is_register(record, column):
         return (16, 0, 0, BLANK, *(NO_PAIR if name == "look" else ())), record, column
     n, upper, r, lines = record[:4]
@@ -368,6 +381,7 @@ ANSWERS = {
     "huz_peek": (0, 16, 21),
     "huz_claim": (0, 16, 17, 6, 18, 19, 20),
     "huz_void": (0, 16, 6, 18, 19),
+    "huz_claim_all": (0, 16, 24, 17, 6, 18, 19, 20),
     "huz_claim_in": (0, 16, 17, 6, 18, 19, 20),
     "huz_void_in": (0, 16, 6, 18, 19),
 }

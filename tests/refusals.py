@@ -47,7 +47,7 @@ class Words(unittest.TestCase):
     maxDiff = None
 
     def test_numbers_in_turn(self):
-        self.assertEqual(list(TABLE), list(range(24)))
+        self.assertEqual(list(TABLE), list(range(25)))
 
     def test_header(self):
         body = re.search(r"enum huz_number \{(.*?)\};", read("include", "huztiral.h"), re.DOTALL).group(1)
@@ -126,8 +126,15 @@ def on_registers(edition):
     claims = ((short, 0, 0, 16, 0), (sound, 0, 0, 17, 0), (sound, 1, 0, 17, 0), (sound, 0, 1007, 6, 0), (sound, 8, 1007, 6, 0),
               (sound, 1, 1007, 18, 1007), (sound, 2, 1007, 18, 0), (sound, 4, 1007, 19, 3), (sound, 3, 1007, 20, 1))
     voids = ((short, 0, 16, 0), (sound, 0, 6, 0), (sound, 8, 6, 0), (sound, 1, 18, 1007), (sound, 2, 18, 0), (sound, 4, 19, 3))
+    bundles = ((short, 0, [], 16, 0), (sound, 0, [], 24, 0), (sound, 3, [0] * 41, 24, 0), (sound, 3, [5] * 1000, 24, 0),
+               (sound, 0, [0, 0], 17, 0), (sound, 1, [0], 17, 0), (sound, 0, [1007], 6, 0), (sound, 8, [1007, 0], 6, 0),
+               (sound, 1, [1007, 0], 18, 1007), (sound, 2, [1007], 18, 0), (sound, 4, [1007, 0], 19, 3), (sound, 3, [1007, 0], 20, 1),
+               (sound, 3, [5, 0, 1007], 17, 0), (sound, 3, [5, 1007, 0], 20, 1), (sound, 3, [5, 5, 0], 20, 3), (sound, 3, [5, 6, 7, 6], 20, 4),
+               # five are left
+               (sound, 3, [5, 6, 7, 8, 9, 1007], 6, 0), (sound, 3, [5, 6, 7, 8, 9, 5], 6, 0), (sound, 3, [5, 6, 7, 8, 9, 0], 17, 0),
+               (sound, 3, [5, 6, 7, 8, 9, 10, 0], 6, 0))
     looks = ((full[0], [5] * 6), 16, 0), (short, 16, 0), (full, 21, 0)
-    return {"huz_peek": looks, "huz_claim": claims, "huz_claim_in": claims, "huz_void": voids, "huz_void_in": voids}
+    return {"huz_peek": looks, "huz_claim": claims, "huz_claim_in": claims, "huz_void": voids, "huz_void_in": voids, "huz_claim_all": bundles}
 
 
 SLIPS = (("0 0\n1000", 22), ("61 " * 24 + "0\n300", 1), ("2 61 0\n300", 2), ("1\n256", 3), ("2 2\n5", 4), ("60 " * 23 + "60\n255", 5),
@@ -167,7 +174,8 @@ class Calls(unittest.TestCase):
             registers = on_registers(edition)
             for name, cases in registers.items():
                 for (record, column), *rest, number, detail in cases:
-                    self.assertEqual(self.said(name, ledger_of(record), Lent(column, 4), *rest), (number, detail), (name, rest))
+                    given = [Lent(a, 4) if isinstance(a, list) else a for a in rest]
+                    self.assertEqual(self.said(name, ledger_of(record), Lent(column, 4), *given), (number, detail), (name, rest))
                 self.assertEqual({case[-2] for case in cases}, set(CHECKS[name]), name)
             for (record, column), number, _ in registers["huz_peek"]:
                 self.assertEqual(call("huz_entries", ledger_of(record), Lent(column, 4)), (0 if number == 16 else 7,))

@@ -1,5 +1,5 @@
-/* Refused calls on a lent record write nothing: record and column lie in memory that can only be read, and afterwards every byte is as it was, those
- * between the fields too. */
+/* Refused calls on a lent record, and refused bundles, write nothing: record, column and bundle lie in memory that can only be read, and afterwards
+ * every byte is as it was, those between the fields too. */
 #define _DEFAULT_SOURCE
 #include "../include/huztiral.h"
 #include <stdio.h>
@@ -8,7 +8,7 @@
 
 typedef struct {
     huz_ledger ledger;
-    uint32_t orders[4];
+    uint32_t orders[4], bundle[41];
 } lent;
 
 static int calls, failed;
@@ -21,12 +21,43 @@ static void expect(uint32_t number, uint32_t expected) {
     }
 }
 
+/* bundles are parts of this one: 1014 1021 1014, 1014 0, 1028 1028, 1035 1007 */
+static const uint32_t bundled[9] = {1014, 1021, 1014, 0, 1014, 1028, 1028, 1035, 1007};
+
 /* three mixes, of which the first is claimed for order 1007; the column has room for one more */
 static void open_on(lent *page, const uint8_t *upper, size_t parts) {
     memset(page, 0xA5, sizeof *page);
+    memcpy(page->bundle, bundled, sizeof bundled);
     page->ledger = huz_open(upper, parts, 1, page->orders, 4).ledger;
     expect(huz_claim_in(&page->ledger, page->orders, 4, 1, 1007).number, 0);
     memset((unsigned char *)&page->ledger + offsetof(huz_bounds, total) + 4, 0xA5, sizeof(huz_bounds) - offsetof(huz_bounds, total) - 4);
+}
+
+static void refuse_bundle(const lent *page, size_t len, uint64_t serial, size_t from, size_t count, uint32_t number) {
+    huz_claimed claimed = huz_claim_all(page->ledger, (uint32_t *)page->orders, len, serial, page->bundle + from, count);
+    expect(claimed.number, number);
+    const huz_ledger *now = &claimed.ledger, *then = &page->ledger;
+    if (now->entries != then->entries || now->sold != then->sold || now->voided != then->voided || memcmp(now->next, then->next, HUZ_PARTS)) {
+        printf("refused: call %d does not answer the record that went in\n", calls);
+        failed = 1;
+    }
+}
+
+static void refuse_bundles(const lent *page) {
+    refuse_bundle(page, 2, 2, 0, 2, 16);
+    refuse_bundle(page, 2, 2, 0, 0, 16);
+    refuse_bundle(page, 4, 2, 0, 0, 24);
+    refuse_bundle(page, 4, 2, 0, 41, 24);
+    refuse_bundle(page, 4, 2, 3, 1, 17);
+    refuse_bundle(page, 4, 2, 2, 2, 17);
+    refuse_bundle(page, 4, 0, 0, 1, 6);
+    refuse_bundle(page, 4, 4, 0, 2, 6);
+    refuse_bundle(page, 4, 2, 0, 3, 6);
+    refuse_bundle(page, 4, 1, 0, 2, 18);
+    refuse_bundle(page, 4, 3, 0, 2, 19);
+    refuse_bundle(page, 4, 2, 8, 1, 20);
+    refuse_bundle(page, 4, 2, 7, 2, 20);
+    refuse_bundle(page, 4, 2, 5, 2, 20);
 }
 
 static void refuse(huz_ledger *ledger, uint32_t *orders) {
@@ -65,12 +96,13 @@ int main(void) {
             return 1;
         }
         refuse(&page->ledger, page->orders);
+        refuse_bundles(page);
         if (memcmp(&before, page, sizeof before)) {
             puts("refused: a lent byte has changed");
             failed = 1;
         }
     }
     if (!failed)
-        printf("refused: %d lent calls, nothing written by those refused\n", calls);
+        printf("refused: %d calls, nothing written by those refused\n", calls);
     return failed;
 }

@@ -34,6 +34,7 @@ static int is(const uint8_t *cells, int a, int b, int c) {
 /* the same mixes with a kind withdrawn between the first and the second, which is no puzzle edition */
 static void withdrawn(void) {
     const uint8_t upper[4] = {3, 0, 2, 1}, composition[4] = {2, 0, 1, 0}, given[5] = {2, 4, 1, 3, 5};
+    const uint32_t bundle[2] = {1021, 1028};
     uint8_t out[8], order[5];
     uint32_t orders[6] = {0};
 
@@ -59,6 +60,8 @@ static void withdrawn(void) {
     expect(is(claimed.composition, 2, 0, 1) && huz_entries(claimed.ledger, orders, 6) == 2, "huz_void and huz_entries, withdrawn");
     expect(is(huz_claim_in(&claimed.ledger, orders, 6, 3, 1014).composition, 1, 0, 2), "huz_claim_in, withdrawn");
     expect(is(huz_void_in(&claimed.ledger, orders, 6, 4).composition, 0, 0, 2) && claimed.ledger.entries == 4, "huz_void_in, withdrawn");
+    claimed = huz_claim_all(claimed.ledger, orders, 6, 5, bundle, 2);
+    expect(claimed.number == 0 && is(claimed.composition, 1, 0, 1) && claimed.ledger.entries == 6 && orders[5] == 1028, "huz_claim_all, withdrawn");
 }
 
 /* sheet orders by major index */
@@ -72,6 +75,31 @@ static void major(void) {
     expect(done.number == 0 && is(out, 2, 1, 0), "huz_major_code");
     done = huz_major_code(upper, 3, 3, other, 4, out, 3);
     expect(done.number == HUZ_MAJOR_INDEX_NOT_TOTAL && done.detail == 0 && is(out, 2, 1, 0), "huz_major_code of another major index");
+}
+
+/* a club order: two of three copies, then one too many, one order twice, none; a refused one answers the record that went in */
+static void club(void) {
+    const uint8_t upper[3] = {1, 1, 1};
+    const uint32_t bundle[3] = {1007, 1014, 1014};
+    uint32_t orders[4] = {5, 5, 5, 5};
+
+    huz_opened opened = huz_open(upper, 3, 1, orders, 4);
+    huz_claimed claimed = huz_claim_all(opened.ledger, orders, 4, 1, bundle, 3);
+    expect(claimed.number == HUZ_ORDER_STANDS_EARLIER && claimed.detail == 2 && claimed.serial == 0, "huz_claim_all with an order twice");
+    expect(claimed.ledger.entries == 0 && is(claimed.ledger.next, 1, 0, 0) && orders[0] == 5, "what is left by a refused huz_claim_all");
+    claimed = huz_claim_all(opened.ledger, orders, 4, 1, bundle, 2);
+    expect(claimed.number == 0 && claimed.detail == 0 && claimed.serial == 1 && is(claimed.composition, 1, 0, 0), "huz_claim_all");
+    expect(claimed.ledger.entries == 2 && claimed.ledger.sold == 2 && is(claimed.ledger.next, 0, 0, 1), "the record after huz_claim_all");
+    expect(orders[0] == 1007 && orders[1] == 1014 && orders[2] == 5, "the column after huz_claim_all");
+    huz_claimed second = huz_claim_all(claimed.ledger, orders, 4, 1, bundle, 1);
+    expect(second.number == HUZ_ALREADY_WRITTEN && second.detail == 1007 && second.ledger.entries == 2, "a second huz_claim_all");
+    const uint32_t more[2] = {1021, 1028};
+    second = huz_claim_all(claimed.ledger, orders, 4, 3, more, 2);
+    expect(second.number == HUZ_SERIAL_OUT_OF_RANGE && orders[2] == 5, "huz_claim_all past the last mix");
+    expect(huz_claim_all(claimed.ledger, orders, 4, 3, NULL, 0).number == HUZ_BUNDLE_LENGTH, "huz_claim_all of no orders");
+    claimed = huz_claim_all(claimed.ledger, orders, 4, 3, more, 1);
+    expect(claimed.number == 0 && claimed.ledger.entries == 3 && is(claimed.ledger.next, 0, 0, 1), "huz_claim_all of the last copy");
+    expect(orders[2] == 1021 && orders[3] == 5, "the column after the last copy");
 }
 
 int main(void) {
@@ -124,8 +152,9 @@ int main(void) {
     answer = huz_void_in(&lent, orders, 2, 2);
     expect(answer.number == 0 && answer.serial == 2 && orders[1] == 0 && lent.voided == 1 && lent.entries == 2, "huz_void_in");
     major();
+    club();
     withdrawn();
     if (!failed)
-        puts("smoke: 18 functions, 17 of them with a kind withdrawn");
+        puts("smoke: 19 functions, 18 of them with a kind withdrawn");
     return failed;
 }

@@ -129,16 +129,17 @@ class Draw:
     def opening(self):
         return "n", *inputs.opening(self.rng, ENTRIES)
 
-    def call(self):
-        record, column, serial, order = inputs.call(self.rng)
+    def call(self, which):
+        record, column, serial, orders = inputs.bundle(self.rng) if which == interleave.BUNDLE else inputs.call(self.rng)
         n, upper, r, lines, sold, voided, mix = record
-        return "k", n, upper, r, lines, sold, voided, mix, column, self.rng.choice((0, 1, 1, 2)), serial, order
+        return "k", n, upper, r, lines, sold, voided, mix, column, which, serial, orders if isinstance(orders, list) else [orders]
 
     def kinds(self):
         yield self.count
         yield from (lambda letter=letter: self.given(letter) for letter in "rsp")
         yield from (self.unrank, self.batch, lambda: self.to_order("o"), lambda: self.to_mix("i"))
-        yield from (self.table, self.opening, self.call, lambda: self.to_order("m"), lambda: self.to_mix("d", self.rng.choice(inputs.WAYS)))
+        yield from (self.table, self.opening, lambda: self.to_order("m"), lambda: self.to_mix("d", self.rng.choice(inputs.WAYS)))
+        yield from (lambda which=which: self.call(which) for which in range(len(interleave.WORDS)))
 
 
 def drawn(rng, count):
@@ -148,8 +149,8 @@ def drawn(rng, count):
         while left or wanted:
             while not fits(fields := draw()):
                 pass
-            wanted = numbers(fields[0]) if wanted is None else wanted
             line = command(*fields)
+            wanted = numbers(kind_of(line)) if wanted is None else wanted
             answer = withdrawn(line), answer_of(line)
             if left or answer in wanted:
                 yield line
@@ -162,7 +163,7 @@ def fits(fields):
     wide = [len(f) for f in rest if isinstance(f, (tuple, bytes))]
     if letter in "uboimd" and rest[-1] > LONGEST:
         return False
-    return max(wide, default=0) <= WIDEST and all(len(f) <= 40 for f in rest if isinstance(f, list))
+    return max(wide, default=0) <= WIDEST and all(len(f) <= 41 for f in rest if isinstance(f, list))
 
 
 def lists():
@@ -236,9 +237,10 @@ def called(read):
     n, upper, r = read.number(), read.list(), read.number()
     record = n, upper, r, read.number(), read.number(), read.number(), read.list()
     column, which = list(read.list()), read.number()
-    serial, order = read.number(), read.number()
+    serial, orders = read.number(), list(read.list())
     before = column[:ref.entries(record, column)]
-    answer, record, column = ref.call(record, column, interleave.WORDS[which], ((), (serial, order), (serial,))[which])
+    arguments = (), (serial, *orders[:1]), (serial,), (serial, orders)
+    answer, record, column = ref.call(record, column, interleave.WORDS[which], arguments[which])
     return [(len(before), before), answer, record, (len(column), column)]
 
 
@@ -247,7 +249,7 @@ def replayed(read):
     script, pool, rows = read.list(), read.list(), [ROOM] * read.number()
     calls = interleave.calls_of(script, pool)
     number, detail, record = ref.opening(ms, r, len(column))
-    if not number and (len(script) % 2 or len(rows) != interleave.ROW * len(calls)):
+    if not number and (len(script) % interleave.CALL or len(rows) != interleave.ROW * len(interleave.rows_of(script)) or calls is None):
         number, record = 13, ref.NO_RECORD
     if not number:
         paper = ref.Paper(ms, r)
@@ -275,19 +277,29 @@ ANSWERED_BY = {
 }
 
 
-# the calls that a letter stands for, by the function of the C interface, which says what numbers they answer
+# the calls that a command of a kind stands for, by the function of the C interface, which says what numbers they answer
 CALLS = {
     "c": ["huz_check"], "r": ["huz_rank"], "u": ["huz_unrank"], "s": ["huz_successor"], "p": ["huz_predecessor"], "b": ["huz_batch"],
     "o": ["huz_permutation"], "i": ["huz_inversions"], "m": ["huz_major_permutation"], "d": ["huz_major_code"], "n": ["huz_open"],
-    "k": ["huz_peek", "huz_claim", "huz_void"],
+    "k0": ["huz_peek"], "k1": ["huz_claim"], "k2": ["huz_void"], "k3": ["huz_claim_all"],
 }
+KINDS = [*(letter for letter in ANSWERED_BY if letter != "k"), *(kind for kind in CALLS if kind[0] == "k")]
 
 
-def numbers(letter):
-    """what numbers a letter's command can answer, each after whether a kind is withdrawn"""
-    if letter == "l":
+def kind_of(line):
+    """the letter of a command; of a call on a record also which call it is"""
+    read = Reader(line)
+    if read.letter != "k":
+        return read.letter
+    read.number(), read.list(), [read.number() for _ in range(4)], read.list(), read.list()
+    return f"k{read.number()}"
+
+
+def numbers(kind):
+    """what numbers a command of a kind can answer, each after whether a kind of tile is withdrawn"""
+    if kind == "l":
         return {(False, 13), *numbers("n")}
-    calls = CALLS.get(letter, ())
+    calls = CALLS.get(kind, ())
     return {(False, n) for name in calls for n in ref.ANSWERS[name]} | {(True, n) for name in calls for n in ref.WITHDRAWN[name]}
 
 
@@ -339,14 +351,14 @@ def checked():
         commands = f.read()
     with open(path("stdout"), encoding="ascii") as f:
         same = f.readlines() == answered(commands)
-    came_up = Counter((line[0], withdrawn(line), answer_of(line)) for line in commands.split("\n") if line)
+    came_up = Counter((kind_of(line), withdrawn(line), answer_of(line)) for line in commands.split("\n") if line)
     differences = [] if same else ["stdout is not what the reference says"]
-    for letter in ANSWERED_BY:
-        missing = sorted(answer for answer in numbers(letter) if not came_up[letter, *answer])
-        differences += [f"{letter} does not answer {number}{' with a kind withdrawn' * there}" for there, number in missing]
+    for kind in KINDS:
+        missing = sorted(answer for answer in numbers(kind) if not came_up[kind, *answer])
+        differences += [f"{kind} does not answer {number}{' with a kind withdrawn' * there}" for there, number in missing]
     print("\n".join(differences), end="\n" if differences else "")
-    for letter in CALLS:
-        print(f"{letter} with a kind withdrawn: answered", ", ".join(f"{n} {came_up[letter, t, n]} times" for t, n in sorted(numbers(letter)) if t))
+    for kind in CALLS:
+        print(f"{kind} with a kind withdrawn: answered", ", ".join(f"{n} {came_up[kind, t, n]} times" for t, n in sorted(numbers(kind)) if t))
     print(f"vectors: {came_up.total()} commands, {len(differences)} differences")
     return 1 if differences else 0
 

@@ -1,10 +1,16 @@
-//! A peek, a claim and a void: each checks the whole record, with one pass over the lines.
+//! A peek, a claim, a void and a claim of several: each checks the whole record, with one pass over the lines.
 use super::count::{fill, memory, shape};
 use super::order::{advance, write};
 use super::types::*;
 
 /// Lines of which the pass knows only whether an order stands among them.
 const BLOCK: usize = 1024;
+
+/// The most orders of a bundle.
+const MOST: usize = 40;
+
+/// Slots that a bundle's orders mark: an order's is its remainder.
+const SLOTS: usize = 8192;
 
 /// How many lines are 0: the halves at a time, so that the speed of so short a loop does not hang on where the compiler puts it.
 fn zeros(lines: &[u32]) -> u64 {
@@ -34,6 +40,67 @@ fn zeros_and_place(lines: &[u32], order: u32) -> (u64, usize) {
     }
     let rest = &lines[first..];
     (zeros as u64, first + rest.iter().position(|&o| o == order).unwrap_or(rest.len()))
+}
+
+fn slot(order: u32) -> usize {
+    order as usize % SLOTS
+}
+
+/// How many orders of a bundle stand before the first that is 0 or that the bundle has already, and why that one is refused: 20 with the place, from
+/// 0, that it has already. The slots of those before it are marked.
+fn mark(bundle: &[u32], marks: &mut [u8; SLOTS]) -> (usize, Refused) {
+    for (i, &order) in bundle.iter().enumerate() {
+        if order == 0 {
+            return (i, (17, 0));
+        }
+        let mark = &mut marks[slot(order)];
+        if *mark != 0
+            && let Some(at) = bundle[..i].iter().position(|&o| o == order)
+        {
+            return (i, (20, at as u64));
+        }
+        *mark = 1;
+    }
+    (bundle.len(), (0, 0))
+}
+
+/// How many lines are 0; the first of the marked orders that stands among the lines, or their number, and its lowest place. Each line is tested for a
+/// mark, with EIGHTS eight of them at a time, and only a marked line is compared, with the orders before the first that was found.
+fn zeros_and_first<const EIGHTS: bool>(lines: &[u32], orders: &[u32], marks: &[u8; SLOTS]) -> (u64, (usize, usize)) {
+    let (mut zeros, mut first, mut place) = (0u32, orders.len(), lines.len());
+    let mut search = |from: usize, few: &[u32]| {
+        for (i, &o) in few.iter().enumerate() {
+            if marks[slot(o)] != 0
+                && let Some(at) = orders[..first].iter().position(|&b| b == o)
+            {
+                (first, place) = (at, from + i);
+            }
+        }
+    };
+    for (i, block) in lines.chunks(BLOCK).enumerate() {
+        for &o in block {
+            zeros += (o == 0) as u32;
+        }
+        let (eights, rest) = if EIGHTS { block.as_chunks::<8>() } else { (&[][..], block) };
+        for (j, few) in eights.iter().enumerate() {
+            if few.iter().fold(0, |any, &o| any | marks[slot(o)]) != 0 {
+                search(i * BLOCK + j * 8, few);
+            }
+        }
+        search(i * BLOCK + eights.len() * 8, rest);
+    }
+    (zeros as u64, (first, place))
+}
+
+/// The same by a pass for each order, until one stands there.
+fn zeros_and_first_by_passes(lines: &[u32], orders: &[u32]) -> (u64, (usize, usize)) {
+    for (i, &order) in orders.iter().enumerate() {
+        let (zeros, place) = zeros_and_place(lines, order);
+        if place < lines.len() {
+            return (zeros, (i, place));
+        }
+    }
+    (zeros(lines), (orders.len(), lines.len()))
 }
 
 /// N and what the pass finds besides the zeros, or 16.
@@ -131,4 +198,63 @@ pub fn claim(ledger: Ledger, orders: &mut [u32], serial: u64, order: u32) -> Cla
 pub fn void(ledger: Ledger, orders: &mut [u32], serial: u64) -> Claimed {
     let placed = register(&ledger, orders, |lines| (zeros(lines), ())).and_then(|(count, ())| place(&ledger, orders, count, serial));
     enter(placed, ledger, orders, 0)
+}
+
+/// The refusal of the first of a bundle's takes that would fail. The pass is handed the lines, and the orders before the first that is wrong by
+/// itself, with their marks.
+#[inline(always)]
+fn takes(
+    ledger: &Ledger,
+    orders: &[u32],
+    serial: u64,
+    bundle: &[u32],
+    pass: impl Fn(&[u32], &[u32], &[u8; SLOTS]) -> (u64, (usize, usize)),
+) -> Result<(), Refused> {
+    if bundle.is_empty() || bundle.len() > MOST {
+        register(ledger, orders, |lines| (zeros(lines), ()))?;
+        return Err((24, 0));
+    }
+    let mut marks = [0; SLOTS];
+    let (sound, own) = mark(bundle, &mut marks);
+    let (count, (found, at)) = register(ledger, orders, |lines| pass(lines, &bundle[..sound], &marks))?;
+    if bundle[0] == 0 {
+        return Err((17, 0));
+    }
+    place(ledger, orders, count, serial)?;
+    let room = (count - ledger.entries).min(bundle.len() as u64) as usize;
+    if found < sound.min(room) {
+        return Err((20, at as u64 + 1));
+    }
+    if sound < room {
+        return Err(if own.0 == 20 { (20, serial + own.1) } else { own });
+    }
+    if room < bundle.len() { Err((if bundle[room] == 0 { 17 } else { 6 }, 0)) } else { Ok(()) }
+}
+
+/// Each order in the next line, where nothing is refused.
+#[inline(always)]
+fn enter_all(placed: Result<(), Refused>, mut ledger: Ledger, orders: &mut [u32], serial: u64, bundle: &[u32]) -> Claimed {
+    if let Err((number, detail)) = placed {
+        return Claimed { number, detail, ledger, ..Claimed::default() };
+    }
+    let (composition, n) = (ledger.next, ledger.bounds.parts);
+    orders[ledger.entries as usize..][..bundle.len()].copy_from_slice(bundle);
+    ledger.entries += bundle.len() as u64;
+    ledger.sold += bundle.len() as u64;
+    for _ in bundle {
+        advance(&ledger.bounds.upper[..n], ledger.bounds.total as usize, &mut ledger.next[..n], 0);
+    }
+    Claimed { number: 0, detail: 0, serial, composition, ledger }
+}
+
+#[inline(never)]
+pub fn claim_all<const EIGHTS: bool>(ledger: Ledger, orders: &mut [u32], serial: u64, bundle: &[u32]) -> Claimed {
+    let placed = takes(&ledger, orders, serial, bundle, zeros_and_first::<EIGHTS>);
+    enter_all(placed, ledger, orders, serial, bundle)
+}
+
+#[inline(never)]
+pub fn claim_all_by_passes(ledger: Ledger, orders: &mut [u32], serial: u64, bundle: &[u32]) -> Claimed {
+    let placed = takes(&ledger, orders, serial, bundle, |lines, orders, _| zeros_and_first_by_passes(lines, orders));
+    enter_all(placed, ledger, orders, serial, bundle)
 }

@@ -20,6 +20,7 @@
     except Refused as refused:
         if refused.number == Number.ALREADY_WRITTEN:
             print(refused)                  # serial 1 is already written, for order 1003
+    register.claim_all(2, [1014, 1021])     # a club order: serials 2 and 3, for these two orders, or neither
 
 A kind that is withdrawn has the ceiling 0. An `Edition` never changes. A `Register` may be shared by threads: its calls come one after another. A
 call that cannot be done raises `Refused` and changes nothing. The engine behind it is proved; this package only hands values over to it

@@ -78,6 +78,7 @@ FUNCTIONS: dict[str, tuple[Any, list[Any]]] = {
     "huz_peek": (Peeked, [Ledger] + ORDERS),
     "huz_claim": (Claimed, [Ledger] + ORDERS + [c_uint64, c_uint32]),
     "huz_void": (Claimed, [Ledger] + ORDERS + [c_uint64]),
+    "huz_claim_all": (Claimed, [Ledger] + ORDERS + [c_uint64] + ORDERS),
     "huz_claim_in": (Answer, [POINTER(Ledger)] + ORDERS + [c_uint64, c_uint32]),
     "huz_void_in": (Answer, [POINTER(Ledger)] + ORDERS + [c_uint64]),
     "huz_entries": (c_uint64, [Ledger] + ORDERS),
@@ -89,7 +90,7 @@ def _dotted(version: int) -> str:
 
 
 def version_of(library: ctypes.CDLL) -> str:
-    """the version of a library, as 0.12.0"""
+    """the version of a library, as 0.13.0"""
     return _dotted(library.huz_version())
 
 

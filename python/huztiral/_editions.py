@@ -4,12 +4,14 @@ from __future__ import annotations
 import operator
 import threading
 from ctypes import c_uint8, c_uint32
+from itertools import islice
 from typing import Any, Callable, Iterable, NamedTuple, SupportsIndex
 
 from ._c import C, Ledger
 from ._refusals import Number, Refused, sentence
 
 _MOST_LINES = 1_000_000  # of a register
+_MOST_ORDERS = 40  # of a bundle
 
 
 def _fits(value: SupportsIndex, bits: int) -> int:
@@ -210,29 +212,47 @@ class Register:
 
     def peek(self) -> Look:
         """a look: the next serial, its mix, and the kinds that gain and lose a tile. Nothing is reserved: another worker may take it first."""
-        answer = self._call(C.huz_peek)
+        answer = self._edition._accepted(self._answer(C.huz_peek))
         return Look(answer.serial, self._edition._cells(answer), answer.gain, answer.loss)
 
     def claim(self, serial: SupportsIndex, order: SupportsIndex) -> tuple[int, list[int]]:
         """a take: the serial is sold to this order number, if it is the next one; the answer is the serial and its mix"""
         serial, order = _fits(serial, 64), _fits(order, 32)
-        return self._written(C.huz_claim_in, serial, order, serial=serial, order=order)
+        return self._entered(self._answer(C.huz_claim_in, serial, order), serial=serial, order=order)
 
     def void(self, serial: SupportsIndex) -> tuple[int, list[int]]:
         """a spoil: the serial is written off, if it is the next one, and its line is 0; the answer is the serial and its mix"""
         serial = _fits(serial, 64)
-        return self._written(C.huz_void_in, serial, serial=serial)
+        return self._entered(self._answer(C.huz_void_in, serial), serial=serial)
+
+    def claim_all(self, serial: SupportsIndex, orders: Iterable[SupportsIndex]) -> tuple[int, list[int]]:
+        """a club order: consecutive serials from `serial` on, one for each of 1 to 40 order numbers, or nothing
+
+        Where claims of these serials one after another would all be accepted, it does what they do, and the answer is the first serial and its mix.
+        Else it is refused as the first of them that would fail, and no line is written. The order numbers are any iterable of whole numbers; where
+        there are more than 40, it is read no further than that shows.
+        """
+        serial = _fits(serial, 64)
+        bundle = [_fits(order, 32) for order in islice(orders, _MOST_ORDERS + 1)]
+        answer = self._answer(C.huz_claim_all, serial, (c_uint32 * len(bundle))(*bundle), len(bundle))
+        known = {"serial": serial, "copies": len(bundle), "past": 1 <= serial <= self._edition.count, "size": "more" if bundle else "none"}
+        if answer.number == Number.ORDER_STANDS_EARLIER:  # with the serial of a line, or with one that the bundle asked for
+            known["twice"] = answer.detail >= serial
+            known["order"] = bundle[answer.detail - serial] if known["twice"] else self._orders[answer.detail - 1]
+        return self._entered(answer, **known)
 
     def entries(self) -> list[int]:
         """the order numbers of the lines so far, that of serial 1 first; 0 for a spoilt one"""
         with self._lock:
             return self._orders[:C.huz_entries(self._ledger, self._orders, len(self._orders))]
 
-    def _written(self, function: Callable[..., Any], *arguments: int, **known: int) -> tuple[int, list[int]]:
-        answer = self._call(function, *arguments, **known)
-        return answer.serial, self._edition._cells(answer)
+    def _entered(self, answer: Any, **known: Any) -> tuple[int, list[int]]:
+        """serial and mix of an answer, if it is none that refuses; known is what the call was given"""
+        accepted = self._edition._accepted(answer, **known)
+        return accepted.serial, self._edition._cells(accepted)
 
-    def _call(self, function: Callable[..., Any], *arguments: int, **known: int) -> Any:
+    def _answer(self, function: Callable[..., Any], *arguments: Any) -> Any:
         with self._lock:  # C is called without the interpreter's lock
             answer = function(self._ledger, self._orders, len(self._orders), *arguments)
-        return self._edition._accepted(answer, **known)
+            self._ledger = getattr(answer, "ledger", self._ledger)  # that of a bundle comes back; a lent one is updated where it lies
+        return answer

@@ -24,7 +24,7 @@ class Number(IntEnum):
     TOTAL_OUT_OF_RANGE = 3, "the total is over 255"
     TOTAL_ABOVE_SUM = 4, "the total is over the sum of the ceilings"
     COUNT_TOO_LARGE = 5, "the edition has more than 9,223,372,036,854,775,807 mixes"
-    SERIAL_OUT_OF_RANGE = 6, "the serial is 0 or over the number of mixes, or a tray runs past the last mix"
+    SERIAL_OUT_OF_RANGE = 6, "the serial is 0 or over the number of mixes, or a tray or a bundle runs past the last mix"
     COMPOSITION_LENGTH = 7, "the mix given does not have one count for each kind"
     NOT_A_COMPOSITION = 8, "a count of the mix given is over its ceiling, or their sum is not the total"
     NO_NEIGHBOUR = 9, "no mix follows the last, and none stands before the first"
@@ -38,10 +38,11 @@ class Number(IntEnum):
     NO_ORDER = 17, "the order number is 0"
     ALREADY_WRITTEN = 18, "the serial is already written", "the order number on its line, 0 if it is spoilt"
     ABOVE_NEXT = 19, "the serial is above the next one", "the next serial"
-    ORDER_STANDS_EARLIER = 20, "the order number stands on an earlier line", "the lowest serial that it has"
+    ORDER_STANDS_EARLIER = 20, "the order number stands earlier, on a line or in the bundle", "the lowest serial that it has there"
     ALL_WRITTEN = 21, "every serial is written"
     NOT_A_REQUEST = 22, "the slip does not have the form that the listing program reads"
     MAJOR_INDEX_NOT_TOTAL = 23, "the major index of the sheet order given is not the total"
+    BUNDLE_LENGTH = 24, "the bundle has no orders, or more than 40"
 
 
 # What is said where the arguments of the call are known; for other numbers the meaning is said.
@@ -63,6 +64,7 @@ _SENTENCES = {
     Number.ABOVE_NEXT: "serial {serial} is above the next serial, {detail}",
     Number.ORDER_STANDS_EARLIER: "order {order} already has serial {detail}",
     Number.MAJOR_INDEX_NOT_TOTAL: "{given} has another major index than the total, {total}",
+    Number.BUNDLE_LENGTH: "a bundle has 1 to 40 orders, and this one has {size}",
 }
 
 
@@ -73,6 +75,8 @@ def sentence(number: Number, detail: int, known: dict[str, object]) -> str:
         form = "serial {serial} is already written, as spoilt"
     elif number is Number.SERIAL_OUT_OF_RANGE and known.get("past"):
         form = "{copies} copies from serial {serial} on run past the last serial, {count}"
+    elif number is Number.ORDER_STANDS_EARLIER and known.get("twice"):
+        form = "order {order} stands twice in the bundle, first for serial {detail}"
     return form.format(detail=detail, **known)
 
 

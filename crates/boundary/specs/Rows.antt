@@ -1,7 +1,7 @@
--- Document 01, "Boundary copies": the table, with the pairs of document 02, (i), and rows for the withdrawn kinds of (ii) and the permutations by
--- major index of (iii).
-use mathlib.Core.List.{List, [], _∷_}
-use Prim.Native.Nat.{ℕ}
+-- Document 01, "Boundary copies": the table, with the pairs of document 02, (i), and rows for the withdrawn kinds of (ii), the permutations by
+-- major index of (iii) and the bundles of (v).
+use mathlib.Core.List.{List, [], _∷_, map}
+use Prim.Native.Nat.{ℕ, _+_}
 use lib.ListN.{replicate}
 use Rattle.walsh.specs.Order.{threeTwos, seven}
 use Rattle.walsh.specs.Withdrawn.{gapped}
@@ -9,12 +9,16 @@ use Rattle.mahonian.specs.Staircase.{staircase}
 use Rattle.permutation.specs.Reading.{byInversions}
 use Rattle.major.specs.Major.{upTo}
 use Rattle.major.specs.Reading.{byMajor}
-use Rattle.model.specs.Model.{peek, claim, void}
+use Rattle.model.specs.Model.{peek, claim, void, claim-all}
 use Rattle.boundary.specs.Row.{Claim, lists, counts, refused, serial, next, back, pairs, alone, answers}
 use Rattle.boundary.specs.Row.{permutations, reads, unread, noPuzzle, Row}
 
 abbrev row : List ℕ → ℕ → Claim → Row
 row ms r what = record { bounds = ms; total = r; claim = what }
+
+-- the orders 1001 to 1000 + n
+abbrev ordersTo : ℕ → List ℕ
+ordersTo n = map (λ (k : ℕ). 1000 + k) (upTo n)
 
 unfoldable pub rows : List Row
 rows =
@@ -96,6 +100,46 @@ rows =
     ∷ (claim 3 1021, 18 ∷ 1014 ∷ [], 0, 0)
     ∷ (claim 4 1021, 6 ∷ [], 0, 0)
     ∷ (void 4, 6 ∷ [], 0, 0)
+    ∷ []))
+    -- document 02, (v): bundles on 2 2 2 with total 3
+    ∷ row threeTwos 3
+    (answers
+    -- 24 before 6; then 17, 6, 19 of the first take; of a later one 20, with the serial the order would have had, and 17
+    ((claim-all 0 [], 24 ∷ [], 0, 0)
+    ∷ (claim-all 1 (0 ∷ 1007 ∷ []), 17 ∷ [], 0, 0)
+    ∷ (claim-all 0 (1007 ∷ []), 6 ∷ [], 0, 0)
+    ∷ (claim-all 8 (1007 ∷ 1007 ∷ []), 6 ∷ [], 0, 0)
+    ∷ (claim-all 2 (1007 ∷ 1014 ∷ []), 19 ∷ 1 ∷ [], 0, 0)
+    ∷ (claim-all 1 (1007 ∷ 1014 ∷ 1007 ∷ []), 20 ∷ 1 ∷ [], 0, 0)
+    ∷ (claim-all 1 (1007 ∷ 0 ∷ 1007 ∷ []), 17 ∷ [], 0, 0)
+    -- none has written a line; two copies, and the first of two written already
+    ∷ (peek, 0 ∷ 0 ∷ 1 ∷ 2 ∷ 1 ∷ 0 ∷ [], 0, 0)
+    ∷ (claim-all 1 (1007 ∷ 1014 ∷ []), 0 ∷ 0 ∷ 1 ∷ 2 ∷ 1 ∷ 0 ∷ [], 0, 0)
+    ∷ (claim-all 2 (1021 ∷ []), 18 ∷ 1014 ∷ [], 0, 0)
+    ∷ (peek, 0 ∷ 0 ∷ 3 ∷ 0 ∷ 2 ∷ 1 ∷ [], 3, 1)
+    -- 20 of a line written before, and of the bundle's own first
+    ∷ (claim-all 3 (1021 ∷ 1014 ∷ []), 20 ∷ 2 ∷ [], 0, 0)
+    ∷ (claim-all 3 (1021 ∷ 1028 ∷ 1028 ∷ []), 20 ∷ 4 ∷ [], 0, 0)
+    ∷ (void 3, 0 ∷ 0 ∷ 3 ∷ 0 ∷ 2 ∷ 1 ∷ [], 0, 0)
+    -- five orders for the four that are left: 6, before 20 and behind 17; 20 where it comes earlier
+    ∷ (claim-all 4 (1021 ∷ 1028 ∷ 1035 ∷ 1042 ∷ 1049 ∷ []), 6 ∷ [], 0, 0)
+    ∷ (claim-all 4 (1021 ∷ 1028 ∷ 1035 ∷ 1042 ∷ 1007 ∷ []), 6 ∷ [], 0, 0)
+    ∷ (claim-all 4 (1021 ∷ 1028 ∷ 1035 ∷ 1042 ∷ 0 ∷ []), 17 ∷ [], 0, 0)
+    ∷ (claim-all 4 (1021 ∷ 1028 ∷ 1007 ∷ 1042 ∷ 0 ∷ []), 20 ∷ 1 ∷ [], 0, 0)
+    ∷ (claim-all 4 (1021 ∷ 1028 ∷ 1035 ∷ 1042 ∷ []), 0 ∷ 0 ∷ 4 ∷ 1 ∷ 1 ∷ 1 ∷ [], 0, 0)
+    ∷ (peek, 21 ∷ [], 0, 0)
+    ∷ (claim-all 7 (1049 ∷ []), 18 ∷ 1042 ∷ [], 0, 0)
+    ∷ (claim-all 8 (1049 ∷ []), 6 ∷ [], 0, 0)
+    ∷ []))
+    -- bundles of 41 and of 40, on an edition of 45 copies, whose last 5 are then too few for 6 orders
+    ∷ row (8 ∷ 8 ∷ 8 ∷ []) 8
+    (answers
+    ((claim-all 1 (ordersTo 41), 24 ∷ [], 0, 0)
+    ∷ (claim-all 1 (ordersTo 40), 0 ∷ 0 ∷ 1 ∷ 8 ∷ 0 ∷ 0 ∷ [], 0, 0)
+    ∷ (claim-all 41 (1041 ∷ 1042 ∷ 1043 ∷ 1044 ∷ 1045 ∷ 1046 ∷ []), 6 ∷ [], 0, 0)
+    ∷ (claim-all 41 (1041 ∷ 1042 ∷ 1043 ∷ 1044 ∷ 1040 ∷ []), 20 ∷ 40 ∷ [], 0, 0)
+    ∷ (claim-all 41 (1041 ∷ 1042 ∷ 1043 ∷ 1044 ∷ 1045 ∷ []), 0 ∷ 0 ∷ 41 ∷ 1 ∷ 1 ∷ 6 ∷ [], 0, 0)
+    ∷ (peek, 21 ∷ [], 0, 0)
     ∷ []))
     -- document 02, (ii): the copies A to C with the second kind of 2 0 2 2 withdrawn; the kinds of a pair are the edition's
     ∷ row gapped 3

@@ -25,7 +25,7 @@ ghost use Rattle.model.specs.Record.{opening, peeking, calling, entriesOf};
 ghost use Rattle.engine.specs.Ranks.{rankedOf};
 ghost use Rattle.engine.specs.Version.{version};
 
-const VERSION: u32 = 1200;
+const VERSION: u32 = 1300;
 
 // A serial, or a refusal's number and detail with serial 0.
 #[repr(C)]
@@ -187,6 +187,18 @@ pub extern "C" fn huz_void(ledger: Ledger, orders: &mut [u32], serial: u64) -> C
     ensures { λ r. ⌜ (r, now (orders .exit)) ≡ calling ledger (now (orders .entry)) (Call.void serial) ⌝ }
 {
     ledger::void(ledger, orders, serial)
+}
+
+#[no_mangle]
+pub extern "C" fn huz_claim_all(
+    ledger: Ledger,
+    orders: &mut [u32],
+    serial: u64,
+    bundle: &[u32],
+) -> Claimed
+    ensures { λ r. ⌜ (r, now (orders .exit)) ≡ calling ledger (now (orders .entry)) (Call.claim-all serial (now (bundle .entry))) ⌝ }
+{
+    ledger::claim_all(ledger, orders, serial, bundle)
 }
 
 // ---- on a record that is lent

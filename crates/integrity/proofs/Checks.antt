@@ -19,15 +19,17 @@ use Rattle.rank.specs.Locate.{nearest, locateRecordOf}
 use Rattle.rank.specs.declared.Located.{Located}
 use Rattle.rank.proofs.Locations.{record-refused, record-accepted}
 use Rattle.model.specs.Basics.{all, firstPlace}
-use Rattle.model.specs.Entry.{Entry, Lent, sameOrder, room, soldIn, voidedIn}
+use Rattle.model.specs.Entry.{Entry, Lent, entriesIn, sameOrder, room, soldIn, voidedIn}
 use Rattle.model.specs.Printing.{Printing, size, capacity, serialAt, nextComposition}
 use Rattle.model.specs.Record.{upperOf, printingOf, written, consistent}
 use Rattle.model.specs.declared.Ledger.{Ledger}
 use Rattle.model.proofs.Compositions.{compositions-at}
 use Rattle.model.proofs.Records.{few-parts, each, one-fails, sold-of}
-use Rattle.integrity.specs.Examine.{frameTests, framed, seenBy, foundBy}
+use Rattle.integrity.specs.Again.{firstAgain, placeAgain}
+use Rattle.integrity.specs.Examine.{frameTests, framed, seenBy, foundBy, metBy}
 use Rattle.integrity.specs.declared.Seen.{Seen}
 use Rattle.integrity.specs.declared.Found.{Found}
+use Rattle.integrity.specs.declared.Met.{Met}
 
 -- the composition of the nearest serial to the next is that of the next, of serial N when full
 pub nearest-next : (p : Printing) (e : ℕ) → nearest (p .bounds) (p .total) (e + 1) ≡ nextComposition p e
@@ -92,6 +94,36 @@ pub found-made : (r : Ledger) (col : Lent) (o : Entry) {b : Bool} {n k : ℕ} �
     → record { fits = true; count = n; place = k } ≡ foundBy b r col o
 unfolding foundBy
 found-made r col o t en ek = rw (t, en, ek)
+
+module _ (r : Ledger) (col es : Lent) {b : Bool} {s : Met} where
+  pub met-fits : s ≡ metBy b r col es → s .fits ≡ b
+  unfolding metBy
+  met-fits e = ap (λ (x : Met). x .fits) e
+
+  module _ (t : b ≡ true) (e : s ≡ metBy b r col es) where
+    pub met-count : s .count ≡ size (printingOf r)
+    unfolding metBy
+    met-count = ap (λ (x : Met). x .count) e ∙ rw t
+
+    pub met-first : s .first ≡ firstAgain (written r col) (entriesIn es)
+    unfolding metBy
+    met-first = ap (λ (x : Met). x .first) e ∙ rw t
+
+    pub met-place : s .place ≡ placeAgain (written r col) (entriesIn es)
+    unfolding metBy
+    met-place = ap (λ (x : Met). x .place) e ∙ rw t
+
+  pub met-none : b ≡ false → s ≡ record { fits = false; count = 0; first = 0; place = 0 } → s ≡ metBy b r col es
+  unfolding metBy
+  met-none f e = e ∙ rw f
+
+pub met-made : (r : Ledger) (col es : Lent) {b : Bool} {n k p : ℕ} → b ≡ true
+    → n ≡ size (printingOf r)
+    → k ≡ firstAgain (written r col) (entriesIn es)
+    → p ≡ placeAgain (written r col) (entriesIn es)
+    → record { fits = true; count = n; first = k; place = p } ≡ metBy b r col es
+unfolding metBy
+met-made r col es t en ek ep = rw (t, en, ek, ep)
 
 -- ---- the tests that look at no line
 

@@ -1,3 +1,5 @@
 pub mod Cells
 pub mod Places
 pub mod Checks
+pub mod Again
+pub mod Sifting

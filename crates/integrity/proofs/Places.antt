@@ -59,7 +59,7 @@ module _ {A : Type 0} (test : A → Bool) where
 
   -- ---- places
 
-  none-passes : (l : List A) → howMany test l ≡ 0 → firstPlace test l ≡ length l
+  pub none-passes : (l : List A) → howMany test l ≡ 0 → firstPlace test l ≡ length l
   none-passes [] e = refl
   none-passes (x ∷ l) e =
       on-test (test x)

@@ -8,12 +8,14 @@ use Rattle.bounds.specs.Refusal.{firstRefusal}
 use Rattle.bounds.specs.Edition.{recordChecks, cellsOf}
 use Rattle.bounds.specs.Places.{mostEntries}
 use Rattle.model.specs.Basics.{all, firstPlace}
-use Rattle.model.specs.Entry.{Entry, Lent, sameOrder}
+use Rattle.model.specs.Entry.{Entry, Lent, entriesIn, sameOrder}
 use Rattle.model.specs.Printing.{size, capacity, nextComposition}
 use Rattle.model.specs.Record.{upperOf, printingOf, written}
 use Rattle.model.specs.declared.Ledger.{Ledger}
 use Rattle.integrity.specs.declared.Seen.{Seen}
 use Rattle.integrity.specs.declared.Found.{Found}
+use Rattle.integrity.specs.declared.Met.{Met}
+use Rattle.integrity.specs.Again.{firstAgain, placeAgain}
 
 -- the tests that look at no line, of a column with room for n
 abbrev pub frameTests : Ledger → ℕ → List Bool
@@ -41,4 +43,14 @@ foundBy fits r col e =
       fits = fits;
       count = cond fits (size (printingOf r)) 0;
       place = cond fits (firstPlace (sameOrder e) (written r col)) 0;
+    }
+
+-- the same, with the first order of a bundle that stands in an earlier line, and that line's place
+unfoldable pub metBy : Bool → Ledger → Lent → Lent → Met
+metBy fits r col es =
+    record {
+      fits = fits;
+      count = cond fits (size (printingOf r)) 0;
+      first = cond fits (firstAgain (written r col) (entriesIn es)) 0;
+      place = cond fits (placeAgain (written r col) (entriesIn es)) 0;
     }

@@ -1,5 +1,6 @@
 // Number 16 (document 01, "Refusals", place 'register calls'): whether a record and a column belong together, by one pass over the lines written,
-// which finds the lowest place of an order too where one is looked for.
+// which finds the lowest place of an order too where one is looked for, or the first of several that stands in an earlier line.
+mod meet;
 mod pass;
 
 use bounds::Bounds;
@@ -12,7 +13,7 @@ ghost use Rattle.walsh.specs.Serial.{same};
 ghost use Rattle.walsh.specs.Tests.{both};
 ghost use Rattle.bounds.specs.Edition.{cellsOf};
 ghost use Rattle.model.specs.Record.{upperOf, consistent};
-ghost use Rattle.integrity.specs.Examine.{framed, seenBy, foundBy};
+ghost use Rattle.integrity.specs.Examine.{framed, seenBy, foundBy, metBy};
 
 // Whether a record and a column belong together, and N where they do; elsewhere 0.
 pub struct Seen {
@@ -24,6 +25,15 @@ pub struct Seen {
 pub struct Found {
     pub fits: bool,
     pub count: u64,
+    pub place: u64,
+}
+
+// The same, and the first order of a bundle that stands in an earlier line, by its place in the bundle, with the lowest such line, by its place: the
+// number of orders and of all lines where none does. The earlier lines are those written and the orders before it.
+pub struct Met {
+    pub fits: bool,
+    pub count: u64,
+    pub first: usize,
     pub place: u64,
 }
 
@@ -78,6 +88,17 @@ fn unfound() -> Found
     Found {
         fits: false,
         count: 0,
+        place: 0,
+    }
+}
+
+fn unmet() -> Met
+    ensures { λ r. ⌜ r ≡ record { fits = false; count = 0; first = 0; place = 0 } ⌝ }
+{
+    Met {
+        fits: false,
+        count: 0,
+        first: 0,
         place: 0,
     }
 }
@@ -161,5 +182,26 @@ pub fn examine_for(ledger: Ledger, orders: &[u32], order: u32) -> Found
         fits: true,
         count: framed.count,
         place: passed.place as u64,
+    }
+}
+
+// The same, and the first order of a bundle that stands in an earlier line.
+pub fn examine_all(ledger: Ledger, orders: &[u32], bundle: &[u32]) -> Met
+    ensures { λ r. ⌜ r ≡ metBy (consistent ledger (now (orders .entry))) ledger (now (orders .entry)) (now (bundle .entry)) ⌝ }
+{
+    let tested = frame(ledger, orders.len());
+    if !tested.fits {
+        return unmet();
+    }
+    let lines = ledger.entries as usize;
+    let swept = meet::meet(&orders[..lines], bundle);
+    if !counted(ledger, swept.zeros) {
+        return unmet();
+    }
+    Met {
+        fits: true,
+        count: tested.count,
+        first: swept.first,
+        place: swept.place as u64,
     }
 }

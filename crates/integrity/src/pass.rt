@@ -9,13 +9,13 @@ ghost use Rattle.bounds.specs.Places.{mostEntries};
 ghost use Rattle.model.specs.Basics.{howMany, firstPlace};
 ghost use Rattle.model.specs.Entry.{voidedIn, sameOrder};
 
-// So many lines are counted at a time where an order is looked for. Only the first of these blocks that has the order is searched for its place.
-const BLOCK: usize = 1024;
+// So many lines are counted at a time where an order is looked for. Of one order only the first block that has it is searched for its place.
+pub(crate) const BLOCK: usize = 1024;
 
 // How many lines of a block are 0, and how many are the order.
-struct Counts {
-    zeros: u32,
-    hits: u32,
+pub(crate) struct Counts {
+    pub(crate) zeros: u32,
+    pub(crate) hits: u32,
 }
 
 // How many lines are 0, and the lowest place of the order; their number where it does not stand there.
@@ -61,7 +61,7 @@ pub(crate) fn zeros(lines: &[u32]) -> u64
     voided as u64
 }
 
-fn count(block: &[u32], order: u32) -> Counts
+pub(crate) fn count(block: &[u32], order: u32) -> Counts
     requires { ⌜ length (now block) ≤ mostEntries ⌝ }
     ensures { λ r. ⌜ (r .zeros ≡ voidedIn (now (block .entry))) × (r .hits ≡ howMany (sameOrder order) (now (block .entry))) ⌝ }
 {
@@ -78,7 +78,7 @@ fn count(block: &[u32], order: u32) -> Counts
 }
 
 // The lowest place of an order that does not stand among the first `clear` lines.
-fn search(lines: &[u32], clear: usize, order: u32) -> usize
+pub(crate) fn search(lines: &[u32], clear: usize, order: u32) -> usize
     requires { ⌜ (clear ≤ length (now lines)) × (firstPlace (sameOrder order) (take clear (now lines)) ≡ clear) ⌝ }
     ensures { λ r. ⌜ r ≡ firstPlace (sameOrder order) (now (lines .entry)) ⌝ }
 {

@@ -1,17 +1,20 @@
-// The ledger (document 01, "The register"): open, peek, claim and void, on a record by value and an order column that the caller lends. What a
-// list of such calls guarantees is `from-opening` in crate `model`, proofs/Whole.antt; crate `replay` runs a whole list under it.
+// The ledger (document 01, "The register"): open, peek, claim, void, and the claim of several (document 02, (v)), on a record by value and an order
+// column that the caller lends. What a list of such calls guarantees is `from-opening` in crate `model`, proofs/Whole.antt; crate `replay` runs a whole
+// list under it.
 use model::Answer;
 use model::Claimed;
 use model::Ledger;
 use model::Opened;
 use model::Peeked;
+use step::batch::stride;
 ghost use mathlib.Core.Path.{_≡_};
-ghost use mathlib.Core.Bool.{true};
 ghost use Prim.Native.Nat.{_+_, _≤_, _<_};
+ghost use lib.ListN.{length};
+ghost use Rattle.bounds.specs.Places.{mostEntries};
 ghost use Rattle.model.specs.Printing.{size, nextComposition};
 ghost use Rattle.model.specs.Model.{Call};
-ghost use Rattle.model.specs.Record.{printingOf, blankLedger, opening, consistent, peeking, calling, entriesOf};
-ghost use Rattle.ledger.specs.Entering.{entering};
+ghost use Rattle.model.specs.Record.{printingOf, blankLedger, opening, peeking, calling, entriesOf};
+ghost use Rattle.ledger.specs.Counting.{counting};
 
 // ---- opening
 
@@ -62,44 +65,44 @@ pub fn open(upper: &[u8], total: u32, orders: &[u32]) -> Opened
     }
 }
 
-// ---- what an accepted claim or void writes
+// ---- what an accepted call writes
 
-// The composition after the record's, by one step; the last stays.
-fn following(ledger: Ledger) -> [u8; 24]
+// The composition so many steps after the record's; the last stays.
+fn following(ledger: Ledger, lines: usize) -> [u8; 24]
     requires { ⌜ (ledger .bounds .parts ≤ 24)
         × (ledger .next ≡ nextComposition (printingOf ledger) (ledger .entries))
-        × (ledger .entries < size (printingOf ledger)) ⌝ }
-    ensures { λ r. ⌜ r ≡ nextComposition (printingOf ledger) (ledger .entries + 1) ⌝ }
+        × (0 < size (printingOf ledger)) ⌝ }
+    ensures { λ r. ⌜ r ≡ nextComposition (printingOf ledger) (ledger .entries + lines) ⌝ }
 {
     let bounds = ledger.bounds;
     let n = bounds.parts;
     let upper = bounds.upper;
     let mut cells = ledger.next;
-    step::advance(&upper[..n], bounds.total, &mut cells[..n]);
+    if lines == 1 {
+        step::advance(&upper[..n], bounds.total, &mut cells[..n]);
+        return cells;
+    }
+    stride(&upper[..n], bounds.total, &mut cells[..n], lines);
     cells
 }
 
-// The order in the next entry, and the record that counts it, with the composition after it. It calls nothing, so that the record is built where
-// the caller hands it back, and not copied.
-fn enter(
+// What a call answers, and the record with so many lines more and these counts. It calls nothing, so that the record is built where the caller hands it
+// back, and not copied.
+fn counted(
     ledger: Ledger,
-    orders: &mut [u32],
     answer: Answer,
     next: [u8; 24],
-    order: u32,
+    lines: u64,
     sold: u64,
     voided: u64,
 ) -> Claimed
-    requires { ⌜ (consistent ledger (now orders) ≡ true) × (ledger .entries < size (printingOf ledger))
-        × (next ≡ nextComposition (printingOf ledger) (ledger .entries + 1)) ⌝ }
-    ensures { λ r. ⌜ (r, now (orders .exit)) ≡ entering ledger (now (orders .entry)) answer order sold voided ⌝ }
+    requires { ⌜ (ledger .entries + lines ≤ mostEntries) × (next ≡ nextComposition (printingOf ledger) (ledger .entries + lines)) ⌝ }
+    ensures { λ r. ⌜ r ≡ record { answer = answer; ledger = counting ledger lines sold voided } ⌝ }
 {
-    let at = ledger.entries as usize;
-    orders[at] = order;
     let bounds = ledger.bounds;
     let after = Ledger {
         bounds,
-        entries: ledger.entries + 1,
+        entries: ledger.entries + lines,
         sold,
         voided,
         next,
@@ -107,6 +110,18 @@ fn enter(
     Claimed {
         answer,
         ledger: after,
+    }
+}
+
+// Copies the orders of a bundle into entries of the column, as many.
+fn lay(bundle: &[u32], entries: &mut [u32])
+    requires { ⌜ length (now entries) ≡ length (now bundle) ⌝ }
+    ensures { λ _. ⌜ now (entries .exit) ≡ now (bundle .entry) ⌝ }
+{
+    let mut k: usize = 0;
+    while k < bundle.len() {
+        entries[k] = bundle[k];
+        k += 1;
     }
 }
 
@@ -130,16 +145,10 @@ pub fn claim(ledger: Ledger, orders: &mut [u32], serial: u64, order: u32) -> Cla
             ledger,
         };
     }
-    let next = following(ledger);
-    enter(
-        ledger,
-        orders,
-        claimed,
-        next,
-        order,
-        ledger.sold + 1,
-        ledger.voided,
-    )
+    let next = following(ledger, 1);
+    let at = ledger.entries as usize;
+    orders[at] = order;
+    counted(ledger, claimed, next, 1, ledger.sold + 1, ledger.voided)
 }
 
 // document 01: spoil. The serial for no order.
@@ -153,16 +162,30 @@ pub fn void(ledger: Ledger, orders: &mut [u32], serial: u64) -> Claimed
             ledger,
         };
     }
-    let after = following(ledger);
-    enter(
-        ledger,
-        orders,
-        voided,
-        after,
-        0,
-        ledger.sold,
-        ledger.voided + 1,
-    )
+    let after = following(ledger, 1);
+    let entry = ledger.entries as usize;
+    orders[entry] = 0;
+    counted(ledger, voided, after, 1, ledger.sold, ledger.voided + 1)
+}
+
+// document 02, (v): a bundle. Consecutive serials from the one named on, for as many orders; refused, it changes neither the record nor the column.
+pub fn claim_all(ledger: Ledger, orders: &mut [u32], serial: u64, bundle: &[u32]) -> Claimed
+    ensures { λ r. ⌜ (r, now (orders .exit)) ≡ calling ledger (now (orders .entry)) (Call.claim-all serial (now (bundle .entry))) ⌝ }
+{
+    let taken = reply::claim_all(ledger, orders, serial, bundle);
+    if taken.number != 0 {
+        return Claimed {
+            answer: taken,
+            ledger,
+        };
+    }
+    let lines = bundle.len();
+    let next = following(ledger, lines);
+    let at = ledger.entries as usize;
+    let end = at + lines;
+    lay(bundle, &mut orders[at..end]);
+    let more = lines as u64;
+    counted(ledger, taken, next, more, ledger.sold + more, ledger.voided)
 }
 
 // The entries so far, as the beginning of the lent column itself; none where number 16 holds.

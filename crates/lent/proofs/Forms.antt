@@ -12,7 +12,7 @@ use Rattle.model.specs.declared.Claimed.{Claimed}
 use Rattle.model.proofs.Records.{calling-peek}
 use Rattle.model.proofs.Pairs.{peeking-answer, peeking-pair}
 use Rattle.model.proofs.Whole.{from-opening}
-use Rattle.lent.specs.Forms.{Invocation, peek, claim, void, claim-in, void-in, callOf, State, ByValue, Lent, Does, Runs, start}
+use Rattle.lent.specs.Forms.{Invocation, peek, claim, void, claim-all, claim-in, void-in, callOf, State, ByValue, Lent, Does, Runs, start}
 
 -- ---- one call
 
@@ -29,6 +29,7 @@ pub does-call : (s : Invocation) (x : State) (a : Answer) (t : Transition) (y : 
 does-call peek x a t y p = rw (p .kept) (calling-peek (x .ledger) (x .column) a (peeking-answer (x .ledger) (x .column) a t (p .meets)))
 does-call (claim s e) x a t y p = by-value _ x a y (p .0)
 does-call (void s) x a t y p = by-value _ x a y (p .0)
+does-call (claim-all s b) x a t y p = by-value _ x a y (p .0)
 does-call (claim-in s e) x a t y p = p .0
 does-call (void-in s) x a t y p = p .0
 
@@ -36,8 +37,12 @@ does-pair : (s : Invocation) (x : State) (a : Answer) (t : Transition) (y : Stat
 does-pair peek x a t y p = peeking-pair (x .ledger) (x .column) a t (p .meets)
 does-pair (claim s e) x a t y p = p .1
 does-pair (void s) x a t y p = p .1
+does-pair (claim-all s b) x a t y p = p .1
 does-pair (claim-in s e) x a t y p = p .1
 does-pair (void-in s) x a t y p = p .1
+
+valued : (c : Call) (x : State) (a : Answer) (y : State) → Lent c x a y → ByValue c x a y
+valued c x a y p = record { r = record { answer = a; ledger = y .ledger }; meets = p; answer = refl; kept = refl }
 
 -- what the definitions say of a call, each form may do
 does : (s : Invocation) (x : State) (a : Answer) (y : State) → Lent (callOf s) x a y → Does s x a (toldAt (callOf s) x a) y
@@ -48,8 +53,9 @@ does peek x a y p =
       meets = ap (λ (z : Claimed × Column). peekedBy (z .0 .answer) (toldAt Call.peek x (z .0 .answer))) same;
       kept = ap (λ (z : Claimed × Column). record { ledger = z .0 .ledger; column = z .1 }) same;
     }
-does (claim s e) x a y p = (record { r = record { answer = a; ledger = y .ledger }; meets = p; answer = refl; kept = refl }, refl)
-does (void s) x a y p = (record { r = record { answer = a; ledger = y .ledger }; meets = p; answer = refl; kept = refl }, refl)
+does (claim s e) x a y p = (valued _ x a y p, refl)
+does (void s) x a y p = (valued _ x a y p, refl)
+does (claim-all s b) x a y p = (valued _ x a y p, refl)
 does (claim-in s e) x a y p = (p, refl)
 does (void-in s) x a y p = (p, refl)
 
@@ -95,11 +101,11 @@ pub either-form : (p : Printing) (col : Column) (ss ts : List Invocation) (w v :
     → opening p col .number ≡ 0
     → Runs (start p col) ss w
     → Runs (start p col) ts v
-    → map callOf ts ≡ secondList w
+    → map callOf ts ≡ secondList p w
     → Whole p col (map callOf ss) w v
 either-form p col ss ts w v z x y e =
     let first = runs-run ss (start p col) w x in
-    let second = runs-run ts (start p col) v y ∙ ap (λ (cs : List Call). run (opening p col .ledger) col cs) (e ∙ ap secondList first) in
+    let second = runs-run ts (start p col) v y ∙ ap (λ (cs : List Call). run (opening p col .ledger) col cs) (e ∙ ap (secondList p) first) in
     subst⁻¹ (λ (u : Run). Whole p col (map callOf ss) u v) first
     (subst⁻¹ (λ (u : Run). Whole p col (map callOf ss) (run (opening p col .ledger) col (map callOf ss)) u) second
     (from-opening p col (map callOf ss) z))

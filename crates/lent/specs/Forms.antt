@@ -13,11 +13,13 @@ use Rattle.model.specs.declared.Answer.{Answer}
 use Rattle.model.specs.declared.Claimed.{Claimed}
 use Rattle.model.specs.declared.Ledger.{Ledger}
 
--- the functions that can be called: `ledger::peek`, `ledger::claim`, `ledger::void`, and `engine::huz_claim_in`, `huz_void_in`
+-- the functions that can be called: `ledger::peek`, `ledger::claim`, `ledger::void`, `ledger::claim_all`, and `engine::huz_claim_in`, `huz_void_in`; a
+-- bundle comes by value alone
 pub data Invocation : Type 0 where
   peek : Invocation
   claim : ℕ → Entry → Invocation
   void : ℕ → Invocation
+  claim-all : ℕ → Column → Invocation
   claim-in : ℕ → Entry → Invocation
   void-in : ℕ → Invocation
 
@@ -26,6 +28,7 @@ abbrev pub callOf : Invocation → Call
 callOf peek = Call.peek
 callOf (claim s e) = Call.claim s e
 callOf (void s) = Call.void s
+callOf (claim-all s b) = Call.claim-all s b
 callOf (claim-in s e) = Call.claim s e
 callOf (void-in s) = Call.void s
 
@@ -57,6 +60,7 @@ abbrev pub Does : Invocation → State → Answer → Transition → State → T
 Does peek x a t y = Peeks x a t y
 Does (claim s e) x a t y = ByValue (Call.claim s e) x a y × (t ≡ none)
 Does (void s) x a t y = ByValue (Call.void s) x a y × (t ≡ none)
+Does (claim-all s b) x a t y = ByValue (Call.claim-all s b) x a y × (t ≡ none)
 Does (claim-in s e) x a t y = Lent (Call.claim s e) x a y × (t ≡ none)
 Does (void-in s) x a t y = Lent (Call.void s) x a y × (t ≡ none)
 

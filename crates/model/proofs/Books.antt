@@ -2,21 +2,23 @@
 use mathlib.Core.Path.{_≡_, refl, sym, ap, _∙_}
 use mathlib.Core.Bool.{Bool, true, false, cond, false≢true}
 use mathlib.Core.List.{List, [], _∷_, _++_, append-nil, nil≢cons, head-eq-of-cons-eq, tail-eq-of-cons-eq}
-use Prim.Native.Nat.{suc, _+_, _<_}
+use Prim.Native.Nat.{ℕ, suc, _+_, _<_}
 use native.Mathlib.Nat.{add-zero}
 use native.Mathlib.Omega.{arith}
 use lib.ListN.{length, take, drop, length-append}
 use lib.Seq.{drop-cons}
-use Rattle.model.specs.Entry.{Entry, voidEntry}
+use Rattle.bounds.proofs.Chains.{Accepts}
+use Rattle.model.specs.Entry.{Entry, voidEntry, entriesIn}
 use Rattle.model.specs.declared.Answer.{Answer}
 use Rattle.model.specs.Printing.{Printing, blank, compositionAt, stock}
-use Rattle.model.specs.Model.{Call, peek, claim, void, accepted, next, granted, answer, appended, after, Event, eventAt, bookFrom}
-use Rattle.model.specs.Trace.{writes, named, entryOf, isClaim, isVoid, those, kept, writers, serials, entriesBy, answeredCompositions}
+use Rattle.model.specs.Model.{Call, peek, claim, void, claim-all, accepted, next, takesChecks, granted, answer, appended, after}
+use Rattle.model.specs.Model.{Event, event, eventAt, bookFrom}
+use Rattle.model.specs.Trace.{writes, named, entryOf, isClaim, isVoid, those, kept, takesFrom, singles, writers, serials, entriesBy, answeredCompositions}
 use Rattle.model.specs.Trace.{peeked, Foretold, countFrom}
 use Rattle.model.proofs.Lists.{length-snoc, snoc-append}
 use Rattle.model.proofs.Stock.{stock-size, stock-at}
 use Rattle.model.proofs.Answers.{peek-open}
-use Rattle.model.proofs.Calls.{Reached, Grant, grant}
+use Rattle.model.proofs.Calls.{Reached, Grant, grant, accepts-answer, takes-split, bundle-takes}
 
 module _ (p : Printing) where
   -- an accepted claim or void, where the lines l are written
@@ -30,21 +32,35 @@ module _ (p : Printing) where
   Grown l [] m = l ≡ m
   Grown l (x ∷ ws) m = Wrote l x × Grown (l ++ appended (x .call)) ws m
 
+  -- the takes of an accepted bundle, and what follows them
+  grown-takes : (es l : List Entry) (s : ℕ) (t : List Event) (m : List Entry) → Accepts (takesChecks p l s es)
+      → Grown (l ++ es) (writers p t) m → Grown l (those writes (kept (takesFrom p s es ++ singles p t))) m
+  grown-takes [] l s t m a g = rw (append-nil l) at g
+  grown-takes (e ∷ es) l s t m a g =
+      let q = takes-split p l s e es a in
+      let reply = accepts-answer p l (claim s e) (q .0) in
+      let rest = grown-takes es (l ++ (e ∷ [])) (suc s) t m (q .1) (rw (← (snoc-append l e es)) at g) in
+      (record { writing = refl; granted = rw reply; answering = ap (event p (claim s e)) (sym reply) }, rest)
+
   -- a call and what follows it
   grown-call : (l : List Entry) (c : Call) (t : List Event) (m : List Entry)
-      → Grown (after p l c) (writers t) m → Grown l (writers (eventAt p l c ∷ t)) m
+      → Grown (after p l c) (writers p t) m → Grown l (writers p (eventAt p l c ∷ t)) m
   unfolding after
   grown-call l c t m = go c (accepted (answer p l c)) refl
     where
       go : (c : Call) (b : Bool) → accepted (answer p l c) ≡ b
-          → Grown (cond b (l ++ appended c) l) (writers t) m
-          → Grown l (those writes (cond b (eventAt p l c ∷ kept t) (kept t))) m
-      go c false q g = g
-      go peek true q g = rw (append-nil l) at g
-      go (claim s e) true q g = (record { writing = refl; granted = q; answering = refl }, g)
-      go (void s) true q g = (record { writing = refl; granted = q; answering = refl }, g)
+          → Grown (cond b (l ++ appended c) l) (writers p t) m
+          → Grown l (writers p (eventAt p l c ∷ t)) m
+      go peek false q g = rw q g
+      go (claim s e) false q g = rw q g
+      go (void s) false q g = rw q g
+      go (claim-all s b) false q g = rw q g
+      go peek true q g = rw q (rw (append-nil l) at g)
+      go (claim s e) true q g = rw q (record { writing = refl; granted = q; answering = refl }, g)
+      go (void s) true q g = rw q (record { writing = refl; granted = q; answering = refl }, g)
+      go (claim-all s b) true q g = rw q (grown-takes (entriesIn b) l s t m (bundle-takes p l s b q .1) g)
 
-  pub grown : (cs : List Call) (l : List Entry) → Grown l (writers (bookFrom p l cs .trace)) (bookFrom p l cs .entries)
+  pub grown : (cs : List Call) (l : List Entry) → Grown l (writers p (bookFrom p l cs .trace)) (bookFrom p l cs .entries)
   unfolding bookFrom
   grown [] l = refl
   grown (c ∷ cs) l = grown-call l c (bookFrom p (after p l c) cs .trace) (bookFrom p (after p l c) cs .entries) (grown cs (after p l c))
@@ -53,7 +69,7 @@ module _ (p : Printing) where
   pub record Stood (l : List Entry) (before : List Event) (x : Event) : Type 0 where
     pub entries : List Entry
     pub answering : x ≡ eventAt p entries (x .call)
-    pub by : Grown l (writers before) entries
+    pub by : Grown l (writers p before) entries
 
   pub stood :
       (before : List Event) (cs : List Call) (l : List Entry) (x : Event) (rest : List Event)
@@ -93,6 +109,7 @@ module _ (p : Printing) where
   one-line l (claim s e) w = record { line = refl; longer = length-snoc l e ∙ omega arith; serial = refl }
   one-line l (void s) w = record { line = refl; longer = length-snoc l voidEntry ∙ omega arith; serial = refl }
   one-line l peek w = absurd (false≢true w)
+  one-line l (claim-all s b) w = absurd (false≢true w)
 
   peek-keeps : (l : List Entry) → after p l peek ≡ l
   unfolding after
@@ -167,5 +184,6 @@ claims-and-voids (x ∷ u) = go (x .call) refl (claims-and-voids u)
   where
     go : (c : Call) → x .call ≡ c → Parted (those writes u) → Parted (those writes (x ∷ u))
     go peek e i = rw e i
+    go (claim-all s b) e i = rw e i
     go (claim s o) e i = rw e (omega (arith, i))
     go (void s) e i = rw e (omega (arith, i))

@@ -1,28 +1,29 @@
 -- Laws of one call of the model: what an accepted answer says, and which numbers an answer can have.
 use mathlib.Core.Path.{_≡_, refl, sym, ap, _∙_}
-use mathlib.Core.Logic.{_≢_, _↔_}
+use mathlib.Core.Logic.{_≢_, _↔_, _⊎_, inl, inr}
 use mathlib.Core.Bool.{true, false, false≢true}
 use mathlib.Core.List.{List, [], _∷_, _++_, append-nil}
-use Prim.Native.Nat.{ℕ, _≤_, _<_}
+use Prim.Native.Nat.{ℕ, suc, _≤_, _<_}
 use native.Mathlib.Omega.{arith}
-use lib.Dec.{ltb}
+use lib.Dec.{ltb, eqb}
 use lib.ListN.{length}
-use borrow.Author.Tests.{ltb-false, lt-ltb, eqb-true}
+use borrow.Author.Tests.{ltb-false, lt-ltb, le-ltb, eq-eqb, ne-eqb, eqb-true, eqb-false}
 use Rattle.walsh.proofs.Cases.{on-test, on-less}
 use Rattle.bounds.specs.Refusal.{Check, firstRefusal}
 use Rattle.bounds.specs.Places.{isOutside}
 use Rattle.bounds.specs.declared.Refusal.{Refusal}
 use Rattle.bounds.proofs.Editions.{neither}
-use Rattle.bounds.proofs.Refusals.{same-number, numbered, passed, refusal-here, refusal-next, refusal-later, is-accepted, lacks, refusal-lacks}
+use Rattle.bounds.proofs.Refusals.{same-number, numbered, passed, refusal-here, refusal-next, refusal-first, refusal-later, is-accepted, by-acceptance, lacks, refusal-lacks}
 use Rattle.bounds.proofs.Chains.{Accepts, accepts-split}
 use Rattle.model.specs.declared.Answer.{Answer}
 use Rattle.model.specs.Basics.{firstPlace}
-use Rattle.model.specs.Entry.{Entry, voidEntry, isVoided, sameOrder}
+use Rattle.model.specs.Entry.{Entry, voidEntry, isVoided, sameOrder, Lent, entriesIn, room}
 use Rattle.model.specs.Printing.{Printing, size, lowest, capacity}
-use Rattle.model.specs.Model.{Call, peek, claim, void, next, noLine, alreadyWritten, aboveNext, standsEarlier, allWritten}
-use Rattle.model.specs.Model.{orderChecks, placeChecks, claimChecks, callChecks, rowsBefore, granted, given, answer, accepted, appended, after}
+use Rattle.model.specs.Model.{Call, peek, claim, void, claim-all, next, noLine, alreadyWritten, aboveNext, standsEarlier, allWritten, badBundle}
+use Rattle.model.specs.Model.{orderChecks, placeChecks, claimChecks, takesChecks, callChecks, rowsBefore, granted, given, answer, accepted, appended, after}
 use Rattle.model.specs.Trace.{writes, named}
-use Rattle.model.proofs.Lists.{length-snoc}
+use Rattle.model.proofs.Lists.{length-snoc, snoc-append}
+use Rattle.model.proofs.Entries.{room-entries}
 use Rattle.model.proofs.Answers.{answer-number}
 
 module _ (c : Check) (cs : List Check) where
@@ -31,6 +32,20 @@ module _ (c : Check) (cs : List Check) where
 
   number-next : c .holds ≡ false → firstRefusal (c ∷ cs) .number ≡ firstRefusal cs .number
   number-next t = ap (λ (v : Refusal). v .number) (refusal-next c cs t)
+
+-- ---- the size of a bundle
+
+pub size-good : (b : Lent) → room b ≢ 0 → room b ≤ 40 → badBundle b .holds ≡ false
+size-good b some few = rw (ne-eqb (room b) 0 some, le-ltb 40 (room b) few)
+
+pub size-wrong : (b : Lent) → (room b ≡ 0) ⊎ (40 < room b) → badBundle b .holds ≡ true
+size-wrong b (inl z) = rw (eq-eqb (room b) 0 z)
+size-wrong b (inr h) = rw (ne-eqb (room b) 0 (λ z. omega (arith, z, h)), lt-ltb 40 (room b) h)
+
+pub size-known : (b : Lent) → badBundle b .holds ≡ false → (room b ≢ 0) × (room b ≤ 40)
+size-known b f =
+    let q = neither (eqb (room b) 0) (ltb 40 (room b)) f in
+    (eqb-false (room b) 0 (q .0), ltb-false 40 (room b) (q .1))
 
 module _ (p : Printing) where
   -- what holds of every list that the model reaches
@@ -51,6 +66,10 @@ module _ (p : Printing) where
     accepting c t =
         is-accepted (firstRefusal (callChecks p l c)) _ _ (λ (x : Answer). x .number) (λ (x : Answer). x .detail) refl refl refl _ refl
         (eqb-true (answer p l c .number) 0 t)
+
+    pub accepts-answer : (c : Call) → Accepts (callChecks p l c) → answer p l c ≡ given p (granted p l c)
+    unfolding answer
+    accepts-answer c a = by-acceptance (firstRefusal (callChecks p l c)) _ _ a
 
     -- a serial that its checks accept, and what stands behind them
     pub record InTurn (s : ℕ) (rest : List Check) : Type 0 where
@@ -82,6 +101,52 @@ module _ (p : Printing) where
           let q = claim-turn s e (accepting (claim s e) t .0) .1 in
           ltb-false (firstPlace (sameOrder e) l) (length l) (passed _ _ refl (q .rest-accepts) .0)
 
+  -- ---- the takes of a bundle
+
+  -- neither 0 nor 16 is among their numbers
+  pub takes-numbered : (es l : List Entry) (s : ℕ) → numbered (takesChecks p l s es) ≡ true
+  takes-numbered [] l s = refl
+  takes-numbered (e ∷ es) l s = takes-numbered es (l ++ (e ∷ [])) (suc s)
+
+  takes-not-16 : (es l : List Entry) (s : ℕ) → lacks 16 (takesChecks p l s es) ≡ true
+  takes-not-16 [] l s = refl
+  takes-not-16 (e ∷ es) l s = takes-not-16 es (l ++ (e ∷ [])) (suc s)
+
+  -- the first, and those behind it
+  module _ (l : List Entry) (s : ℕ) (e : Entry) (es : List Entry) where
+    pub takes-split : Accepts (takesChecks p l s (e ∷ es))
+        → Accepts (claimChecks p l s e) × Accepts (takesChecks p (l ++ (e ∷ [])) (suc s) es)
+    takes-split a = accepts-split (claimChecks p l s e) (takesChecks p (l ++ (e ∷ [])) (suc s) es) refl a
+
+    pub takes-refused : firstRefusal (claimChecks p l s e) .number ≢ 0
+        → firstRefusal (takesChecks p l s (e ∷ es)) ≡ firstRefusal (claimChecks p l s e)
+    takes-refused f = refusal-first (claimChecks p l s e) _ f
+
+    pub takes-next : Accepts (claimChecks p l s e)
+        → firstRefusal (takesChecks p l s (e ∷ es)) ≡ firstRefusal (takesChecks p (l ++ (e ∷ [])) (suc s) es)
+    takes-next a = refusal-later (claimChecks p l s e) _ refl a
+
+  takes-reached : (es l : List Entry) (s : ℕ) → Reached l → Accepts (takesChecks p l s es) → Reached (l ++ es)
+  takes-reached [] l s h a = rw (append-nil l) h
+  takes-reached (e ∷ es) l s h a =
+      let q = takes-split l s e es a in
+      rw (← (snoc-append l e es))
+      (takes-reached es (l ++ (e ∷ [])) (suc s) (reached-more l e (claim-turn l s e (q .0) .1 .inside) h) (q .1))
+
+  -- ---- an accepted call
+
+  module _ (l : List Entry) where
+    -- a bundle that is accepted has a first take, which is in turn
+    pub bundle-takes : (s : ℕ) (b : Lent) → accepted (answer p l (claim-all s b)) ≡ true
+        → (length (entriesIn b) ≢ 0) × Accepts (takesChecks p l s (entriesIn b))
+    bundle-takes s b t =
+        let q = passed (badBundle b) _ (takes-numbered (entriesIn b) l s) (accepting l (claim-all s b) t .0) in
+        ((λ z. size-known b (q .0) .0 (sym (room-entries b) ∙ z)), q .2)
+
+    bundle-turn : (s : ℕ) (es : List Entry) → length es ≢ 0 → Accepts (takesChecks p l s es) → (s ≡ next p l) × (next p l ≤ size p)
+    bundle-turn s [] n a = absurd (n refl)
+    bundle-turn s (e ∷ es) n a = let q = claim-turn l s e (takes-split l s e es a .0) .1 in (q .serial, q .inside)
+
     -- what is known of an accepted call
     pub record Grant (c : Call) : Type 0 where
       pub reply : answer p l c ≡ given p (next p l)
@@ -90,16 +155,20 @@ module _ (p : Printing) where
       pub reached : Reached (l ++ appended c)
 
     grant-by : (c : Call) → accepted (answer p l c) ≡ true → granted p l c ≡ next p l → next p l ≤ size p → Reached (l ++ appended c) → Grant c
-    grant-by c t s i h = record { reply = accepting c t .1 ∙ ap (given p) s; serial = s; inside = i; reached = h }
+    grant-by c t s i h = record { reply = accepting l c t .1 ∙ ap (given p) s; serial = s; inside = i; reached = h }
 
     pub grant : (c : Call) → Reached l → accepted (answer p l c) ≡ true → Grant c
-    grant peek h t = grant-by peek t refl (ltb-false _ _ (passed _ _ refl (accepting peek t .0) .0)) (rw (append-nil l) h)
+    grant peek h t = grant-by peek t refl (ltb-false _ _ (passed _ _ refl (accepting l peek t .0) .0)) (rw (append-nil l) h)
     grant (claim s e) h t =
-        let q = claim-turn s e (accepting (claim s e) t .0) .1 in
+        let q = claim-turn l s e (accepting l (claim s e) t .0) .1 in
         grant-by (claim s e) t (q .serial) (q .inside) (reached-more l e (q .inside) h)
     grant (void s) h t =
-        let q = in-turn s [] refl (accepting (void s) t .0) in
+        let q = in-turn l s [] refl (accepting l (void s) t .0) in
         grant-by (void s) t (q .serial) (q .inside) (reached-more l voidEntry (q .inside) h)
+    grant (claim-all s b) h t =
+        let a = bundle-takes s b t in
+        let q = bundle-turn s (entriesIn b) (a .0) (a .1) in
+        grant-by (claim-all s b) t (q .0) (q .1) (takes-reached (entriesIn b) l s h (a .1))
 
     pub after-reached : (c : Call) → Reached l → Reached (after p l c)
     unfolding after
@@ -115,6 +184,8 @@ module _ (p : Printing) where
     not-16 peek = rw (number-of peek) (refusal-lacks 16 (callChecks p l peek) (omega arith) refl)
     not-16 (claim s e) = rw (number-of (claim s e)) (refusal-lacks 16 (callChecks p l (claim s e)) (omega arith) refl)
     not-16 (void s) = rw (number-of (void s)) (refusal-lacks 16 (callChecks p l (void s)) (omega arith) refl)
+    not-16 (claim-all s b) =
+        rw (number-of (claim-all s b)) (refusal-lacks 16 (callChecks p l (claim-all s b)) (omega arith) (takes-not-16 (entriesIn b) l s))
 
     -- a peek answers 21 where every serial is written
     pub peek-21 : (answer p l peek .number ≡ 21) ↔ (size p < next p l)
@@ -145,6 +216,7 @@ module _ (p : Printing) where
     pub already-written : (c : Call) → writes c ≡ true → Accepts (rowsBefore 18 (callChecks p l c))
         → (answer p l c .number ≡ 18) ↔ ((lowest p ≤ named c) × (named c < next p l))
     already-written peek w a = absurd (false≢true w)
+    already-written (claim-all s b) w a = absurd (false≢true w)
     already-written (claim s e) w a =
         let h = not-low s (passed _ _ refl (accepts-split (orderChecks e) (noLine p s ∷ []) refl a .1) .0) in
         let b = written-18 (rowsBefore 18 (callChecks p l (claim s e))) (aboveNext p l s ∷ standsEarlier p l e ∷ []) s refl a refl in

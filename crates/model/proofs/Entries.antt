@@ -1,5 +1,5 @@
 -- Laws of the lines and of what the caller lends for them.
-use mathlib.Core.Path.{_≡_}
+use mathlib.Core.Path.{_≡_, refl}
 use mathlib.Core.Logic.{_≢_}
 use mathlib.Core.Bool.{true, false}
 use mathlib.Core.List.{List, [], _∷_, _++_}
@@ -7,7 +7,7 @@ use Prim.Native.Nat.{ℕ, _+_, _≤_, _<_}
 use lib.ListN.{length, getD}
 use lib.Seq.{length-take-le, getD-take}
 use borrow.Author.Tests.{eq-eqb, ne-eqb, eqb-true}
-use Rattle.model.specs.Entry.{Entry, voidEntry, orderOf, isVoided, sameOrder, soldIn, voidedIn, Lent, firstEntries, room, over, put}
+use Rattle.model.specs.Entry.{Entry, voidEntry, orderOf, isVoided, sameOrder, soldIn, voidedIn, Lent, entriesIn, firstEntries, room, over, put}
 use Rattle.model.proofs.Lists.{many-or-not, take-replaced, length-replaced, sets-replaced}
 
 -- ---- a line
@@ -34,6 +34,9 @@ pub one-sold : (e : Entry) → isVoided e ≡ false → (soldIn (e ∷ []) ≡ 1
 one-sold e f = (rw f, rw f)
 
 -- ---- lines that stand in what is lent
+
+pub room-entries : (col : Lent) → length (entriesIn col) ≡ room col
+room-entries col = refl
 
 pub length-entries : (n : ℕ) (col : Lent) → n ≤ room col → length (firstEntries n col) ≡ n
 length-entries n col h = length-take-le n col h

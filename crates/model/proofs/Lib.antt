@@ -13,6 +13,9 @@ pub mod Places
 pub mod Pairs
 pub mod Records
 pub mod Replies
+pub mod Bundles
 pub mod Reasons
+pub mod BundleReasons
+pub mod BundleLaws
 pub mod Simulation
 pub mod Whole

@@ -8,7 +8,7 @@ use native.Mathlib.Omega.{arith}
 use lib.ListN.{length}
 use Rattle.model.specs.Entry.{Entry, voidEntry, isVoided, soldIn, voidedIn, DistinctOrders}
 use Rattle.model.specs.Printing.{Printing}
-use Rattle.model.specs.Model.{Call, peek, claim, void, accepted, answer, appended, Event}
+use Rattle.model.specs.Model.{Call, peek, claim, void, claim-all, accepted, answer, appended, Event}
 use Rattle.model.specs.Trace.{writes, isClaim, isVoid, those}
 use Rattle.walsh.proofs.Tests.{many-append}
 use Rattle.model.proofs.Entries.{one-sold}
@@ -36,6 +36,7 @@ module _ (p : Printing) where
       go : (c : Call) → x .call ≡ c → writes (x .call) ≡ true → accepted (answer p l (x .call)) ≡ true → Counts (l ++ appended (x .call)) ws m
           → Counts l (x ∷ ws) m
       go peek q w t f = absurd (false≢true (rw q at w))
+      go (claim-all s b) q w t f = absurd (false≢true (rw q at w))
       go (claim s e) q w t f =
           let one = one-sold e (for-an-order p l s e (rw q at t)) in
           let n = more l (e ∷ []) in
@@ -52,6 +53,7 @@ module _ (p : Printing) where
 
   distinct-more : (l : List Entry) (c : Call) → writes c ≡ true → accepted (answer p l c) ≡ true → DistinctOrders l → DistinctOrders (l ++ appended c)
   distinct-more l peek w t u = absurd (false≢true w)
+  distinct-more l (claim-all s b) w t u = absurd (false≢true w)
   distinct-more l (claim s e) w t u = distinct-snoc l e u (λ n. for-a-new-order p l s e t)
   distinct-more l (void s) w t u = distinct-snoc l voidEntry u (λ n. absurd (n refl))
 

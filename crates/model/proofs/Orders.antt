@@ -3,11 +3,11 @@ use mathlib.Core.Path.{_≡_, sym, ap, _∙_}
 use mathlib.Core.Logic.{_≢_, _⊎_, inl, inr}
 use mathlib.Core.Bool.{Bool, true}
 use mathlib.Core.List.{List, [], _∷_, _++_}
-use Prim.Native.Nat.{ℕ, zero, suc, _≤_, _<_, suc-le-suc}
+use Prim.Native.Nat.{ℕ, zero, suc, _+_, _≤_, _<_, suc-le-suc}
 use native.Mathlib.Nat.{le-of-suc-le-suc, eq-or-lt-of-le}
 use native.Mathlib.Omega.{arith}
-use lib.ListN.{length, getD, List·getD-append}
-use lib.Seq.{getD-append-seam}
+use lib.ListN.{length, getD, take, length-append, List·getD-append}
+use lib.Seq.{length-take-le, take-append-add, getD-take, getD-append-seam, getD-append-add}
 use Rattle.walsh.proofs.Cases.{on-test, on-less}
 use Rattle.model.specs.Basics.{firstPlace}
 use Rattle.model.specs.Entry.{Entry, voidEntry, orderOf, sameOrder, DistinctOrders}
@@ -80,3 +80,17 @@ distinct-snoc l e u new =
         let m = new (λ z. n (ap orderOf (earlier i a ∙ s) ∙ z)) in
         absurd (omega arith)
     go i j (inr a) (inr b) n q = u .same-place i j a b (λ z. n (ap orderOf (earlier i a) ∙ z)) (sym (earlier i a) ∙ q ∙ earlier j b)
+
+-- of lines es behind the lines l, each stands in none before it
+pub distinct-at : (l es : List Entry) (k : ℕ) → DistinctOrders (l ++ es) → k < length es → orderOf (getD es k voidEntry) ≢ 0
+    → length (l ++ take k es) ≤ firstPlace (sameOrder (getD es k voidEntry)) (l ++ take k es)
+distinct-at l es k u h n =
+    place-none (getD es k voidEntry) (l ++ take k es)
+    (λ i b q.
+    let lower : i < length l + k = omega (arith, b, length-append l (take k es), length-take-le k es (omega arith)) in
+    let all = length-append l es in
+    let here : getD (l ++ es) (length l + k) voidEntry ≡ getD es k voidEntry = getD-append-add l es k voidEntry in
+    let there : getD (l ++ es) i voidEntry ≡ getD es k voidEntry =
+    sym (getD-take (length l + k) (l ++ es) i voidEntry lower) ∙ ap (λ m. getD m i voidEntry) (take-append-add l es k) ∙ q in
+    let same = u .same-place i (length l + k) (omega arith) (omega arith) (λ z. n (ap orderOf (sym there) ∙ z)) (there ∙ sym here) in
+    omega (arith, same, lower))

@@ -19,7 +19,7 @@ use Rattle.model.specs.declared.Ledger.{Ledger}
 use Rattle.model.specs.declared.Peeked.{Peeked}
 use Rattle.model.specs.Entry.{Entry, Lent}
 use Rattle.model.specs.Printing.{Printing, size, compositionAt, transitionTo}
-use Rattle.model.specs.Model.{Call, peek, claim, void, next, answer, refusedWith, told}
+use Rattle.model.specs.Model.{Call, peek, claim, void, claim-all, next, answer, refusedWith, told}
 use Rattle.model.specs.Record.{upperOf, printingOf, consistent, answered, peekedBy, peeking}
 use Rattle.model.proofs.Answers.{peek-open, peek-closed}
 use Rattle.model.proofs.Cells.{cells-front, cells-neighbours}
@@ -54,6 +54,7 @@ module _ (p : Printing) (l : List Entry) where
   told-none peek (inr n) = absurd (n refl)
   told-none (claim s e) h = refl
   told-none (void s) h = refl
+  told-none (claim-all s b) h = refl
 
 -- ---- of a peek over the record and the column
 

@@ -1,4 +1,4 @@
--- Every answer of the model has its reason in the calls before it.
+-- Every answer of the model to a peek, a claim or a void has its reason in the calls before it; bundles are in proofs/BundleReasons.
 use mathlib.Core.Path.{_≡_, refl, sym, ap, _∙_}
 use mathlib.Core.Logic.{_≢_, _↔_, _⊎_, inl, inr}
 use mathlib.Core.List.{List, [], _∷_, List·Memᴰ, List·Memᴰ·head, List·Memᴰ·tail, List·Memᴰ·cases-cons, List·Memᴰ·not-nil}
@@ -13,9 +13,9 @@ use Rattle.model.specs.declared.Answer.{Answer}
 use Rattle.model.specs.Basics.{firstPlace}
 use Rattle.model.specs.Entry.{Entry, voidEntry, orderOf, sameOrder}
 use Rattle.model.specs.Printing.{Printing, size, lowest, placeOf, serialAt}
-use Rattle.model.specs.Model.{Call, peek, claim, void, next, orderChecks, given, refusedWith, answer, Event}
+use Rattle.model.specs.Model.{peek, claim, void, next, orderChecks, given, refusedWith, answer, Event}
 use Rattle.model.specs.Trace.{named, entryOf, writers, serials, entriesBy, countFrom}
-use Rattle.model.specs.Reason.{GoodOrder, OrderReason, no-order, nextSerial, PeekReason, SerialReason, ClaimReason, VoidReason, Reason}
+use Rattle.model.specs.Reason.{GoodOrder, OrderReason, no-order, nextSerial, PeekReason, SerialReason, ClaimReason, VoidReason}
 use Rattle.model.specs.Reason.{none-left, shown, outside, written, above, bad-order, stands, claimed, voided}
 use Rattle.model.proofs.Orders.{place-at, place-lowest, place-none}
 use Rattle.model.proofs.Answers.{order-none, order-good, peek-open, peek-closed}
@@ -86,25 +86,25 @@ count-at s (suc k) (suc i) h = count-at (suc s) k i (le-of-suc-le-suc h) ∙ ome
 
 -- ---- the reasons; the lines are what the calls wrote, and these took the serials in turn
 
-module _ (p : Printing) (past : List Event) (turn : serials (writers past) ≡ countFrom (lowest p) (length (writers past))) where
+module _ (p : Printing) (past : List Event) (turn : serials (writers p past) ≡ countFrom (lowest p) (length (writers p past))) where
   abbrev l : List Entry
-  l = entriesBy (writers past)
+  l = entriesBy (writers p past)
 
-  lines : length l ≡ length (writers past)
-  lines = length-map (writers past) (λ x. entryOf (x .call))
+  lines : length l ≡ length (writers p past)
+  lines = length-map (writers p past) (λ x. entryOf (x .call))
 
   next-is : next p l ≡ nextSerial p past
   next-is = ap (serialAt p) lines
 
   -- the serial of the call at place i
-  serial-at : (i : ℕ) (x : Event) → At (writers past) i x → named (x .call) ≡ serialAt p i
+  serial-at : (i : ℕ) (x : Event) → At (writers p past) i x → named (x .call) ≡ serialAt p i
   serial-at i x a =
-      sym (a .serial) ∙ ap (λ (ss : List ℕ). getD ss i 0) turn ∙ count-at (lowest p) (length (writers past)) i (a .inside) ∙ omega arith
+      sym (a .serial) ∙ ap (λ (ss : List ℕ). getD ss i 0) turn ∙ count-at (lowest p) (length (writers p past)) i (a .inside) ∙ omega arith
 
   -- a call whose serial is s wrote the line of s
   written-at : (s : ℕ) → lowest p ≤ s → s < next p l → SerialReason p past s (refusedWith 18 (orderOf (getD l (placeOf p s) voidEntry)))
   written-at s h k =
-      let c = call-at (writers past) (placeOf p s) (omega (arith, lines)) in
+      let c = call-at (writers p past) (placeOf p s) (omega (arith, lines)) in
       written (c .0) (c .1 .among) (serial-at (placeOf p s) (c .0) (c .1) ∙ omega arith) (ap (λ (e : Entry). refusedWith 18 (orderOf e)) (c .1 .line))
 
   -- the checks of a serial: they refuse it for a reason, or it is the next one
@@ -153,11 +153,11 @@ module _ (p : Printing) (past : List Event) (turn : serials (writers past) ≡ c
           → answer p l (claim s e) ≡ refusedWith 20 (serialAt p (firstPlace (sameOrder e) l))
           → ClaimReason p past s e (answer p l (claim s e))
       again n q h k r =
-          let c = call-at (writers past) (firstPlace (sameOrder e) l) (omega (arith, lines)) in
+          let c = call-at (writers p past) (firstPlace (sameOrder e) l) (omega (arith, lines)) in
           let at = serial-at (firstPlace (sameOrder e) l) (c .0) (c .1) in
           stands n (q ∙ next-is) h (c .0) (c .1 .among) (sym (c .1 .line) ∙ place-at e l k)
           (λ y m is.
-          let j = place-of (writers past) y m in
+          let j = place-of (writers p past) y m in
           let low = place-lowest e l (j .0) (omega (arith, lines, j .1 .inside)) (j .1 .line ∙ is) in
           omega (arith, serial-at (j .0) y (j .1)))
           (r ∙ ap (refusedWith 20) (sym at))
@@ -167,7 +167,7 @@ module _ (p : Printing) (past : List Event) (turn : serials (writers past) ≡ c
       new n q h k r =
           claimed n (q ∙ next-is) h
           (λ y m is.
-          let j = place-of (writers past) y m in
+          let j = place-of (writers p past) y m in
           let low = place-lowest e l (j .0) (omega (arith, lines, j .1 .inside)) (j .1 .line ∙ is) in
           omega (arith, lines, j .1 .inside))
           r
@@ -182,14 +182,9 @@ module _ (p : Printing) (past : List Event) (turn : serials (writers past) ≡ c
           (λ j t. again n q k j (claim-again p l s e (order-good e n) z j))
           (λ j t. new n q k j (claim-good p l s e (order-good e n) z j ∙ good))
 
-  reason : (c : Call) → Reason p past c (answer p l c)
-  reason peek = peek-reason
-  reason (claim s e) = claim-reason s e
-  reason (void s) = void-reason s
-
   -- ---- no other answer has a reason
 
-  module _ (fits : length (writers past) ≤ size p) where
+  module _ (fits : length (writers p past) ≤ size p) where
     -- what a reason against a serial says, and that a void of that serial is refused so
     record Refuses (s : ℕ) (a : Answer) : Type 0 where
       pub answers : a ≡ placed p l s
@@ -202,7 +197,7 @@ module _ (p : Printing) (past : List Event) (turn : serials (writers past) ≡ c
     serial-refuses s a (outside (inl h) is) = by-refusal s 6 0 a (omega arith) (placed-low p l s h) is
     serial-refuses s a (outside (inr h) is) = by-refusal s 6 0 a (omega arith) (placed-high p l s h) is
     serial-refuses s a (written x m e is) =
-        let j = place-of (writers past) x m in
+        let j = place-of (writers p past) x m in
         let at : s ≡ serialAt p (j .0) = sym e ∙ serial-at (j .0) x (j .1) in
         let below = placed-below p l s (omega arith) (omega (arith, j .1 .inside)) (omega (arith, lines, j .1 .inside)) in
         let back : placeOf p s ≡ j .0 = omega arith in
@@ -229,10 +224,10 @@ module _ (p : Printing) (past : List Event) (turn : serials (writers past) ≡ c
         let v = serial-refuses s a why in v .answers ∙ sym (claim-refused p l s e (order-good e n) (v .some))
     claim-decides s e a (stands n q h x m is low r) =
         let good = next-decides s q h in
-        let j = place-of (writers past) x m in
+        let j = place-of (writers p past) x m in
         let here = place-lowest e l (j .0) (omega (arith, lines, j .1 .inside)) (j .1 .line ∙ is) in
         let inside : firstPlace (sameOrder e) l < length l = omega (arith, lines, j .1 .inside) in
-        let c = call-at (writers past) (firstPlace (sameOrder e) l) (omega (arith, lines)) in
+        let c = call-at (writers p past) (firstPlace (sameOrder e) l) (omega (arith, lines)) in
         let first = low (c .0) (c .1 .among) (sym (c .1 .line) ∙ place-at e l inside) in
         let same : serialAt p (firstPlace (sameOrder e) l) ≡ named (x .call) =
         omega (arith, first, serial-at (firstPlace (sameOrder e) l) (c .0) (c .1), serial-at (j .0) x (j .1)) in
@@ -240,13 +235,16 @@ module _ (p : Printing) (past : List Event) (turn : serials (writers past) ≡ c
     claim-decides s e a (claimed n q h new is) =
         let good = next-decides s q h in
         let none = place-none e l
-        (λ i k r. let c = call-at (writers past) i (omega (arith, lines)) in new (c .0) (c .1 .among) (sym (c .1 .line) ∙ r)) in
+        (λ i k r. let c = call-at (writers p past) i (omega (arith, lines)) in new (c .0) (c .1 .among) (sym (c .1 .line) ∙ r)) in
         is ∙ sym (claim-good p l s e (order-good e n) (ap (λ (b : Answer). b .number) good) none ∙ good)
 
-    decides : (c : Call) (a : Answer) → Reason p past c a → a ≡ answer p l c
-    decides peek a why = peek-decides a why
-    decides (claim s e) a why = claim-decides s e a why
-    decides (void s) a why = void-decides s a why
+    -- ---- together
 
-    pub only-reason : (c : Call) (a : Answer) → Reason p past c a ↔ (a ≡ answer p l c)
-    only-reason c a = (decides c a, λ q. rw q (reason c))
+    pub only-peek : (a : Answer) → PeekReason p past a ↔ (a ≡ answer p l peek)
+    only-peek a = (peek-decides a, λ q. rw q peek-reason)
+
+    pub only-claim : (s : ℕ) (e : Entry) (a : Answer) → ClaimReason p past s e a ↔ (a ≡ answer p l (claim s e))
+    only-claim s e a = (claim-decides s e a, λ q. rw q (claim-reason s e))
+
+    pub only-void : (s : ℕ) (a : Answer) → VoidReason p past s a ↔ (a ≡ answer p l (void s))
+    only-void s a = (void-decides s a, λ q. rw q (void-reason s))

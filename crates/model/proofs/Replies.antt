@@ -1,9 +1,9 @@
 -- Which answer each way through a call's checks leads to, by the record's own numbers.
 use mathlib.Core.Path.{_≡_, sym, ap, _∙_}
 use mathlib.Core.Bool.{true}
-use Prim.Native.Nat.{ℕ, _≤_, _<_, min}
+use Prim.Native.Nat.{ℕ, _+_, _≤_, _<_, min}
 use native.Mathlib.Omega.{arith}
-use lib.ListN.{getD}
+use lib.ListN.{length, getD, length-append}
 use borrow.Author.Tests.{eq-eqb}
 use Rattle.walsh.proofs.Cases.{on-test}
 use Rattle.model.specs.declared.Answer.{Answer}
@@ -67,6 +67,7 @@ pub record Writing (r : Ledger) (col : Lent) (c : Call) : Type 0 where
   pub belongs : consistent r col ≡ true
   pub serial : grantedBy r col c ≡ serialAt (printingOf r) (r .entries)
   pub inside : serialAt (printingOf r) (r .entries) ≤ size (printingOf r)
+  pub all-inside : r .entries + length (appended c) ≤ size (printingOf r)
 
 pub writing : (r : Ledger) (col : Lent) (c : Call) (a : Answer) → a ≡ answered r col c → a .number ≡ 0 → Writing r col c
 writing r col c a e z =
@@ -77,7 +78,12 @@ writing r col c a e z =
     let n = q .length-written in
     let reached : Reached (printingOf r) (written r col) = record { fits = omega (arith, q .entries) } in
     let g = grant (printingOf r) (written r col) c reached (eq-eqb _ 0 none) in
-    record { belongs = t; serial = g .serial ∙ own-next r col t; inside = omega (arith, g .inside) })
+    record {
+      belongs = t;
+      serial = g .serial ∙ own-next r col t;
+      inside = omega (arith, g .inside);
+      all-inside = omega (arith, length-append (written r col) (appended c), g .reached .fits);
+    })
     (λ f. let x : 16 ≡ 0 = ap (λ (x : Answer). x .number) (sym (e ∙ answered-16 r col c f)) ∙ z in absurd (omega arith))
 
 -- it writes from the next entry on

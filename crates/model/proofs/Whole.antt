@@ -3,7 +3,7 @@ use mathlib.Core.Path.{_≡_, refl, sym, ap, _∙_}
 use mathlib.Core.Logic.{_≢_, _↔_, _⊎_, inl, inr}
 use mathlib.Core.Bool.{true}
 use mathlib.Core.List.{List, [], _∷_, _++_, List·Memᴰ, List·Memᴰ·cases-cons, List·Memᴰ·not-nil}
-use Prim.Native.Nat.{ℕ, suc, _-_, _≤_, _<_}
+use Prim.Native.Nat.{ℕ, suc, _+_, _-_, _≤_, _<_}
 use native.Mathlib.Nat.{zero-add, eq-or-lt-of-le}
 use native.Mathlib.Omega.{arith}
 use lib.ListN.{length, getD, take}
@@ -16,23 +16,24 @@ use Rattle.bounds.proofs.Chains.{Accepts}
 use Rattle.model.specs.declared.Answer.{Answer}
 use Rattle.model.specs.declared.Ledger.{Ledger}
 use Rattle.model.specs.Basics.{Once}
-use Rattle.model.specs.Entry.{Entry, voidEntry, Lent, over}
+use Rattle.model.specs.Entry.{Entry, voidEntry, DistinctOrders, Lent, entriesIn, room, over}
 use Rattle.model.specs.Printing.{Printing, blank, size, compositionAt, lowest, serialAt, capacity, stock}
-use Rattle.model.specs.Model.{Call, peek, claim, void, next, callChecks, rowsBefore, given, answer, after, Event, eventAt, bookFrom}
+use Rattle.model.specs.Model.{Call, peek, claim, void, claim-all, next, callChecks, rowsBefore, given, answer, accepted, after, Event, eventAt, bookFrom}
 use Rattle.model.specs.Record.{ledgerOf, opened, opening, answered, run}
-use Rattle.model.specs.Trace.{writes, isClaim, isVoid, named, those, kept, writers, serials, entriesBy, peeked}
+use Rattle.model.specs.Trace.{writes, isClaim, isVoid, named, those, kept, singles, writers, serials, entriesBy, peeked}
 use Rattle.model.specs.Reason.{GoodOrder, Reason}
 use Rattle.model.specs.Whole.{ran, book, secondList, Whole}
-use Rattle.model.proofs.Entries.{entries-over}
+use Rattle.model.proofs.Entries.{room-entries, entries-over}
 use Rattle.model.proofs.Stock.{stock-size, stock-distinct, stock-near, stock-place, place-stock}
 use Rattle.model.proofs.Opening.{Opens, opens, opening-accepted}
 use Rattle.model.proofs.Answers.{order-good, placed, placed-next, claim-good}
-use Rattle.model.proofs.Calls.{Reached, reached-none, after-reached, not-16, peek-21, already-written}
-use Rattle.model.proofs.Orders.{place-none, distinct-none}
+use Rattle.model.proofs.Calls.{size-good, Reached, reached-none, after-reached, accepting, not-16, peek-21, already-written}
+use Rattle.model.proofs.Orders.{place-none, distinct-none, distinct-at}
+use Rattle.model.proofs.Bundles.{good-take, all-taken}
 use Rattle.model.proofs.Books.{grown, Facts, facts, Stood, stood, claims-and-voids}
 use Rattle.model.proofs.Lines.{counts, distinct-lines}
 use Rattle.model.proofs.Places.{once-at, distinct-take, not-among, mem-count, count-mem}
-use Rattle.model.proofs.Reasons.{only-reason}
+use Rattle.model.proofs.BundleReasons.{only-reason}
 use Rattle.model.proofs.Pairs.{told-none, told-some}
 use Rattle.model.proofs.Simulation.{answers, simulates}
 
@@ -88,8 +89,8 @@ module _ (p : Printing) (cs : List Call) (before rest : List Event) (x : Event)
   reply : x .reply ≡ answer p (here .entries) (x .call)
   reply = ap (λ (y : Event). y .reply) (here .answering)
 
-  so-far : Facts p [] (writers before) (here .entries)
-  so-far = facts p (writers before) [] (here .entries) (reached-none p) (here .by)
+  so-far : Facts p [] (writers p before) (here .entries)
+  so-far = facts p (writers p before) [] (here .entries) (reached-none p) (here .by)
 
   reasons : (a : Answer) → Reason p before (x .call) a ↔ (a ≡ x .reply)
   reasons a =
@@ -97,11 +98,11 @@ module _ (p : Printing) (cs : List Call) (before rest : List Event) (x : Event)
       (only-reason p before (so-far .serial) (omega (arith, so-far .size, so-far .reached .fits)) (x .call) a)
 
   -- no check before 18 refuses it
-  claimed-once : writes (x .call) ≡ true → Accepts (rowsBefore 18 (callChecks p (entriesBy (writers before)) (x .call)))
-      → (x .reply .number ≡ 18) ↔ List·Memᴰ (named (x .call)) (serials (writers before))
+  claimed-once : writes (x .call) ≡ true → Accepts (rowsBefore 18 (callChecks p (entriesBy (writers p before)) (x .call)))
+      → (x .reply .number ≡ 18) ↔ List·Memᴰ (named (x .call)) (serials (writers p before))
   claimed-once w a =
       let b = already-written p (here .entries) (x .call) w (rw (so-far .lines) a) in
-      let k = length (writers before) in
+      let k = length (writers p before) in
       rw (reply, so-far .serial) (
         (λ y. let c = b .0 y in count-mem (lowest p) k (c .0) (omega (arith, c .1, so-far .size))),
         λ y. let c = mem-count (lowest p) k y in b .1 (c .0, omega (arith, c .1, so-far .size)),
@@ -122,20 +123,37 @@ module _ (p : Printing) (col : Lent) (o : Opens p col) (m : List Entry) (h : Rea
       ∙ claim-good p m (next p m) e (order-good e good) (ap (λ (a : Answer). a .number) placed-there) (place-none e m new)
       ∙ placed-there
 
+  next-claim-all : (b : Lent) → room b ≢ 0 → room b ≤ 40 → length m + room b ≤ capacity p
+      → ((k : ℕ) → k < room b → GoodOrder (getD (entriesIn b) k voidEntry))
+      → DistinctOrders (m ++ entriesIn b)
+      → answered (ledgerOf p m) (over col m) (claim-all (next p m) b) ≡ given p (next p m)
+  next-claim-all b some few fits good new =
+      let n = room-entries b in
+      answers p col o m h (claim-all (next p m) b)
+      ∙ all-taken p m (next p m) b (size-good b some few)
+      (λ k i.
+      let g = good k (omega (arith, i, n)) in
+      good-take p m (next p m) (entriesIn b) k i refl (omega (arith, i, n)) (order-good _ g) (distinct-at m (entriesIn b) k new i g))
+
+-- an accepted bundle
+bundle-answer : (p : Printing) (l : List Entry) (c : Call) (s : ℕ) (b : Lent) → c ≡ claim-all s b → accepted (answer p l c) ≡ true
+    → answer p l c ≡ given p s
+bundle-answer p l c s b e = rw e (λ t. accepting p l (claim-all s b) t .1)
+
 pub whole : (p : Printing) (col : Lent) → Opens p col → (cs : List Call)
-    → Whole p col cs (ran p col cs) (ran p col (secondList (ran p col cs)))
+    → Whole p col cs (ran p col cs) (ran p col (secondList p (ran p col cs)))
 unfolding opened
 whole p col o cs =
     let start = reached-none p in
     let sim = simulates p col o cs [] start in
     let m = book p cs .entries in
     let t = book p cs .trace in
-    let f = facts p (writers t) [] m start (grown p cs []) in
+    let f = facts p (writers p t) [] m start (grown p cs []) in
     let g = grown p cs [] in
-    let c = counts p (writers t) [] m g in
+    let c = counts p (writers p t) [] m g in
     let own = entries-over col m in
-    let again = simulates p col o (peeked (writers t)) [] start in
-    let count : length m ≡ length (writers t) = f .size ∙ zero-add (length (writers t)) in
+    let again = simulates p col o (peeked (writers p t)) [] start in
+    let count : length m ≡ length (writers p t) = f .size ∙ zero-add (length (writers p t)) in
     record {
       answers = sim .trace;
       never-16 = rw (sim .trace) (each-event p (λ x. x .reply .number ≢ 16) (λ l h c. not-16 p l c) cs [] start);
@@ -150,6 +168,11 @@ whole p col o cs =
       pair-none =
           rw (sim .trace)
           (each-event p (λ x. (x .reply .serial < 2) ⊎ (x .call ≢ peek) → x .transition ≡ none) (λ l h c. told-none p l c) cs [] start);
+      bundle-answer =
+          rw (sim .trace)
+          (each-event p
+          (λ x. (s : ℕ) (b : Lent) → x .call ≡ claim-all s b → accepted (x .reply) ≡ true → x .reply ≡ given p s)
+          (λ l h c. bundle-answer p l c) cs [] start);
       column = sim .column;
       entries = ap (λ (x : Ledger). x .entries) (sim .ledger);
       sold = ap (λ (x : Ledger). x .sold) (sim .ledger);
@@ -160,20 +183,23 @@ whole p col o cs =
       second-record = rw (sim .trace, sim .ledger, again .ledger, f .again-entries);
       second-answers = rw (sim .trace, again .trace) (f .again-trace);
       second-peeks = rw (sim .trace, again .trace) (f .again-peeks);
-      written = rw (sim .trace, sim .ledger) (count ∙ claims-and-voids (kept t));
-      claims = rw (sim .trace, sim .ledger) (c .sold ∙ zero-add (length (those isClaim (writers t))));
-      voids = rw (sim .trace, sim .ledger) (c .voided ∙ zero-add (length (those isVoid (writers t))));
+      written = rw (sim .trace, sim .ledger) (count ∙ claims-and-voids (kept (singles p t)));
+      claims = rw (sim .trace, sim .ledger) (c .sold ∙ zero-add (length (those isClaim (writers p t))));
+      voids = rw (sim .trace, sim .ledger) (c .voided ∙ zero-add (length (those isVoid (writers p t))));
       line-orders = rw (sim .trace, sim .ledger, sim .column) (own ∙ f .lines);
-      orders-once = rw (sim .ledger, sim .column, own) (distinct-lines p (writers t) [] m g distinct-none);
+      orders-once = rw (sim .ledger, sim .column, own) (distinct-lines p (writers p t) [] m g distinct-none);
       in-turn = rw (sim .trace, sim .ledger, count) (f .serial);
       first-compositions = rw (sim .trace, sim .ledger, count) (f .composition);
       no-repeat =
           rw (sim .trace, f .composition)
-          (distinct-take blank (length (writers t)) (stock p) (stock-distinct p));
+          (distinct-take blank (length (writers p t)) (stock p) (stock-distinct p));
       neighbours = rw (sim .trace, sim .ledger, f .composition, ← count) (λ i. near p (length m) i (sim .reached .fits));
       full = rw (sim .trace, sim .ledger, sim .column, answers p col o m (sim .reached) peek, f .composition, ← count) (full m (sim .reached));
       next-claim = rw (sim .ledger, sim .column, own) (λ e h good. next-claim p col o m (sim .reached) h e good);
       next-void = rw (sim .ledger, sim .column) (λ h. next-void p col o m (sim .reached) h);
+      next-claim-all =
+          rw (sim .ledger, sim .column, own)
+          (λ b some few fits. next-claim-all p col o m (sim .reached) (omega (arith, some, fits)) b some few fits);
       reasons = λ before rest x q. reasons p cs before rest x (sym (sim .trace) ∙ q);
       claimed-once = λ before rest x q. claimed-once p cs before rest x (sym (sim .trace) ∙ q);
     }
@@ -188,5 +214,5 @@ whole p col o cs =
 
 pub from-opening : (p : Printing) (col : Lent) (cs : List Call) → opening p col .number ≡ 0
     → Whole p col cs (run (opening p col .ledger) col cs)
-    (run (opening p col .ledger) col (secondList (run (opening p col .ledger) col cs)))
+    (run (opening p col .ledger) col (secondList p (run (opening p col .ledger) col cs)))
 from-opening p col cs z = let o = opening-accepted p col _ refl z in rw (o .1) (whole p col (opens p col (o .0)) cs)

@@ -4,5 +4,6 @@ pub mod Printing
 pub mod Model
 pub mod Record
 pub mod Trace
+pub mod Bundle
 pub mod Reason
 pub mod Whole

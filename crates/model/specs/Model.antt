@@ -4,10 +4,11 @@
 use mathlib.Core.Path.{_≡_, refl}
 use mathlib.Core.Bool.{Bool, cond}
 use mathlib.Core.List.{List, [], _∷_, _++_}
-use Prim.Native.Nat.{ℕ}
+use Prim.Native.Nat.{ℕ, suc}
 use lib.Dec.{ltb, eqb}
 use lib.ListN.{length, getD}
 use Rattle.walsh.specs.Order.{order, listing}
+use Rattle.walsh.specs.Tests.{either}
 use Rattle.walsh.specs.Serial.{compositionOf}
 use Rattle.walsh.specs.Transition.{none, transitionAt, gainFrom}
 use Rattle.walsh.specs.declared.Transition.{Transition}
@@ -16,14 +17,16 @@ use Rattle.bounds.specs.Places.{outside}
 use Rattle.bounds.specs.declared.Refusal.{Refusal}
 use Rattle.model.specs.declared.Answer.{Answer}
 use Rattle.model.specs.Basics.{firstPlace}
-use Rattle.model.specs.Entry.{Entry, voidEntry, orderOf, isVoided, sameOrder}
+use Rattle.model.specs.Entry.{Entry, voidEntry, orderOf, isVoided, sameOrder, Lent, entriesIn, room}
 use Rattle.model.specs.Printing.{Printing, blank, size, compositionAt, transitionTo, lowest, placeOf, serialAt}
 
--- the document's look; take, of a serial for an order; spoil, of a serial
+-- the document's look; take, of a serial for an order; spoil, of a serial; document 02, (v): the bundle, which "names a first serial and 1 to 40 order
+-- numbers"
 pub data Call : Type 0 where
   peek : Call
   claim : ℕ → Entry → Call
   void : ℕ → Call
+  claim-all : ℕ → Lent → Call
 
 -- the next serial
 abbrev pub next : Printing → List Entry → ℕ
@@ -55,6 +58,10 @@ standsEarlier p l e = check 20 (ltb (firstPlace (sameOrder e) l) (length l)) (se
 abbrev pub allWritten : Printing → List Entry → Check
 allWritten p l = check 21 (ltb (size p) (next p l)) 0
 
+-- document 02, (v): "24, a bundle of 0 or over 40"
+abbrev pub badBundle : Lent → Check
+badBundle b = check 24 (either (eqb (room b) 0) (ltb 40 (room b))) 0
+
 -- ---- a call
 
 -- the checks of an order, and those of a serial
@@ -68,18 +75,26 @@ placeChecks p l s = noLine p s ∷ alreadyWritten p l s ∷ aboveNext p l s ∷ 
 abbrev pub claimChecks : Printing → List Entry → ℕ → Entry → List Check
 claimChecks p l s e = orderChecks e ++ (placeChecks p l s ++ (standsEarlier p l e ∷ []))
 
+-- "single takes one after another", from serial s on: those of each, on the list as the ones before it would leave it
+abbrev pub takesChecks : Printing → List Entry → ℕ → List Entry → List Check
+takesChecks p l s [] = []
+takesChecks p l s (e ∷ es) = claimChecks p l s e ++ takesChecks p (l ++ (e ∷ [])) (suc s) es
+
 module _ (p : Printing) (l : List Entry) where
-  -- "Spoil (s): the same without o and its checks"
+  -- "Spoil (s): the same without o and its checks"; a bundle "answers the refusal of the first that would fail, with its detail", and that is the first
+  -- row that holds
   abbrev pub callChecks : Call → List Check
   callChecks peek = allWritten p l ∷ []
   callChecks (claim s e) = claimChecks p l s e
   callChecks (void s) = placeChecks p l s
+  callChecks (claim-all s b) = badBundle b ∷ takesChecks p l s (entriesIn b)
 
-  -- the serial that an accepted call answers: "the next serial"; "s"
+  -- the serial that an accepted call answers: "the next serial"; "s"; "An accepted bundle answers its first serial"
   abbrev pub granted : Call → ℕ
   granted peek = next p l
   granted (claim s e) = s
   granted (void s) = s
+  granted (claim-all s b) = s
 
 -- the rows of a table that stand before the row of a number
 abbrev pub rowsBefore : ℕ → List Check → List Check
@@ -107,11 +122,12 @@ answer p l c = answerBy (firstRefusal (callChecks p l c)) p (granted p l c)
 abbrev pub accepted : Answer → Bool
 accepted a = eqb (a .number) 0
 
--- the lines that an accepted call appends: "Otherwise it is accepted, o is appended"; a spoil "appends 0"
+-- the lines that an accepted call appends: "Otherwise it is accepted, o is appended"; a spoil "appends 0"; of a bundle all the orders
 abbrev pub appended : Call → List Entry
 appended peek = []
 appended (claim s e) = e ∷ []
 appended (void s) = voidEntry ∷ []
+appended (claim-all s b) = entriesIn b
 
 -- "A refused call changes nothing."
 unfoldable pub after : Printing → List Entry → Call → List Entry
@@ -120,11 +136,12 @@ after p l c = cond (accepted (answer p l c)) (l ++ appended c) l
 -- ---- a list of calls
 
 -- document 02, (i), the pair that goes with an answer: "the paper register's look answers the pair too", that of its serial; a refused one has serial
--- 0, and so none. A claim and a void answer no pair.
+-- 0, and so none. The other calls answer no pair.
 abbrev pub told : Printing → Call → Answer → Transition
 told p peek a = transitionTo p (a .serial)
 told p (claim s e) a = none
 told p (void s) a = none
+told p (claim-all s b) a = none
 
 -- for example, of the two copies 1 0 and 0 1 the second kind gains what the first loses
 twoOnes : Printing

@@ -3,13 +3,13 @@
 -- and no other answer has one, is in specs/Whole.
 use mathlib.Core.Path.{_≡_}
 use mathlib.Core.Logic.{_≢_, _⊎_}
-use mathlib.Core.List.{List, List·Memᴰ}
-use Prim.Native.Nat.{ℕ, _≤_, _<_}
+use mathlib.Core.List.{List, [], _∷_, _++_, List·Memᴰ}
+use Prim.Native.Nat.{ℕ, suc, _≤_, _<_}
 use lib.ListN.{length}
 use Rattle.model.specs.declared.Answer.{Answer}
-use Rattle.model.specs.Entry.{Entry, orderOf}
+use Rattle.model.specs.Entry.{Entry, orderOf, Lent, entriesIn, room}
 use Rattle.model.specs.Printing.{Printing, size, lowest, serialAt}
-use Rattle.model.specs.Model.{Call, peek, claim, void, given, refusedWith, Event}
+use Rattle.model.specs.Model.{Call, peek, claim, void, claim-all, given, refusedWith, Event, event}
 use Rattle.model.specs.Trace.{named, entryOf, writers}
 
 -- ---- an order by itself
@@ -25,13 +25,13 @@ pub data OrderReason (e : Entry) (a : Answer) : Type 0 where
 -- ---- a call; p is what the ledger was opened for, past the calls so far with their answers
 
 module _ (p : Printing) (past : List Event) where
-  -- x is an accepted claim or void among them
+  -- x is an accepted claim or void among them, or such a claim of a bundle
   abbrev pub Wrote : Event → Type 0
-  Wrote x = List·Memᴰ x (writers past)
+  Wrote x = List·Memᴰ x (writers p past)
 
   -- each of these has written a line
   abbrev pub nextSerial : ℕ
-  nextSerial = serialAt p (length (writers past))
+  nextSerial = serialAt p (length (writers p past))
 
   -- "Look: if the next serial is above N, 21; else the next serial with its mix"
   pub data PeekReason (a : Answer) : Type 0 where
@@ -70,7 +70,25 @@ module _ (p : Printing) (past : List Event) where
     not-next : SerialReason s a → VoidReason s a
     voided : s ≡ nextSerial → s ≤ size p → a ≡ given p s → VoidReason s a
 
+  -- document 02, (v), one of the takes of a bundle: its refusal is the bundle's answer, or it is accepted and the others say
+  pub data TakeReason (s : ℕ) (e : Entry) (others : Answer → Type 0) (a : Answer) : Type 0 where
+    fails : a .number ≢ 0 → ClaimReason s e a → TakeReason s e others a
+    taken : ClaimReason s e (given p s) → others a → TakeReason s e others a
+
+-- the takes from serial s on, each after the calls before the bundle and the takes before it; where all are accepted, "its first serial and that mix"
+abbrev pub TakesReason : Printing → (first : ℕ) → List Event → ℕ → List Entry → Answer → Type 0
+TakesReason p first past s [] a = a ≡ given p first
+TakesReason p first past s (e ∷ es) a =
+    TakeReason p past s e (TakesReason p first (past ++ (event p (claim s e) (given p s) ∷ [])) (suc s) es) a
+
+module _ (p : Printing) (past : List Event) where
+  pub data ClaimAllReason (s : ℕ) (b : Lent) (a : Answer) : Type 0 where
+    -- "24, a bundle of 0 or over 40"
+    wrong-size : (room b ≡ 0) ⊎ (40 < room b) → a ≡ refusedWith 24 0 → ClaimAllReason s b a
+    right-size : room b ≢ 0 → room b ≤ 40 → TakesReason p s past s (entriesIn b) a → ClaimAllReason s b a
+
   abbrev pub Reason : Call → Answer → Type 0
-  Reason peek a = PeekReason a
-  Reason (claim s e) a = ClaimReason s e a
-  Reason (void s) a = VoidReason s a
+  Reason peek a = PeekReason p past a
+  Reason (claim s e) a = ClaimReason p past s e a
+  Reason (void s) a = VoidReason p past s a
+  Reason (claim-all s b) a = ClaimAllReason s b a

@@ -152,7 +152,7 @@ recordAfter r col c = cond (accepted (answered r col c)) (counted r c) r
 unfoldable pub columnAfter : Ledger → Lent → Call → Lent
 columnAfter r col c = cond (accepted (answered r col c)) (entered r col c) col
 
--- a claim or a void: what it hands back, and the column that it leaves
+-- a claim, a void or a bundle: what it hands back, and the column that it leaves
 unfoldable pub calling : Ledger → Lent → Call → Claimed × Lent
 calling r col c = (record { answer = answered r col c; ledger = recordAfter r col c }, columnAfter r col c)
 

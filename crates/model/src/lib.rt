@@ -35,7 +35,7 @@ pub struct Peeked {
     pub loss: u32,
 }
 
-// What a claim or a void answers, with the record after it.
+// What a claim, a void or a bundle answers, with the record after it.
 #[repr(C)]
 pub struct Claimed {
     pub answer: Answer,

@@ -69,7 +69,7 @@ module _ (p : Printing) (x : Script) (b : Buffers) (o : Opened) (e : o ≡ openi
               record {
                 done = done;
                 whole =
-                    subst⁻¹ (λ (y : Run). Whole p (b .column) (callsOf x) y (ran p (b .column) (secondList y))) (done .same-run)
+                    subst⁻¹ (λ (y : Run). Whole p (b .column) (callsOf x) y (ran p (b .column) (secondList p y))) (done .same-run)
                     (whole p (b .column) (opens p (b .column) (accepted-opening .0)) (callsOf x));
               };
         }
@@ -78,8 +78,8 @@ module _ (p : Printing) (x : Script) (b : Buffers) (o : Opened) (e : o ≡ openi
 pub two-runs : (p : Printing) (cs : List Call) (b b₁ b₂ b₃ : Buffers) (l₁ l₂ : Ledger)
     → b₂ .column ≡ b .column
     → Replayed p cs b b₁ l₁
-    → Replayed p (secondList (seen cs l₁ b₁)) b₂ b₃ l₂
-    → Whole p (b .column) cs (seen cs l₁ b₁) (seen (secondList (seen cs l₁ b₁)) l₂ b₃)
+    → Replayed p (secondList p (seen cs l₁ b₁)) b₂ b₃ l₂
+    → Whole p (b .column) cs (seen cs l₁ b₁) (seen (secondList p (seen cs l₁ b₁)) l₂ b₃)
 two-runs p cs b b₁ b₂ b₃ l₁ l₂ e x y =
     subst⁻¹ (λ (v : Run). Whole p (b .column) cs (seen cs l₁ b₁) v)
-    (y .done .same-run ∙ ap (λ (col : Lent). ran p col (secondList (seen cs l₁ b₁))) e) (x .whole)
+    (y .done .same-run ∙ ap (λ (col : Lent). ran p col (secondList p (seen cs l₁ b₁))) e) (x .whole)

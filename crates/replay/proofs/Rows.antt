@@ -2,79 +2,111 @@
 use mathlib.Core.Path.{_≡_, refl, sym, ap, _∙_}
 use mathlib.Core.Logic.{_≢_}
 use mathlib.Core.List.{List, [], _∷_, _++_, map, append-assoc, append-nil}
-use Prim.Native.Nat.{ℕ, suc, _+_, _-_, _*_, _/_, _≤_}
-use native.Mathlib.Nat.{add-zero}
+use Prim.Native.Nat.{ℕ, suc, _+_, _-_, _*_, _/_, _≤_, _<_}
 use native.Mathlib.Omega.{arith}
 use lib.ListN.{length, getD, take, drop, set, length-append, length-set, drop-of-length-le}
-use lib.Seq.{drop-cons, drop-drop, drop-set-add, getD-drop, getD-append-add, drop-append-add, length-take-le, take-at, drop-at}
-use lib.Dec.{eqb}
+use lib.Seq.{drop-cons, drop-drop, drop-set-add, getD-append-add, drop-append-add, length-take-le, take-at, drop-at}
+use lib.Seq.{take-append-seam, drop-append-seam}
 use borrow.Author.Tests.{eq-eqb, ne-eqb}
-use Rattle.walsh.proofs.Cases.{on-test}
 use Rattle.bounds.specs.Places.{copied}
 use Rattle.bounds.proofs.Cells.{copied-same}
 use Rattle.model.specs.Basics.{replaced}
-use Rattle.model.specs.Model.{Call, peek, claim, void, Event}
-use Rattle.replay.specs.Rows.{callWidth, callOf, uses, callsIn, rowWidth, rowOf, rowsOf, shown}
+use Rattle.model.specs.Entry.{voidEntry, Lent, entriesIn, room}
+use Rattle.model.specs.Model.{Call, peek, claim, void, claim-all, Event}
+use Rattle.replay.specs.Rows.{callWidth, callOf, uses, callsIn, namedIn, rowWidth, rowOf, rowsOf, shown}
 
 -- ---- the script
 
 -- the call of each number
-module _ (k s o : ℕ) where
-  pub call-peek : k ≡ 0 → callOf k s o ≡ Call.peek
+module _ (k s : ℕ) (os : Lent) where
+  pub call-peek : k ≡ 0 → callOf k s os ≡ Call.peek
   call-peek p = rw (eq-eqb k 0 p)
 
-  pub call-claim : k ≢ 0 → k ≡ 1 → callOf k s o ≡ Call.claim s o
+  pub call-claim : k ≢ 0 → k ≡ 1 → callOf k s os ≡ Call.claim s (getD (entriesIn os) 0 voidEntry)
   call-claim n p = rw (ne-eqb k 0 n, eq-eqb k 1 p)
 
-  pub call-void : k ≢ 0 → k ≢ 1 → callOf k s o ≡ Call.void s
-  call-void n n′ = rw (ne-eqb k 0 n, ne-eqb k 1 n′)
+  pub call-claim-all : k ≢ 0 → k ≢ 1 → k ≡ 3 → callOf k s os ≡ Call.claim-all s os
+  call-claim-all n n′ p = rw (ne-eqb k 0 n, ne-eqb k 1 n′, eq-eqb k 3 p)
 
-pub uses-few : (k : ℕ) → uses k ≤ 1
-uses-few k = on-test (eqb k 1) (λ t. rw t (omega arith)) (λ t. rw t (omega arith))
+  pub call-void : k ≢ 0 → k ≢ 1 → k ≢ 3 → callOf k s os ≡ Call.void s
+  call-void n n′ n″ = rw (ne-eqb k 0 n, ne-eqb k 1 n′, ne-eqb k 3 n″)
 
-pub calls-count : (rows os : List ℕ) → length (callsIn rows os) ≡ length rows / callWidth
+pub calls-count : (rows : List ℕ) (os : Lent) → length (callsIn rows os) ≡ length rows / callWidth
 calls-count [] os = refl
 calls-count (k ∷ []) os = refl
-calls-count (k ∷ s ∷ rows) os = omega (arith, calls-count rows (drop (uses k) os))
+calls-count (k ∷ s ∷ []) os = refl
+calls-count (k ∷ s ∷ n ∷ rows) os = omega (arith, calls-count rows (drop (uses k n) os))
 
--- the call at a place, and those after it
-pub calls-next : (rows os : List ℕ) (i used : ℕ) → i * callWidth + callWidth ≤ length rows
-    → callsIn (drop (i * callWidth) rows) (drop used os)
-    ≡ callOf (getD rows (i * callWidth) 0) (getD rows (i * callWidth + 1) 0) (getD os used 0)
-    ∷ callsIn (drop ((i + 1) * callWidth) rows) (drop (used + uses (getD rows (i * callWidth) 0)) os)
-calls-next rows os i used h =
-    let n = i * callWidth in
-    let k = getD rows n 0 in
-    let second : n + 1 ≡ suc n = omega arith in
-    let third : (i + 1) * callWidth ≡ suc (suc n) = omega arith in
-    rw (
-      second,
-      third,
-      drop-cons rows n 0 (omega arith),
-      drop-cons rows (suc n) 0 (omega arith),
-      getD-drop used os 0 0,
-      drop-drop (uses k) used os,
-      add-zero used,
-    )
+-- fewer numbers than a row
+pub named-none : (rows : List ℕ) → length rows < callWidth → namedIn rows ≡ 0
+named-none [] h = refl
+named-none (k ∷ []) h = refl
+named-none (k ∷ s ∷ []) h = refl
+named-none (k ∷ s ∷ n ∷ rows) h = absurd (omega (arith, h))
 
--- every list of calls can be lent so, its second list too
+-- the row at a place, and those after it
+module _ (rows : List ℕ) (i : ℕ) where
+  abbrev pub whichAt : ℕ
+  whichAt = getD rows (i * callWidth) 0
+
+  abbrev pub serialIn : ℕ
+  serialIn = getD rows (i * callWidth + 1) 0
+
+  abbrev pub usesAt : ℕ
+  usesAt = uses whichAt (getD rows (i * callWidth + 2) 0)
+
+  module _ (h : i * callWidth + callWidth ≤ length rows) where
+    rows-next : drop (i * callWidth) rows ≡ whichAt ∷ serialIn ∷ getD rows (i * callWidth + 2) 0 ∷ drop ((i + 1) * callWidth) rows
+    rows-next =
+        let n = i * callWidth in
+        let second : n + 1 ≡ suc n = omega arith in
+        let third : n + 2 ≡ suc (suc n) = omega arith in
+        let after : (i + 1) * callWidth ≡ suc (suc (suc n)) = omega arith in
+        rw (
+          second,
+          third,
+          after,
+          drop-cons rows n 0 (omega arith),
+          drop-cons rows (suc n) 0 (omega arith),
+          drop-cons rows (suc (suc n)) 0 (omega arith),
+        )
+
+    pub named-next : namedIn (drop (i * callWidth) rows) ≡ usesAt + namedIn (drop ((i + 1) * callWidth) rows)
+    named-next = rw rows-next
+
+    pub calls-next : (os : Lent) (used : ℕ)
+        → callsIn (drop (i * callWidth) rows) (drop used os)
+        ≡ callOf whichAt serialIn (take usesAt (drop used os)) ∷ callsIn (drop ((i + 1) * callWidth) rows) (drop (used + usesAt) os)
+    calls-next os used = rw (rows-next, drop-drop usesAt used os)
+
+-- every list of calls can be lent so, its second list too, with a pool that fits
 abbrev pub rowsFor : List Call → List ℕ
 rowsFor [] = []
-rowsFor (peek ∷ cs) = 0 ∷ 0 ∷ rowsFor cs
-rowsFor (claim s o ∷ cs) = 1 ∷ s ∷ rowsFor cs
-rowsFor (void s ∷ cs) = 2 ∷ s ∷ rowsFor cs
+rowsFor (peek ∷ cs) = 0 ∷ 0 ∷ 0 ∷ rowsFor cs
+rowsFor (claim s o ∷ cs) = 1 ∷ s ∷ 1 ∷ rowsFor cs
+rowsFor (void s ∷ cs) = 2 ∷ s ∷ 0 ∷ rowsFor cs
+rowsFor (claim-all s b ∷ cs) = 3 ∷ s ∷ room b ∷ rowsFor cs
 
-abbrev pub ordersFor : List Call → List ℕ
+abbrev pub ordersFor : List Call → Lent
 ordersFor [] = []
 ordersFor (peek ∷ cs) = ordersFor cs
 ordersFor (claim s o ∷ cs) = o ∷ ordersFor cs
 ordersFor (void s ∷ cs) = ordersFor cs
+ordersFor (claim-all s b ∷ cs) = entriesIn b ++ ordersFor cs
 
 pub every-list : (cs : List Call) → callsIn (rowsFor cs) (ordersFor cs) ≡ cs
 every-list [] = refl
 every-list (peek ∷ cs) = ap (λ (l : List Call). Call.peek ∷ l) (every-list cs)
 every-list (claim s o ∷ cs) = ap (λ (l : List Call). Call.claim s o ∷ l) (every-list cs)
 every-list (void s ∷ cs) = ap (λ (l : List Call). Call.void s ∷ l) (every-list cs)
+every-list (claim-all s b ∷ cs) = rw (take-append-seam b (ordersFor cs), drop-append-seam b (ordersFor cs), every-list cs)
+
+pub every-pool : (cs : List Call) → namedIn (rowsFor cs) ≡ length (ordersFor cs)
+every-pool [] = refl
+every-pool (peek ∷ cs) = omega (arith, every-pool cs)
+every-pool (claim s o ∷ cs) = omega (arith, every-pool cs)
+every-pool (void s ∷ cs) = omega (arith, every-pool cs)
+every-pool (claim-all s b ∷ cs) = omega (arith, every-pool cs, length-append b (ordersFor cs))
 
 -- ---- the answers
 

@@ -4,7 +4,7 @@ use mathlib.Core.Bool.{true}
 use mathlib.Core.List.{List, [], _∷_, _++_, map, append-nil}
 use Prim.Native.Nat.{ℕ, _+_, _-_, _*_, _/_, _%_, _≤_, _<_}
 use native.Mathlib.Omega.{arith}
-use lib.ListN.{length, getD, take, drop, length-drop, drop-of-length-le}
+use lib.ListN.{length, take, drop, length-drop, drop-of-length-le}
 use lib.Seq.{length-take-le}
 use borrow.Author.Tests.{eqb-true}
 use Rattle.model.specs.Basics.{replaced, all}
@@ -16,14 +16,16 @@ use Rattle.walsh.specs.declared.Transition.{Transition}
 use Rattle.model.specs.declared.Ledger.{Ledger}
 use Rattle.model.proofs.Lists.{length-snoc, snoc-append, length-replaced}
 use Rattle.model.proofs.Records.{each}
-use Rattle.replay.specs.Rows.{callWidth, callOf, uses, callsIn, rowWidth, rowOf, rowsOf, shown}
+use Rattle.replay.specs.Rows.{callWidth, callOf, callsIn, namedIn, rowWidth, rowOf, rowsOf, shown}
 use Rattle.replay.specs.Replay.{Script, Buffers, callsOf, sizes, Ran}
-use Rattle.replay.proofs.Rows.{uses-few, calls-count, calls-next, Full, full-snoc, rows-length, rows-more, read-back}
+use Rattle.replay.proofs.Rows.{calls-count, whichAt, serialIn, usesAt, named-next, calls-next}
+use Rattle.replay.proofs.Rows.{Full, full-snoc, rows-length, rows-more, read-back}
 
--- whole rows, as many of the answers as of the calls
+-- whole rows, as many of the answers as of the calls, and the orders that these name
 pub record Fit (x : Script) (b : Buffers) : Type 0 where
   pub whole : length (x .rows) % callWidth ≡ 0
   pub room : length (b .answers) ≡ length (x .rows) / callWidth * rowWidth
+  pub pool : length (x .orders) ≡ namedIn (x .rows)
 
 pub fit-of : (x : Script) (b : Buffers) → all (sizes x b) ≡ true → Fit x b
 fit-of x b t =
@@ -33,6 +35,7 @@ fit-of x b t =
       room =
           eqb-true (length (b .answers)) (length (callsOf x) * rowWidth) (p .1 .0)
           ∙ ap (λ (n : ℕ). n * rowWidth) (calls-count (x .rows) (x .orders));
+      pool = eqb-true (length (x .orders)) (namedIn (x .rows)) (p .1 .1 .0);
     }
 
 -- a run that comes after the calls of a trace
@@ -53,7 +56,8 @@ unfolding run
 run-calls r col [] = refl
 run-calls r col (c ∷ cs) = ap {B = List Call} (λ l. c ∷ l) (run-calls (recordAfter r col c) (columnAfter r col c) cs)
 
--- i calls are made, and so many orders of the pool used up: the run is that of the calls so far and of those to come
+-- i calls are made, and so many orders of the pool used up: the run is that of the calls so far and of those to come, and what is left of the pool is
+-- what these name
 pub record Progress (r : Ledger) (x : Script) (b b′ : Buffers) (l : Ledger) (used i : ℕ) : Type 0 where
   pub trace : List Event
   pub so-far : run r (b .column) (callsOf x)
@@ -61,30 +65,33 @@ pub record Progress (r : Ledger) (x : Script) (b b′ : Buffers) (l : Ledger) (u
   pub rows : b′ .answers ≡ replaced (b .answers) (rowsOf trace)
   pub full : Full trace
   pub count : length trace ≡ i
-  pub few : used ≤ i
+  pub left : used + namedIn (drop (i * callWidth) (x .rows)) ≡ length (x .orders)
   pub for-column : length (b′ .column) ≡ length (b .column)
   pub for-answers : length (b′ .answers) ≡ length (b .answers)
 
-pub start : (r : Ledger) (x : Script) (b : Buffers) → Progress r x b b r 0 0
-start r x b =
+pub start : (r : Ledger) (x : Script) (b : Buffers) → Fit x b → Progress r x b b r 0 0
+start r x b f =
     record {
       trace = [];
       so-far = refl;
       rows = refl;
       full = tt;
       count = refl;
-      few = omega arith;
+      left = omega (arith, f .pool);
       for-column = refl;
       for-answers = refl;
     }
 
--- a call more, of which the code did a step and put the answer into its row
-module _ (r : Ledger) (x : Script) (b b′ b″ : Buffers) (l : Ledger) (used i : ℕ) (t : Claimed) (x′ : Transition) (o used′ : ℕ) (part : List ℕ) where
-  abbrev which : ℕ
-  which = getD (x .rows) (i * callWidth) 0
+-- the orders of the next call are there
+pub enough : (r : Ledger) (x : Script) (b b′ : Buffers) (l : Ledger) (used i : ℕ) → Progress r x b b′ l used i → i < length (x .rows) / callWidth
+    → used + usesAt (x .rows) i ≤ length (x .orders)
+enough r x b b′ l used i w h = omega (arith, w .left, named-next (x .rows) i (omega arith))
 
+-- a call more, of which the code did a step and put the answer into its row
+module _ (r : Ledger) (x : Script) (b b′ b″ : Buffers) (l : Ledger) (used i : ℕ) (t : Claimed) (x′ : Transition) (os : Lent) (used′ : ℕ)
+    (part : List ℕ) where
   abbrev made : Call
-  made = callOf which (getD (x .rows) (i * callWidth + 1) 0) o
+  made = callOf (whichAt (x .rows) i) (serialIn (x .rows) i) os
 
   -- how long the part for the row is, as the code has it
   abbrev long : ℕ
@@ -94,21 +101,23 @@ module _ (r : Ledger) (x : Script) (b b′ b″ : Buffers) (l : Ledger) (used i 
       Fit x b
       → Progress r x b b′ l used i
       → i < length (x .rows) / callWidth
-      → o ≡ getD (x .orders) used 0
-      → used′ ≡ used + uses which
+      → used′ ≡ used + usesAt (x .rows) i
       → _≡_ {A = Claimed × Lent} (t, b″ .column) (calling l (b′ .column) made)
       → x′ ≡ told (printingOf l) made (t .answer)
+      → os ≡ take (used′ - used) (drop used (x .orders))
       → part ≡ rowOf (t .answer) x′
       → length part ≡ length (take long (drop (i * rowWidth) (b′ .answers)))
       → b″ .answers ≡ take (i * rowWidth) (b′ .answers) ++ (part ++ drop long (drop (i * rowWidth) (b′ .answers)))
       → length (b″ .column) ≡ length (b′ .column)
       → Progress r x b b″ (t .ledger) used′ (i + 1)
   unfolding calling
-  onward f w h of up g pair is wide put kept =
+  onward f w h up g pair of is wide put kept =
       let col = b′ .column in
+      let whole-row : i * callWidth + callWidth ≤ length (x .rows) = omega arith in
+      let wanted : used + usesAt (x .rows) i - used ≡ usesAt (x .rows) i = omega arith in
       let cs = callsIn (drop ((i + 1) * callWidth) (x .rows)) (drop used′ (x .orders)) in
       let ahead : callsIn (drop (i * callWidth) (x .rows)) (drop used (x .orders)) ≡ made ∷ cs =
-      rw (of, up) (calls-next (x .rows) (x .orders) i used (omega arith)) in
+      rw (of, up, wanted) (calls-next (x .rows) i whole-row (x .orders) used) in
       let answer : t .answer ≡ answered l col made = ap (λ (p : Claimed × Lent). p .0 .answer) g in
       let ledger : t .ledger ≡ recordAfter l col made = ap (λ (p : Claimed × Lent). p .0 .ledger) g in
       let column : b″ .column ≡ columnAfter l col made = ap (λ (p : Claimed × Lent). p .1) g in
@@ -131,7 +140,7 @@ module _ (r : Ledger) (x : Script) (b b′ b″ : Buffers) (l : Ledger) (used i 
         rows = rows;
         full = full;
         count = count;
-        few = omega (arith, uses-few which);
+        left = omega (arith, w .left, up, named-next (x .rows) i whole-row);
         for-column = kept ∙ w .for-column;
         for-answers = ap length rows ∙ length-replaced (b .answers) (rowsOf trace) (omega (arith, rows-length trace full, f .room));
       }

@@ -1,31 +1,32 @@
 -- Document 01, "The register": a whole list of calls, run by the code over slices that the caller lends. What the code promises of it is the
 -- statement about the list as a whole (crate `model`, specs/Whole.antt), of what stands in the slices afterwards.
-use mathlib.Core.Path.{_≡_}
+use mathlib.Core.Path.{_≡_, refl}
 use mathlib.Core.Logic.{_≢_}
-use mathlib.Core.Bool.{Bool, not}
+use mathlib.Core.Bool.{Bool, true, false, not}
 use mathlib.Core.List.{List, [], _∷_, _++_}
 use Prim.Native.Nat.{ℕ, _*_, _%_}
 use lib.Dec.{eqb}
 use lib.ListN.{length}
+use Rattle.walsh.specs.Transition.{none}
 use Rattle.bounds.specs.Refusal.{Check, check, firstRefusal}
 use Rattle.model.specs.Basics.{all}
 use Rattle.model.specs.Entry.{Lent, room}
 use Rattle.model.specs.Printing.{Printing}
-use Rattle.model.specs.Model.{Call}
+use Rattle.model.specs.Model.{Call, refusedWith}
 use Rattle.model.specs.Record.{opened, blankLedger, openingChecks, Run, run}
 use Rattle.model.specs.Whole.{ran, secondList, Whole}
 use Rattle.model.specs.declared.Ledger.{Ledger}
 use Rattle.model.specs.declared.Opened.{Opened}
-use Rattle.replay.specs.Rows.{callWidth, callsIn, rowWidth, rowsOf, shown}
+use Rattle.replay.specs.Rows.{callWidth, callsIn, namedIn, rowWidth, rowOf, rowsOf, shown}
 
 -- ---- what is lent
 
 -- the rows of the calls, and the pool of orders
 pub record Script : Type 0 where
   pub rows : List ℕ
-  pub orders : List ℕ
+  pub orders : Lent
 
-abbrev pub scripted : (rows orders : List ℕ) → Script
+abbrev pub scripted : (rows : List ℕ) (orders : Lent) → Script
 scripted rows orders = record { rows = rows; orders = orders }
 
 abbrev pub callsOf : Script → List Call
@@ -45,12 +46,28 @@ seen cs l b = record { trace = shown cs (b .answers); ledger = l; column = b .co
 
 -- ---- refusals: those of the opening, then the place 'lent part'
 
--- a script of so many numbers has whole rows, and a buffer of so many a row for each call
-abbrev pub sizesOf : (rows calls answers : ℕ) → List Bool
-sizesOf rows calls answers = eqb (rows % callWidth) 0 ∷ eqb answers (calls * rowWidth) ∷ []
+-- a script of so many numbers has whole rows, a buffer of so many a row for each call, and a pool of so many orders just those that the calls name
+abbrev pub sizesOf : (rows calls answers orders named : ℕ) → List Bool
+sizesOf rows calls answers orders named = eqb (rows % callWidth) 0 ∷ eqb answers (calls * rowWidth) ∷ eqb orders named ∷ []
 
 abbrev pub sizes : Script → Buffers → List Bool
-sizes x b = sizesOf (length (x .rows)) (length (callsOf x)) (length (b .answers))
+sizes x b = sizesOf (length (x .rows)) (length (callsOf x)) (length (b .answers)) (length (x .orders)) (namedIn (x .rows))
+
+-- for example, with a bundle of two and a buffer of one row a pool of two orders fits, and one of one or of three does not
+fitting : (orders : Lent) → Bool
+fitting orders = all (sizes (scripted (3 ∷ 1 ∷ 2 ∷ []) orders) (buffers [] (rowOf (refusedWith 18 1007) none)))
+
+just-two : fitting (1007 ∷ 1014 ∷ []) ≡ true
+unfolding fitting
+just-two = refl
+
+one-missing : fitting (1007 ∷ []) ≡ false
+unfolding fitting
+one-missing = refl
+
+one-over : fitting (1007 ∷ 1014 ∷ 1021 ∷ []) ≡ false
+unfolding fitting
+one-over = refl
 
 abbrev pub sizeChecks : Script → Buffers → List Check
 sizeChecks x b = check 13 (not (all (sizes x b))) 0 ∷ []
@@ -69,7 +86,7 @@ pub record Ran (r : Ledger) (cs : List Call) (b b′ : Buffers) (l : Ledger) : T
 -- in `Whole .column`.
 pub record Replayed (p : Printing) (cs : List Call) (b b′ : Buffers) (l : Ledger) : Type 0 where
   pub done : Ran (opened p) cs b b′ l
-  pub whole : Whole p (b .column) cs (seen cs l b′) (ran p (b .column) (secondList (seen cs l b′)))
+  pub whole : Whole p (b .column) cs (seen cs l b′) (ran p (b .column) (secondList p (seen cs l b′)))
 
 -- "A refusal answers its number and a detail [..] and changes no lent byte"; "a refused opening, a record all zeros", also where the lengths do
 -- not fit

@@ -1,39 +1,57 @@
--- The rows that the caller lends for a list of calls: a script with a row for each call and a pool of the orders that its claims name, and a buffer
+-- The rows that the caller lends for a list of calls: a script with a row for each call and a pool of the orders that the calls name, and a buffer
 -- with a row for each answer.
 use mathlib.Core.Path.{_≡_, refl}
 use mathlib.Core.Bool.{cond}
 use mathlib.Core.List.{List, [], _∷_, _++_}
-use Prim.Native.Nat.{ℕ}
+use Prim.Native.Nat.{ℕ, _+_}
 use lib.Dec.{eqb}
 use lib.ListN.{length, getD, take, drop}
 use Rattle.walsh.specs.Transition.{none}
 use Rattle.walsh.specs.declared.Transition.{Transition}
-use Rattle.model.specs.Model.{Call, peek, claim, void, refusedWith, Event}
+use Rattle.model.specs.Entry.{voidEntry, Lent, entriesIn}
+use Rattle.model.specs.Model.{Call, peek, claim, void, claim-all, refusedWith, Event}
 use Rattle.model.specs.declared.Answer.{Answer}
 
 -- ---- the script
 
--- the columns of a call: which call, and its serial
+-- the columns of a call: which call, its serial, and how many orders it names
 abbrev pub callWidth : ℕ
-callWidth = 2
+callWidth = 3
 
--- 0 is a peek, 1 a claim, any other a void
-abbrev pub callOf : (which serial order : ℕ) → Call
-callOf k s o = cond (eqb k 0) peek (cond (eqb k 1) (claim s o) (void s))
+-- 0 is a peek, 1 a claim, 3 a bundle, any other a void, with the list of the orders that it names: a claim is for the first of them
+abbrev pub callOf : (which serial : ℕ) (orders : Lent) → Call
+callOf k s os = cond (eqb k 0) peek (cond (eqb k 1) (claim s (getD (entriesIn os) 0 voidEntry)) (cond (eqb k 3) (claim-all s os) (void s)))
 
--- how many orders of the pool a call uses up
-abbrev pub uses : (which : ℕ) → ℕ
-uses k = cond (eqb k 1) 1 0
+-- how many orders a call names: the number in its row counts for a bundle alone; a claim names one, a peek and a void none
+abbrev pub uses : (which orders : ℕ) → ℕ
+uses k n = cond (eqb k 1) 1 (cond (eqb k 3) n 0)
 
--- the calls in turn; a claim is for the next order of the pool, for order 0 where the pool is used up. Numbers that make no whole row are no call.
-abbrev pub callsIn : (rows orders : List ℕ) → List Call
+-- the calls in turn, each for the next orders of the pool, which it uses up. Numbers that make no whole row are no call.
+abbrev pub callsIn : (rows : List ℕ) (orders : Lent) → List Call
 callsIn [] os = []
 callsIn (k ∷ []) os = []
-callsIn (k ∷ s ∷ rows) os = callOf k s (getD os 0 0) ∷ callsIn rows (drop (uses k) os)
+callsIn (k ∷ s ∷ []) os = []
+callsIn (k ∷ s ∷ n ∷ rows) os = callOf k s (take (uses k n) os) ∷ callsIn rows (drop (uses k n) os)
 
--- for example, a peek and a void use up no order
-in-turn : callsIn (1 ∷ 1 ∷ 0 ∷ 9 ∷ 2 ∷ 2 ∷ 1 ∷ 3 ∷ 1 ∷ 4 ∷ []) (1007 ∷ 1014 ∷ []) ≡ claim 1 1007 ∷ peek ∷ void 2 ∷ claim 3 1014 ∷ claim 4 0 ∷ []
+-- how many orders they name in all
+abbrev pub namedIn : (rows : List ℕ) → ℕ
+namedIn [] = 0
+namedIn (k ∷ []) = 0
+namedIn (k ∷ s ∷ []) = 0
+namedIn (k ∷ s ∷ n ∷ rows) = uses k n + namedIn rows
+
+-- for example, a claim, a peek, a void, a bundle of two, a claim and a bundle of none; of the last number in a row that of the bundles alone counts
+someRows : List ℕ
+someRows = 1 ∷ 1 ∷ 9 ∷ 0 ∷ 9 ∷ 9 ∷ 2 ∷ 2 ∷ 9 ∷ 3 ∷ 3 ∷ 2 ∷ 1 ∷ 5 ∷ 0 ∷ 3 ∷ 6 ∷ 0 ∷ []
+
+in-turn : callsIn someRows (1007 ∷ 1014 ∷ 1021 ∷ 1028 ∷ [])
+    ≡ claim 1 1007 ∷ peek ∷ void 2 ∷ claim-all 3 (1014 ∷ 1021 ∷ []) ∷ claim 5 1028 ∷ claim-all 6 [] ∷ []
+unfolding someRows
 in-turn = refl
+
+four-named : namedIn someRows ≡ 4
+unfolding someRows
+four-named = refl
 
 -- ---- the answers
 

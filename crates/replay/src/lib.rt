@@ -8,17 +8,18 @@ use walsh::Transition;
 ghost use mathlib.Core.Path.{_≡_};
 ghost use mathlib.Core.Bool.{true};
 ghost use Prim.Native.Nat.{_/_};
+ghost use lib.Dec.{eqb};
 ghost use lib.ListN.{length, getD};
 ghost use Rattle.bounds.specs.Places.{copied};
 ghost use Rattle.model.specs.Basics.{all};
 ghost use Rattle.walsh.specs.Transition.{none};
 ghost use Rattle.model.specs.Model.{Call, told};
 ghost use Rattle.model.specs.Record.{printingOf, answered, calling};
-ghost use Rattle.replay.specs.Rows.{callWidth, callOf, uses, rowWidth, rowOf};
+ghost use Rattle.replay.specs.Rows.{callWidth, callOf, uses, namedIn, rowWidth, rowOf};
 ghost use Rattle.replay.specs.Replay.{scripted, buffers, callsOf, sizesOf, sizes, Ran, Replays};
 
-// The columns of a call in the script: which call, serial.
-const CALL: usize = 2;
+// The columns of a call in the script: which call, serial, how many orders it names.
+const CALL: usize = 3;
 
 // The columns of an answer: number, detail, serial, the 24 cells of the composition, gain and loss.
 const ROW: usize = 29;
@@ -51,7 +52,7 @@ fn look(ledger: Ledger, column: &[u32]) -> Called
     Called { claimed, pair }
 }
 
-// A claim or a void: it answers no pair.
+// A claim, a bundle or a void: it answers no pair.
 fn unpaired(claimed: Claimed) -> Called
     ensures { λ r. ⌜ (r .claimed ≡ claimed) × (r .pair ≡ none) ⌝ }
 {
@@ -59,36 +60,42 @@ fn unpaired(claimed: Claimed) -> Called
     Called { claimed, pair }
 }
 
-// One call: 0 is a peek, 1 a claim, any other a void.
-fn call(ledger: Ledger, column: &mut [u32], which: u64, serial: u64, order: u32) -> Called
+// The first of the orders that a call names; 0 where it names none.
+fn first_order(orders: &[u32]) -> u32
+    ensures { λ r. ⌜ r ≡ getD (now (orders .entry)) 0 0 ⌝ }
+{
+    if orders.len() == 0 {
+        return 0;
+    }
+    orders[0]
+}
+
+// One call with the orders that it names: 0 is a peek, 1 a claim, 3 a bundle, any other a void.
+fn call(ledger: Ledger, column: &mut [u32], which: u64, serial: u64, orders: &[u32]) -> Called
     ensures { λ r.
-        ⌜ ((r .claimed, now (column .exit)) ≡ calling ledger (now (column .entry)) (callOf which serial order))
-        × (r .pair ≡ told (printingOf ledger) (callOf which serial order) (r .claimed .answer)) ⌝ }
+        ⌜ ((r .claimed, now (column .exit)) ≡ calling ledger (now (column .entry)) (callOf which serial (now (orders .entry))))
+        × (r .pair ≡ told (printingOf ledger) (callOf which serial (now (orders .entry))) (r .claimed .answer)) ⌝ }
 {
     if which == 0 {
         return look(ledger, column);
     }
     if which == 1 {
-        return unpaired(ledger::claim(ledger, column, serial, order));
+        return unpaired(ledger::claim(ledger, column, serial, first_order(orders)));
+    }
+    if which == 3 {
+        return unpaired(ledger::claim_all(ledger, column, serial, orders));
     }
     unpaired(ledger::void(ledger, column, serial))
 }
 
-// How many orders of the pool a call uses up.
-fn uses(kind: u64) -> usize
-    ensures { λ r. ⌜ r ≡ uses kind ⌝ }
+// How many orders of the pool a call uses up, with the number in its row.
+fn uses(kind: u64, n: u64) -> usize
+    ensures { λ r. ⌜ r ≡ uses kind n ⌝ }
 {
-    if kind == 1 { 1 } else { 0 }
-}
-
-// The order at a place of the pool; 0 past its end.
-fn order_at(orders: &[u32], at: usize) -> u32
-    ensures { λ r. ⌜ r ≡ getD (now (orders .entry)) at 0 ⌝ }
-{
-    if orders.len() <= at {
-        return 0;
+    if kind == 3 {
+        return n as usize;
     }
-    orders[at]
+    if kind == 1 { 1 } else { 0 }
 }
 
 // Copies the beginning of `cells` over the beginning of `out`, as many numbers as both have.
@@ -136,34 +143,57 @@ fn run(
     while i < script.len() / CALL {
         let from = i * CALL;
         let which = script[from];
-        let order = order_at(orders, next);
-        let done = call(l, column, which, script[from + 1], order);
+        let end = next + uses(which, script[from + 2]);
+        let done = call(l, column, which, script[from + 1], &orders[next..end]);
         let claimed = done.claimed;
         let at = i * ROW;
-        let end = at + ROW;
-        put(claimed.answer, done.pair, &mut answers[at..end]);
+        let row = at + ROW;
+        put(claimed.answer, done.pair, &mut answers[at..row]);
         l = claimed.ledger;
-        next += uses(which);
+        next = end;
         i += 1;
     }
     l
 }
 
-// Whether a script of so many numbers has whole rows, and a buffer of so many a row for each call.
-fn fits(rows: usize, answers: usize) -> bool
-    ensures { λ r. ⌜ r ≡ all (sizesOf rows (rows / callWidth) answers) ⌝ }
+// Whether a pool of so many orders has just those that the calls name.
+fn pool_fits(rows: &[u64], pool: usize) -> bool
+    ensures { λ r. ⌜ r ≡ eqb pool (namedIn (now (rows .entry))) ⌝ }
 {
-    if rows % CALL != 0 {
+    let mut left = pool;
+    let mut k: usize = 0;
+    while k < rows.len() / CALL {
+        let start = k * CALL;
+        let used = uses(rows[start], rows[start + 2]);
+        if left < used {
+            return false;
+        }
+        left -= used;
+        k += 1;
+    }
+    left == 0
+}
+
+// Whether a script has whole rows, a buffer of so many numbers a row for each call, and a pool of so many orders those that the calls name.
+fn fits(script: &[u64], answers: usize, orders: usize) -> bool
+    ensures { λ r.
+        ⌜ r ≡ all (sizesOf (length (now (script .entry))) (length (now (script .entry)) / callWidth) answers orders (namedIn (now (script .entry)))) ⌝ }
+{
+    if script.len() % CALL != 0 {
         return false;
     }
     if answers % ROW != 0 {
         return false;
     }
-    answers / ROW == rows / CALL
+    if answers / ROW != script.len() / CALL {
+        return false;
+    }
+    pool_fits(script, orders)
 }
 
-// A list of calls on a newly opened ledger over `column`. The script has a row of two numbers for each call, and each claim is for the next order of
-// the pool `orders`, for order 0 where that is used up. The answers go into the lent buffer, a row of 29 numbers each. A refusal writes nothing.
+// A list of calls on a newly opened ledger over `column`. The script has a row of three numbers for each call, and the pool `orders` just the orders
+// that the calls name, in turn: a claim one, a bundle as many as its row says. The answers go into the lent buffer, a row of 29 numbers each. A refusal
+// writes nothing.
 pub fn replay(
     upper: &[u8],
     total: u32,
@@ -180,7 +210,7 @@ pub fn replay(
     if opened.number != 0 {
         return opened;
     }
-    if !fits(script.len(), answers.len()) {
+    if !fits(script, answers.len(), orders.len()) {
         return ledger::unopened(13, 0);
     }
     let first = opened.ledger;

@@ -1,16 +1,18 @@
-// What a peek, a claim and a void answer (document 01, "Refusals", places 'register calls' to 'look'). Nothing is written here: crate `ledger` has
-// the calls.
+// What a peek, a claim, a void and a bundle answer (document 01, "Refusals", places 'register calls' to 'look'; document 02, (v)). Nothing is written
+// here: crate `ledger` has the calls.
+use integrity::Met;
 use model::Answer;
 use model::Ledger;
 use model::Peeked;
 ghost use mathlib.Core.Path.{_≡_};
-ghost use mathlib.Core.Bool.{true};
+ghost use mathlib.Core.Bool.{true, false, cond};
 ghost use Prim.Native.Nat.{_+_, _<_};
 ghost use Rattle.walsh.specs.Transition.{none};
 ghost use Rattle.bounds.specs.Places.{mostEntries};
 ghost use Rattle.model.specs.Printing.{blank, size};
-ghost use Rattle.model.specs.Model.{Call, refusedWith, answer};
+ghost use Rattle.model.specs.Model.{Call, badBundle, refusedWith, answer};
 ghost use Rattle.model.specs.Record.{printingOf, written, consistent, answered, peekedBy, peeking};
+ghost use Rattle.integrity.specs.Examine.{metBy};
 
 fn refused(number: u32, detail: u64) -> Answer
     ensures { λ r. ⌜ r ≡ record { number = number; detail = detail; serial = 0; composition = blank } ⌝ }
@@ -138,4 +140,67 @@ pub fn void(ledger: Ledger, orders: &[u32], serial: u64) -> Answer
         return refused(16, 0);
     }
     place(ledger, orders, seen.count, serial)
+}
+
+// ---- document 02, (v): a bundle
+
+// The most orders of a bundle.
+const MOST_ORDERS: usize = 40;
+
+// What a bundle of no orders or of too many answers: 24, but 16 stands before it.
+fn missized(ledger: Ledger, orders: &[u32]) -> Answer
+    ensures { λ r. ⌜ r ≡ cond (consistent ledger (now (orders .entry))) (refusedWith 24 0) (refusedWith 16 0) ⌝ }
+{
+    let seen = integrity::examine(ledger, orders);
+    if seen.fits {
+        return refused(24, 0);
+    }
+    refused(16, 0)
+}
+
+// The takes one after another: of the first its order and its serial; then of each its order, whether a serial is left for it, and whether the order
+// stands in an earlier line, those of the takes before it included. Where no take is refused, the answer is that of the first.
+fn takes(ledger: Ledger, orders: &[u32], serial: u64, bundle: &[u32], met: Met) -> Answer
+    requires { ⌜ (consistent ledger (now orders) ≡ true) × (badBundle (now bundle) .holds ≡ false)
+        × (met ≡ metBy true ledger (now orders) (now bundle)) ⌝ }
+    ensures { λ r. ⌜ r ≡ answer (printingOf ledger) (written ledger (now (orders .entry))) (Call.claim-all serial (now (bundle .entry))) ⌝ }
+{
+    if bundle[0] == 0 {
+        return refused(17, 0);
+    }
+    let first = place(ledger, orders, met.count, serial);
+    if first.number != 0 {
+        return first;
+    }
+    let mut k: usize = 0;
+    while k < bundle.len() {
+        if bundle[k] == 0 {
+            return refused(17, 0);
+        }
+        if met.count < serial + k as u64 {
+            return refused(6, 0);
+        }
+        if k == met.first {
+            return refused(20, met.place + 1);
+        }
+        k += 1;
+    }
+    first
+}
+
+// 16, 24, and the takes.
+pub fn claim_all(ledger: Ledger, orders: &[u32], serial: u64, bundle: &[u32]) -> Answer
+    ensures { λ r. ⌜ r ≡ answered ledger (now (orders .entry)) (Call.claim-all serial (now (bundle .entry))) ⌝ }
+{
+    if bundle.len() == 0 {
+        return missized(ledger, orders);
+    }
+    if MOST_ORDERS < bundle.len() {
+        return missized(ledger, orders);
+    }
+    let met = integrity::examine_all(ledger, orders, bundle);
+    if !met.fits {
+        return refused(16, 0);
+    }
+    takes(ledger, orders, serial, bundle, met)
 }

@@ -9,6 +9,7 @@ pub mod Cells
 pub mod Steps
 pub mod Fronts
 pub mod Runs
+pub mod Strides
 pub mod Copies
 pub mod Batches
 pub mod Withdrawn

@@ -10,7 +10,7 @@ use lib.ListN.{length, getD, set, take, drop, length-set, length-take}
 use lib.Seq.{take-append-le, take-take, take-set-lt, set-append-left, set-getD, set-set, set-comm, getD-set-same, getD-set-other}
 use borrow.Author.Tests.{lt-ltb, le-ltb, le-leb}
 use Rattle.walsh.specs.Sums.{sumTo}
-use Rattle.walsh.specs.Order.{Composition, isOdd, countOf}
+use Rattle.walsh.specs.Order.{isOdd, countOf}
 use Rattle.walsh.specs.Serial.{serialOf}
 use Rattle.walsh.specs.Step.{nextValue}
 use Rattle.walsh.proofs.Cases.{up-to}
@@ -103,7 +103,7 @@ module _ (p : Front) (x : Run) where
   shown-own g e f = rw (e, f, set-getD g (p .low) 0) (set-getD g (p .high) 0)
 
   module _ (apart : p .low < p .high) where
-    shown-low : (g : List ℕ) → p .high < length g → getD (shown p x g) (p .low) 0 ≡ x .first
+    pub shown-low : (g : List ℕ) → p .high < length g → getD (shown p x g) (p .low) 0 ≡ x .first
     shown-low g l =
         getD-set-other (set g (p .low) (x .first)) (p .high) (p .low) (x .second) 0 (λ e. omega arith)
         ∙ getD-set-same g (p .low) (x .first) 0 (omega arith)
@@ -146,12 +146,12 @@ module _ (p : Front) (x : Run) where
 -- ---- whether the second of the two can move
 
 module _ (ms : List ℕ) (r : ℕ) (p : Front) (inFront : InFront ms p) (x : Run) (parts : List ℕ) (run : Running ms r p x)
-    (valid : Composition ms r (shown p x parts)) where
+    (size : length (shown p x parts) ≡ length ms) (fits : (i : ℕ) → i < p .high → getD (shown p x parts) i 0 ≤ getD ms i 0) where
   abbrev g : List ℕ
   g = shown p x parts
 
   long : p .high < length parts
-  long = omega (arith, shown-length p x parts, valid .size, inFront .inside)
+  long = omega (arith, shown-length p x parts, size, inFront .inside)
 
   first : getD g (p .low) 0 ≡ x .first
   first = shown-low p x (inFront .apart) parts long
@@ -162,9 +162,6 @@ module _ (ms : List ℕ) (r : ℕ) (p : Front) (inFront : InFront ms p) (x : Run
   -- only part `low` of those before part `high` has a bound
   between : sumTo ms (p .high) ≤ sumTo ms (suc (p .low))
   between = omega (arith, inFront .between)
-
-  fits : (i : ℕ) → i < p .high → getD g i 0 ≤ getD ms i 0
-  fits i l = valid .parts .fits i (omega (arith, inFront .inside))
 
   sum : sumTo g (suc (p .high)) ≡ sumOf x
   sum =

@@ -1,5 +1,5 @@
 -- From the step at a part to the step in serials, forward and backward, and the step in place.
-use mathlib.Core.Path.{_≡_, refl, sym, ap, _∙_}
+use mathlib.Core.Path.{_≡_, sym, ap, _∙_}
 use mathlib.Core.Logic.{_⊎_, inl, inr}
 use mathlib.Core.Bool.{Bool, true, false, cond, not}
 use mathlib.Core.List.{List}
@@ -16,7 +16,7 @@ use Rattle.walsh.specs.Serial.{serialOf, compositionOf}
 use Rattle.walsh.specs.Neighbours.{Adjacent}
 use Rattle.walsh.specs.Transition.{transition, transitionAt, Carries}
 use Rattle.walsh.specs.declared.Transition.{Transition}
-use Rattle.walsh.proofs.Cases.{on-less}
+use Rattle.walsh.proofs.Cases.{on-test, on-less}
 use Rattle.walsh.proofs.Tests.{both-left, both-right}
 use Rattle.walsh.proofs.Serials.{composition-is, serial-composition, composition-serial, serial-pos}
 use Rattle.walsh.proofs.Successors.{successor-at, successor-none, predecessor-at, predecessor-none}
@@ -128,16 +128,19 @@ module _ (ms : List ℕ) (w : ℕ) (g : List ℕ) where
   unfolding turnAny
   any-turn e = rw e
 
-  -- where there is no part, none can move
-  turn-nil : length ms ≡ 0 → turnOf ms w g ≡ g
+  -- where there is one part at most, none can move
+  turn-nil : length ms ≤ 1 → turnOf ms w g ≡ g
   unfolding turnAt
   turn-nil e = rw (le-ltb (pivotOf ms w g) (length ms) (omega (arith, pivot-first ms w g .low)))
 
-  any-sized : length ms ≤ 24 → length g ≡ length ms → turnAny ms w g ≡ turnOf ms w g
+  pub any-sized : length ms ≤ 24 → length g ≡ length ms → turnAny ms w g ≡ turnOf ms w g
   any-sized few size =
       on-less 0 (length ms)
       (λ l t. sym (any-turn (rw (t, le-leb (length ms) 24 few, eq-eqb (length g) (length ms) size))))
       (λ l t. sym (turn-nil (omega arith) ∙ any-other (rw t)))
+
+  pub any-few : length ms ≤ 1 → turnAny ms w g ≡ g
+  any-few l = on-test (sized ms g) (λ t. sym (any-turn t) ∙ turn-nil l) (λ t. sym (any-other t))
 
 module _ (ms : List ℕ) (r : ℕ) (g : List ℕ) where
   -- the equation for all bytes says of a composition that the next one is left

@@ -10,7 +10,10 @@ ghost use Rattle.bounds.specs.Places.{lentChecks, copied};
 ghost use Rattle.bounds.specs.declared.Refusal.{Refusal};
 ghost use Rattle.step.specs.Batch.{beyond, rangeChecks, batchOf};
 ghost use Rattle.step.specs.Run.{NextLeft, InFront, valuesLeft, Running, BehindRun, CanMove, movedOf, shown, Onward, Asked, copiesFrom};
+ghost use Rattle.step.specs.Stride.{CanSlide, slidOf, Leaps, Strides};
 use crate::PivotSums;
+use crate::is_sized;
+use crate::turn;
 use crate::turn_from;
 use bounds::Refusal;
 use bounds::copy;
@@ -255,4 +258,68 @@ pub fn batch(upper: &[u8], total: u32, serial: u64, copies: u64, out: &mut [u8])
     let parts = first.composition;
     write(upper, total as usize, parts, copies, out);
     answer
+}
+
+// ---- several steps in place
+
+// The second part so many values on.
+fn slid(run: Run, steps: usize) -> Run
+    requires { ⌜ CanSlide run steps ⌝ }
+    ensures { λ r. ⌜ r ≡ slidOf run steps ⌝ }
+{
+    let by = steps as u8;
+    if run.falling {
+        return Run {
+            first: run.first + by,
+            second: run.second - by,
+            falling: true,
+            more: run.more - steps,
+        };
+    }
+    Run {
+        first: run.first - by,
+        second: run.second + by,
+        falling: false,
+        more: run.more - steps,
+    }
+}
+
+// The steps that move the first two parts alone, all at once, and the step behind them; `most` steps at most. The answer is how many were made. Where
+// the first part is above its bound, it is one step.
+fn leap(upper: &[u8], total: usize, parts: &mut [u8], most: usize) -> usize
+    requires { ⌜ (1 < length (now upper)) × (length (now upper) ≤ 24) × (length (now parts) ≡ length (now upper)) × (total ≤ 4294967296)
+        × (0 < most) ⌝ }
+    ensures { λ r. ⌜ Leaps (now (upper .entry)) total (now (parts .entry)) most r (now (parts .exit)) ⌝ }
+{
+    let front = Front { low: 0, high: 1 };
+    let run = run_of(upper, total, front, parts);
+    if upper[0] < run.first {
+        turn(upper, total, parts);
+        return 1;
+    }
+    let steps = lesser(most, run.more);
+    let to = slid(run, steps);
+    parts[0] = to.first;
+    parts[1] = to.second;
+    if steps == most {
+        return steps;
+    }
+    turn_from(upper, total, behind(upper, front, to), parts);
+    steps + 1
+}
+
+// So many forward steps in place, as by so many calls of `advance`.
+pub fn stride(upper: &[u8], total: u32, parts: &mut [u8], steps: usize)
+    ensures { λ _. ⌜ Strides (now (upper .entry)) total (now (parts .entry)) steps (now (parts .exit)) ⌝ }
+{
+    if !is_sized(upper, parts) {
+        return;
+    }
+    if upper.len() < 2 {
+        return;
+    }
+    let mut made: usize = 0;
+    while made < steps {
+        made += leap(upper, total as usize, parts, steps - made);
+    }
 }

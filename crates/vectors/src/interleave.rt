@@ -1,6 +1,6 @@
 // A list of calls on a newly opened ledger, as several workers make them in turn. The command has the bounds and the total, the column as it is
-// before, the script, the pool of orders, and the length of the buffer for the answers. It is answered by number and detail, a line for the record
-// after the last call, a line for the column and a line for the rows.
+// before, the script with three numbers a call, the pool of the orders that the calls name, and the length of the buffer for the answers. It is answered
+// by number and detail, a line for the record after the last call, a line for the column and a line for the rows.
 use crate::read;
 use crate::room;
 use crate::show;

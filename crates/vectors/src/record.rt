@@ -54,31 +54,44 @@ pub(crate) fn opening(s: &[u8], from: usize) -> usize
     size.at
 }
 
-// What a call answers, and the record after it: 0 peek, 1 claim, any other void.
-fn called(ledger: Ledger, column: &mut [u32], which: u64, serial: u64, order: u32) {
+// The first of some orders; 0 where there is none.
+fn first(orders: &[u32]) -> u32 {
+    if orders.len() == 0 {
+        return 0;
+    }
+    orders[0]
+}
+
+// What a call answers, and the record after it: 0 peek, 1 claim for the first order, 3 bundle of all the orders, any other void.
+fn called(ledger: Ledger, column: &mut [u32], which: u64, serial: u64, orders: &[u32]) {
     if which == 0 {
         show::peeked(ledger::peek(ledger, column));
         show::ledger(ledger);
         return;
     }
     if which == 1 {
-        show::claimed(ledger::claim(ledger, column, serial, order));
+        show::claimed(ledger::claim(ledger, column, serial, first(orders)));
+        return;
+    }
+    if which == 3 {
+        show::claimed(ledger::claim_all(ledger, column, serial, orders));
         return;
     }
     show::claimed(ledger::void(ledger, column, serial));
 }
 
-// call: k, record, column, which call, serial, order: the entries before; number, detail, serial, 24 cells, of a peek gain and loss too; the record;
+// call: k, record, column, which call, serial, orders: the entries before; number, detail, serial, 24 cells, of a peek gain and loss too; the record;
 // the column
 pub(crate) fn call(s: &[u8], from: usize) -> usize
     ensures { λ r. ⌜ from ≤ r ⌝ }
 {
     let mut space = room::words();
+    let mut pool = room::words();
     let r = record(s, from);
     let c = read::words(s, r.at, &mut space);
     let which = read::number(s, c.at);
     let serial = read::number(s, which.at);
-    let order = read::number(s, serial.at);
+    let o = read::words(s, serial.at, &mut pool);
     let column = room::lent_32(&mut space, c.len as u64);
     let ledger = r.ledger;
     show::words(ledger::entries(ledger, column));
@@ -87,8 +100,8 @@ pub(crate) fn call(s: &[u8], from: usize) -> usize
         column,
         which.value,
         serial.value,
-        (order.value % 4294967296) as u32,
+        room::part_32(&pool, o.len),
     );
     show::words(column);
-    order.at
+    o.at
 }

@@ -5,13 +5,14 @@ ghost use lib.ListN.{length};
 // What room holds before something is stored there: not 0, so that what a call leaves as it was shows.
 const FILL: u32 = 7;
 
+// For a column, and for the pool of a script, in which bundles name several orders a call.
 pub(crate) fn words() -> [u32; 2048]
     ensures { λ r. ⌜ 2048 ≡ length r ⌝ }
 {
     [FILL; 2048]
 }
 
-// For 2,048 rows of answers, and for a script.
+// For 2,048 rows of answers, and for a script of as many calls and more.
 pub(crate) fn longs() -> [u64; 59392]
     ensures { λ r. ⌜ 59392 ≡ length r ⌝ }
 {

@@ -1,42 +1,54 @@
 -- `replay::fits` meets its contract.
-use mathlib.Core.Path.{_≡_, sym}
+use mathlib.Core.Path.{_≡_, sym, _∙_}
 use mathlib.Core.Bool.{Bool, true, false}
 use mathlib.Core.List.{List}
 use Prim.Native.Nat.{ℕ, _*_, _/_}
 use native.Mathlib.Omega.{arith}
-use lib.ListN.{getD}
-use borrow.Author.Tests.{eq-eqb, ne-eqb, eqb-true, eqb-false}
 use lib.Dec.{eqb}
+use lib.ListN.{length, getD}
+use denote.Ref.{now}
+use borrow.Author.Needs.{needs}
+use borrow.Author.Tests.{eq-eqb, ne-eqb}
 use Rattle.walsh.proofs.Cases.{on-test}
 use Rattle.model.specs.Basics.{all}
 use Rattle.model.proofs.Records.{one-fails}
-use Rattle.replay.specs.Rows.{callWidth, rowWidth}
+use Rattle.replay.specs.Rows.{callWidth, namedIn, rowWidth}
 use Rattle.replay.specs.Replay.{sizesOf}
 use Rattle.replay.proofs.fits.Statement.{statement}
 use Rattle.replay.proofs.fits.Tie as tie
 
+-- how many calls the script has
+abbrev calls : tie.Start → ℕ
+calls s = length (now (s .args .script)) / callWidth
+
 abbrev tests : tie.Start → List Bool
-tests s = sizesOf (s .args .rows) (s .args .rows / callWidth) (s .args .answers)
+tests s = sizesOf (length (now (s .args .script))) (calls s) (s .args .answers) (s .args .orders) (namedIn (now (s .args .script)))
 
 no : (i : ℕ) (s : tie.Start) → getD (tests s) i true ≡ false → false ≡ all (tests s)
 no i s e = sym (one-fails i (tests s) e)
 
 returns : tie.Need-returns
-returns c = no 0 (c .before) (ne-eqb _ _ (c .if1 .taken))
+returns c = no 0 (c .before .before) (ne-eqb _ _ (c .if1 .taken))
 
 returns-2 : tie.Need-returns-2
 returns-2 c =
-    let a = c .before .before .args in
-    no 1 (c .before .before) (ne-eqb (a .answers) (a .rows / callWidth * rowWidth) (λ e. c .if2 .taken (omega arith)))
+    let s = c .before .before .before in
+    no 1 s (ne-eqb (s .args .answers) (calls s * rowWidth) (λ e. c .if2 .taken (omega (arith, e))))
 
 returns-3 : tie.Need-returns-3
 returns-3 c =
-    let a = c .before .before .args in
-    let k = a .rows / callWidth in
-    rw (eq-eqb _ 0 (c .before .if1 .left))
-    (on-test (eqb (a .answers / rowWidth) k)
-    (λ t. let h = eqb-true (a .answers / rowWidth) k t in rw (t, eq-eqb (a .answers) (k * rowWidth) (omega arith)))
-    (λ t. let h = eqb-false (a .answers / rowWidth) k t in rw (t, ne-eqb (a .answers) (k * rowWidth) (λ e. h (omega arith)))))
+    let s = c .before .before .before .before in
+    no 1 s (ne-eqb (s .args .answers) (calls s * rowWidth) (λ e. c .if3 .taken (omega (arith, e))))
+
+returns-4 : tie.Need-returns-4
+returns-4 c =
+    let last = c .before in
+    let s = last .before .before .before .before in
+    let rows = eq-eqb _ 0 (last .before .before .if1 .left) in
+    let answers = eq-eqb (s .args .answers) (calls s * rowWidth) (omega (arith, last .before .if2 .left, last .if3 .left)) in
+    c .pool-fits .ensures
+    ∙ rw (rows, answers)
+    (on-test (eqb (s .args .orders) (namedIn (now (s .args .script)))) (λ t. rw t) (λ t. rw t))
 
 pub fits-spec : {M : Type 1} → statement M
-fits-spec = tie.close (tie.spec returns returns-2 returns-3)
+fits-spec = tie.close (tie.spec returns returns-2 returns-3 (λ c κs. search needs) returns-4)

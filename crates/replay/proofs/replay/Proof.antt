@@ -7,6 +7,7 @@ use denote.Ref.{now}
 use borrow.Author.Needs.{needs}
 use borrow.Author.Tests.{not-true, not-false}
 use Rattle.model.specs.Basics.{all}
+use Rattle.replay.specs.Rows.{namedIn}
 use Rattle.replay.specs.Replay.{Script, scripted, Buffers, buffers, sizesOf, sizes}
 use Rattle.replay.proofs.Rows.{calls-count}
 use Rattle.replay.proofs.Promise.{replay-unopened, replay-unfit, replay-done}
@@ -23,8 +24,9 @@ lent s = buffers (now (s .args .column)) (now (s .args .answers))
 fitting : (c : tie.After-fits2) → let s = c .before .before .before .before .before .before .before .before .before .before in all (sizes (asked s) (lent s)) ≡ c .fits2 .result
 fitting c =
     let s = c .before .before .before .before .before .before .before .before .before .before in
-    ap (λ (n : ℕ). all (sizesOf (length (now (s .args .script))) n (length (now (s .args .answers)))))
-    (calls-count (now (s .args .script)) (now (s .args .orders)))
+    let rows = now (s .args .script) in
+    ap (λ (n : ℕ). all (sizesOf (length rows) n (length (now (s .args .answers))) (length (now (s .args .orders))) (namedIn rows)))
+    (calls-count rows (now (s .args .orders)))
     ∙ sym (c .fits2 .ensures)
 
 fits : (c : tie.Else2) → let s = c .before .before .before .before .before .before .before .before .before .before .before in all (sizes (asked s) (lent s)) ≡ true

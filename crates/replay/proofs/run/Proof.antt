@@ -1,14 +1,14 @@
 -- `replay::run` meets its contract: the answers of the first i calls stand in their rows.
 use mathlib.Core.Path.{refl, ap}
-use Prim.Native.Nat.{ℕ, _+_, _*_, _/_, _-_, _≤_}
+use Prim.Native.Nat.{ℕ, _+_, _*_, _/_, _-_, _≤_, _<_}
 use native.Mathlib.Omega.{arith}
-use lib.ListN.{length, getD}
+use lib.ListN.{length, take, drop}
 use denote.Ref.{now}
 use borrow.Author.Needs.{needs}
 use Rattle.replay.specs.Rows.{callWidth, rowWidth}
 use Rattle.replay.specs.Replay.{Script, scripted, Buffers, buffers}
-use Rattle.replay.proofs.Rows.{uses-few}
-use Rattle.replay.proofs.Steps.{Fit, fit-of, Progress, start, onward, finished}
+use Rattle.replay.proofs.Rows.{usesAt}
+use Rattle.replay.proofs.Steps.{Fit, fit-of, Progress, start, enough, onward, finished}
 use Rattle.replay.proofs.run.Statement.{statement}
 use Rattle.replay.proofs.run.Tie as tie
 
@@ -32,35 +32,49 @@ fit s = fit-of (asked s) (lent s) (s .pre)
 room : (c : tie.In-loop Inv-loop μ-loop) → c .before .loop .i * rowWidth + rowWidth ≤ length (c .before .loop .answers)
 room c = omega (arith, c .loop-test .taken, c .before .loop .inv .for-answers, fit (c .before .before .before .before .before .before) .room)
 
-mul-put : tie.Need-mul-put Inv-loop μ-loop
-mul-put c = omega (arith, room (c .before .before .before .before .before .before .before .before), c .before .before .before .before .before .before .before .before .before .loop .inv .for-answers, c .before .before .before .before .before .before .before .before .before .before .before .before .before .before .good .1 .1 .1 .1 .0 .1)
+-- what is left of the pool has the orders of the next call
+at-hand : (c : tie.In-loop Inv-loop μ-loop)
+    → let s = c .before .before .before .before .before .before in
+    c .before .loop .next + usesAt (now (s .args .script)) (c .before .loop .i) ≤ length (now (s .args .orders))
+at-hand c =
+    let s = c .before .before .before .before .before .before in
+    let at = c .before .loop in
+    enough (s .args .ledger) (asked s) (lent s) (buffers (at .column) (at .answers)) (at .l) (at .next) (at .i) (at .inv) (c .loop-test .taken)
 
-add-next : tie.Need-add-next Inv-loop μ-loop
-add-next c =
-    let test = c .before .before .before .before .before .before .before .before .before .before .before .before .before .before in
-    omega (
-      arith,
-      test .loop-test .taken,
-      test .before .loop .inv .few,
-      c .uses .ensures,
-      uses-few (getD (now (c .before .before .before .before .before .before .before .before .before .before .before .before .before .before .before .before .before .before .before .before .args .script)) (test .before .loop .i * callWidth) 0),
-      c .before .before .before .before .before .before .before .before .before .before .before .before .before .before .before .before .before .before .before .before .good .1 .0 .1,
-    )
+add-end : tie.Need-add-end Inv-loop μ-loop
+add-end c = omega (arith, at-hand (c .before .before .before), c .uses .ensures, c .before .before .before .before .before .before .before .before .before .good .1 .1 .0 .1)
+
+part-call-end : tie.Need-part-call-end Inv-loop μ-loop
+part-call-end c = omega (arith, at-hand (c .before .before .before .before .before), c .before .before .uses .ensures)
+
+-- the numbers of the row's part fit
+small : (c : tie.After-claimed Inv-loop μ-loop) → c .before .before .before .before .before .before .before .before .before .before .before .loop .i * rowWidth + rowWidth < 18446744073709551616
+small c = omega (arith, room (c .before .before .before .before .before .before .before .before .before .before), c .before .before .before .before .before .before .before .before .before .before .before .loop .inv .for-answers, c .before .before .before .before .before .before .before .before .before .before .before .before .before .before .before .before .good .1 .1 .1 .1 .0 .1)
+
+mul-at : tie.Need-mul-at Inv-loop μ-loop
+mul-at c = omega (arith, small c)
+
+add-row : tie.Need-add-row Inv-loop μ-loop
+add-row c = omega (arith, small c)
+
+mul-put : tie.Need-mul-put Inv-loop μ-loop
+mul-put c = omega (arith, room (c .before .before .before .before .before .before .before .before .before .before), c .before .before .before .before .before .before .before .before .before .before .before .loop .inv .for-answers, c .before .before .before .before .before .before .before .before .before .before .before .before .before .before .before .before .good .1 .1 .1 .1 .0 .1)
 
 add-i : tie.Need-add-i Inv-loop μ-loop
-add-i c = omega (arith, c .before .before .before .before .before .before .before .before .before .before .before .before .before .before .loop-test .taken, c .before .before .before .before .before .before .before .before .before .before .before .before .before .before .before .before .before .before .before .before .good .1 .0 .1)
+add-i c = omega (arith, c .before .before .before .before .before .before .before .before .before .before .before .before .before .before .before .loop-test .taken, c .before .before .before .before .before .before .before .before .before .before .before .before .before .before .before .before .before .before .before .before .before .good .1 .0 .1)
 
 loop-again : tie.Need-loop-again Inv-loop μ-loop
 loop-again c =
-    let test = c .before .before .before .before .before .before .before .before .before .before .before .before .before .before in
+    let test = c .before .before .before .before .before .before .before .before .before .before .before .before .before .before .before in
     let at = test .before .loop in
     let s = test .before .before .before .before .before .before in
-    let order = c .before .before .before .before .before .before .before .before .before .before .before .before .order-at in
-    let call = c .before .before .before .before .before .before .before .before .before .call in
-    let put = c .before .before .before .before .put in
+    let uses = c .before .before .before .before .before .before .before .before .before .before .before .before .uses in
+    let end = at .next + uses .result in
+    let call = c .before .before .before .before .before .before .before .before .call in
+    let put = c .before .before .before .put in
     onward (s .args .ledger) (asked s) (lent s) (buffers (at .column) (at .answers)) (buffers (call .last .1 .0) _) (at .l) (at .next) (at .i)
-    (call .result .claimed) (call .result .pair) (order .result) _ _ (fit s) (at .inv) (test .loop-test .taken) (order .ensures)
-    (ap (λ (n : ℕ). at .next + n) (c .uses .ensures)) (call .ensures .0) (call .ensures .1) (put .ensures) (put .kept .1 .1 .0) refl (call .kept .1 .0)
+    (call .result .claimed) (call .result .pair) (take (end - at .next) (drop (at .next) (now (s .args .orders)))) end _ (fit s) (at .inv) (test .loop-test .taken)
+    (ap (λ (n : ℕ). at .next + n) (uses .ensures)) (call .ensures .0) (call .ensures .1) refl (put .ensures) (put .kept .1 .1 .0) refl (call .kept .1 .0)
 
 returns : tie.Need-returns Inv-loop μ-loop
 returns c =
@@ -75,24 +89,30 @@ run-spec =
     (tie.spec
     Inv-loop
     μ-loop
-    (λ c. let s = c .before .before .before .before in start (s .args .ledger) (asked s) (lent s))
+    (λ c. let s = c .before .before .before .before in start (s .args .ledger) (asked s) (lent s) (fit s))
+    (λ c. search needs)
+    (λ c. search needs)
+    (λ c. search needs)
     (λ c. search needs)
     (λ c. search needs)
     (λ c. search needs)
     (λ c κs. search needs)
+    add-end
     (λ c. search needs)
     (λ c. search needs)
     (λ c. search needs)
+    (λ c. search needs)
+    (λ c. search needs)
+    (λ c. search needs)
+    part-call-end
     (λ c κs. search needs)
-    (λ c. search needs)
-    (λ c. search needs)
+    mul-at
+    add-row
     mul-put
     (λ c. search needs)
     (λ c. search needs)
-    (λ c. room (c .before .before .before .before .before .before .before .before))
+    (λ c. room (c .before .before .before .before .before .before .before .before .before .before))
     (λ c κs. search needs)
-    (λ c κs. search needs)
-    add-next
     add-i
     (λ c. search needs)
     loop-again

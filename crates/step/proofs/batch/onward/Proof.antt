@@ -21,7 +21,7 @@ returns c =
       running = moves-to (a .upper .now) (a .total) (a .front) (a .run) (p .4) more .running;
       next = λ k some l is.
           turn-next (a .upper .now) (a .total) k some l is
-          (run-turns (a .upper .now) (a .total) (a .front) (p .3) (a .run) (a .parts .now) (p .4) (p .5) more);
+          (run-turns (a .upper .now) (a .total) (a .front) (p .3) (a .run) (a .parts .now) (p .4) (p .5 .size) (λ i l. p .5 .parts .fits i (omega (arith, l, p .3 .inside))) more);
     })
 
 -- the parts that are lent to the turn: as many as before, and they show the composition of the run
@@ -42,7 +42,7 @@ turn-from-requires c κs =
       p .0,
       size-at ended,
       omega (arith, p .1),
-      run-behind (a .upper .now) (a .total) (a .front) (p .3) (a .run) (a .parts .now) (p .4) (p .5) (omega (arith, ended .if1 .left)) _
+      run-behind (a .upper .now) (a .total) (a .front) (p .3) (a .run) (a .parts .now) (p .4) (p .5 .size) (λ i l. p .5 .parts .fits i (omega (arith, l, p .3 .inside))) (omega (arith, ended .if1 .left)) _
           (c .before .behind .ensures),
     )
 

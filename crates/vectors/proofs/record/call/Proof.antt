@@ -1,0 +1,37 @@
+-- `vectors::record::call` meets its contract: each part of the command is read from where the one before it ends.
+use native.Mathlib.Omega.{arith}
+use borrow.Author.Needs.{needs}
+use Rattle.vectors.proofs.record.call.Statement.{statement}
+use Rattle.vectors.proofs.record.call.Tie as tie
+
+returns : tie.Need-returns
+returns c =
+    let orders = c .before .before .before .before .before .before .before .before .before .before .before .before .before .before .before .before in
+    let serial = orders .before .before in
+    let which = serial .before in
+    let column = which .before .before in
+    let r = column .before .before in
+    omega (arith, r .record .ensures, column .words3 .ensures, which .number .ensures, serial .number2 .ensures, orders .words4 .ensures)
+
+pub call-spec : {M : Type 1} → statement M
+call-spec =
+    tie.close
+    (tie.spec
+    (λ c κs. search needs)
+    (λ c κs. search needs)
+    (λ c κs. search needs)
+    (λ c. search needs)
+    (λ c κs. search needs)
+    (λ c κs. search needs)
+    (λ c κs. search needs)
+    (λ c. search needs)
+    (λ c κs. search needs)
+    (λ c. search needs)
+    (λ c κs. search needs)
+    (λ c κs. search needs)
+    (λ c κs. search needs)
+    (λ c. search needs)
+    (λ c κs. search needs)
+    (λ c κs. search needs)
+    (λ c κs. search needs)
+    returns)
