@@ -22,7 +22,7 @@ use Rattle.model.specs.declared.Answer.{Answer}
 use Rattle.model.specs.declared.Claimed.{Claimed}
 use Rattle.model.specs.declared.Ledger.{Ledger}
 use Rattle.model.specs.Basics.{all}
-use Rattle.model.specs.Entry.{soldIn, voidedIn, Lent, room}
+use Rattle.model.specs.Entry.{soldIn, voidedIn, unsoundIn, Lent, room}
 use Rattle.model.specs.Printing.{Printing, capacity, nextComposition}
 use Rattle.model.specs.Model.{Call, refusedWith, answerBy, answer, accepted}
 use Rattle.model.specs.Record.{upperOf, printingOf, written, tests, consistent, notTogether, grantedBy, answered}
@@ -60,6 +60,7 @@ pub record Consistent (r : Ledger) (col : Lent) : Type 0 where
   pub voided : r .voided ≡ voidedIn (written r col)
   pub next : r .next ≡ nextComposition (printingOf r) (r .entries)
   pub spare : r .bounds .upper ≡ cellsOf (upperOf (r .bounds))
+  pub sound-lines : unsoundIn (written r col) ≡ 0
   pub few : r .bounds .parts ≤ 24
   pub length-written : length (written r col) ≡ r .entries
   pub few-sold : r .sold ≤ mostEntries
@@ -90,6 +91,7 @@ module _ (r : Ledger) (col : Lent) where
         voided = h6;
         next = same-eq (r .next) (nextComposition p (r .entries)) (q .1 .1 .1 .1 .1 .1 .0);
         spare = same-eq (r .bounds .upper) (cellsOf (upperOf (r .bounds))) (q .1 .1 .1 .1 .1 .1 .1 .0);
+        sound-lines = eqb-true (unsoundIn (written r col)) 0 (q .1 .1 .1 .1 .1 .1 .1 .1 .0);
         few = few-parts (r .bounds) h1;
         length-written = n;
         few-sold = omega arith;
@@ -110,9 +112,10 @@ module _ (r : Ledger) (col : Lent) where
       → r .voided ≡ voidedIn (written r col)
       → same (r .next) (nextComposition p (r .entries)) ≡ true
       → same (r .bounds .upper) (cellsOf (upperOf (r .bounds))) ≡ true
+      → unsoundIn (written r col) ≡ 0
       → consistent r col ≡ true
   unfolding consistent
-  together h1 h2 h3 h4 h5 h6 h7 h8 =
+  together h1 h2 h3 h4 h5 h6 h7 h8 h9 =
       rw (
         eq-eqb (firstRefusal (recordChecks (r .bounds)) .number) 0 h1,
         le-leb (capacity p) mostEntries h2,
@@ -122,6 +125,7 @@ module _ (r : Ledger) (col : Lent) where
         eq-eqb (r .voided) (voidedIn (written r col)) h6,
         h7,
         h8,
+        eq-eqb (unsoundIn (written r col)) 0 h9,
       )
 
   -- the lines that are not spoilt

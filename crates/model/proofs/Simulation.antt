@@ -47,6 +47,7 @@ module _ (p : Printing) (col : Lent) (o : Opens p col) where
       (rw (own-lines l))
       (rw own-bounds (same-refl (nextComposition p (length l))))
       (rw own-bounds (same-refl (cellsOf (p .bounds))))
+      (rw (own-lines l) (h .sound))
 
   -- one call: the answer is the model's, and the record and the column are those of the model's list after it
   pub answers : (l : List Entry) → Reached p l → (c : Call) → answered (ledgerOf p l) (over col l) c ≡ answer p l c

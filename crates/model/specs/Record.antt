@@ -18,7 +18,7 @@ use Rattle.model.specs.declared.Ledger.{Ledger}
 use Rattle.model.specs.declared.Opened.{Opened}
 use Rattle.model.specs.declared.Peeked.{Peeked}
 use Rattle.model.specs.Basics.{all}
-use Rattle.model.specs.Entry.{Entry, soldIn, voidedIn, Lent, room, firstEntries, put}
+use Rattle.model.specs.Entry.{Entry, soldIn, voidedIn, unsoundIn, Lent, room, firstEntries, put}
 use Rattle.model.specs.Printing.{Printing, blank, placeOf, capacity, nextComposition}
 use Rattle.model.specs.Model.{Call, peek, callChecks, granted, answerBy, accepted, appended, told, Event, event}
 
@@ -34,7 +34,7 @@ printingOf r = record { bounds = upperOf (r .bounds); total = r .bounds .total }
 
 -- ---- opening
 
--- "column shorter than N", of a column with room for so many lines
+-- "column shorter than N", of columns with room for so many lines: document 02, (vi), "The opening check of 15 covers both columns"
 abbrev pub shortColumn : Printing → ℕ → Check
 shortColumn p lines = check 15 (ltb lines (capacity p)) 0
 
@@ -72,11 +72,12 @@ opening p col = openedBy (firstRefusal (openingChecks p (room col))) p
 
 -- ---- number 16
 
--- the lines written, as they stand in the column
+-- the lines written, as they stand in the columns
 abbrev pub written : Ledger → Lent → List Entry
 written r col = firstEntries (r .entries) col
 
--- what number 16 tests, in the order of its row; the last two are "the mix or spare cells"
+-- what number 16 tests, in the order of its row, "the mix or spare cells" at its end; then document 02, (vi), of the lines written. An item column that
+-- is too short has no room either.
 abbrev pub tests : Ledger → Lent → List Bool
 tests r col =
     let p = printingOf r in
@@ -88,6 +89,7 @@ tests r col =
     ∷ eqb (r .voided) (voidedIn (written r col))
     ∷ same (r .next) (nextComposition p (r .entries))
     ∷ same (r .bounds .upper) (cellsOf (upperOf (r .bounds)))
+    ∷ eqb (unsoundIn (written r col)) 0
     ∷ []
 
 -- a record and a column that belong together
