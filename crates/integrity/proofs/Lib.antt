@@ -3,3 +3,4 @@ pub mod Places
 pub mod Checks
 pub mod Again
 pub mod Sifting
+pub mod Pairs

@@ -1,69 +1,80 @@
-// The pass over the lines written: one for the zeros alone, and one that looks for an order as well. Both add up comparisons without a branch, so
-// that the compiler takes several lines at a time.
+// The pass over the lines written, block by block: how many are spoilt, whether all are sound, and where an order stands. Comparisons are added up without
+// a branch, so that the compiler takes several lines at a time.
 ghost use mathlib.Core.Path.{_≡_};
 ghost use mathlib.Core.Bool.{cond};
-ghost use Prim.Native.Nat.{_+_, _≤_};
+ghost use Prim.Native.Nat.{_+_, _-_, _≤_};
 ghost use lib.Dec.{eqb};
-ghost use lib.ListN.{length, take};
+ghost use lib.ListN.{length, take, drop};
 ghost use Rattle.bounds.specs.Places.{mostEntries};
-ghost use Rattle.model.specs.Basics.{howMany, firstPlace};
-ghost use Rattle.model.specs.Entry.{voidedIn, sameOrder};
+ghost use Rattle.walsh.specs.Tests.{times};
+ghost use Rattle.model.specs.Basics.{firstPlace};
+ghost use Rattle.model.specs.Entry.{entry, pairs, sameOrder, voidedIn, unsoundIn};
+use crate::sound;
 
-// So many lines are counted at a time where an order is looked for. Of one order only the first block that has it is searched for its place.
+// So many lines are counted at a time. Both columns are read side by side only in a block that asks for it.
 pub(crate) const BLOCK: usize = 1024;
 
-// How many lines of a block are 0, and how many are the order.
+// How many orders of a block are 0, and how many are the one that is looked for.
 pub(crate) struct Counts {
     pub(crate) zeros: u32,
     pub(crate) hits: u32,
 }
 
-// How many lines are 0, and the lowest place of the order; their number where it does not stand there.
+// How many lines are spoilt, and whether none is unsound.
+pub(crate) struct Scanned {
+    pub(crate) zeros: u64,
+    pub(crate) sound: bool,
+}
+
+// The same, and the lowest place of the order; their number where it does not stand there.
 pub(crate) struct Passed {
     pub(crate) zeros: u64,
+    pub(crate) sound: bool,
     pub(crate) place: usize,
 }
 
-fn one(a: u32, b: u32) -> u32
+// ---- the order column
+
+pub(crate) fn one(a: u32, b: u32) -> u32
     ensures { λ r. ⌜ (r ≡ cond (eqb a b) 1 0) × (r ≤ 1) ⌝ }
 {
     if a == b { 1 } else { 0 }
 }
 
-// How many of the first `half` lines are 0, and of as many behind them: two at a time, so that the speed of so short a loop does not hang on where
+// How many of the first `half` orders are 0, and of as many behind them: two at a time, so that the speed of so short a loop does not hang on where
 // the compiler puts it.
-fn halves(lines: &[u32], half: usize) -> u32
-    requires { ⌜ (half + half ≤ length (now lines)) × (half ≤ mostEntries) ⌝ }
-    ensures { λ r. ⌜ r ≡ voidedIn (take (half + half) (now (lines .entry))) ⌝ }
+fn halves(orders: &[u32], half: usize) -> u32
+    requires { ⌜ (half + half ≤ length (now orders)) × (half ≤ mostEntries) ⌝ }
+    ensures { λ r. ⌜ r ≡ times 0 (take (half + half) (now (orders .entry))) ⌝ }
 {
     let mut low: u32 = 0;
     let mut high: u32 = 0;
     let mut i: usize = 0;
     while i < half {
-        low += one(lines[i], 0);
-        high += one(lines[half + i], 0);
+        low += one(orders[i], 0);
+        high += one(orders[half + i], 0);
         i += 1;
     }
     low + high
 }
 
-// How many lines are 0.
-pub(crate) fn zeros(lines: &[u32]) -> u64
-    requires { ⌜ length (now lines) ≤ mostEntries ⌝ }
-    ensures { λ r. ⌜ r ≡ voidedIn (now (lines .entry)) ⌝ }
+// How many orders are 0.
+fn zeros(orders: &[u32]) -> u32
+    requires { ⌜ length (now orders) ≤ mostEntries ⌝ }
+    ensures { λ r. ⌜ r ≡ times 0 (now (orders .entry)) ⌝ }
 {
-    let half = lines.len() / 2;
-    let voided = halves(lines, half);
+    let half = orders.len() / 2;
+    let voided = halves(orders, half);
     let even = half + half;
-    if even < lines.len() {
-        return (voided + one(lines[even], 0)) as u64;
+    if even < orders.len() {
+        return voided + one(orders[even], 0);
     }
-    voided as u64
+    voided
 }
 
 pub(crate) fn count(block: &[u32], order: u32) -> Counts
     requires { ⌜ length (now block) ≤ mostEntries ⌝ }
-    ensures { λ r. ⌜ (r .zeros ≡ voidedIn (now (block .entry))) × (r .hits ≡ howMany (sameOrder order) (now (block .entry))) ⌝ }
+    ensures { λ r. ⌜ (r .zeros ≡ times 0 (now (block .entry))) × (r .hits ≡ times order (now (block .entry))) ⌝ }
 {
     let mut zeros: u32 = 0;
     let mut hits: u32 = 0;
@@ -77,45 +88,114 @@ pub(crate) fn count(block: &[u32], order: u32) -> Counts
     Counts { zeros, hits }
 }
 
-// The lowest place of an order that does not stand among the first `clear` lines.
-pub(crate) fn search(lines: &[u32], clear: usize, order: u32) -> usize
-    requires { ⌜ (clear ≤ length (now lines)) × (firstPlace (sameOrder order) (take clear (now lines)) ≡ clear) ⌝ }
-    ensures { λ r. ⌜ r ≡ firstPlace (sameOrder order) (now (lines .entry)) ⌝ }
+// The lowest place of an order among the first `to` lines, which does not stand among the first `clear`; `to` where it does not stand there.
+pub(crate) fn search(
+    orders: &[u32],
+    items: &[u8],
+    clear: usize,
+    to: usize,
+    order: u32,
+    item: u8,
+) -> usize
+    requires { ⌜ (length (now items) ≡ length (now orders)) × (clear ≤ to) × (to ≤ length (now orders))
+        × (firstPlace (sameOrder (entry order item)) (take clear (pairs (now orders) (now items))) ≡ clear) ⌝ }
+    ensures { λ r. ⌜ r ≡ firstPlace (sameOrder (entry order item)) (take to (pairs (now (orders .entry)) (now (items .entry)))) ⌝ }
 {
-    let n = lines.len();
-    let mut at = n;
+    let mut at = to;
     let mut i = clear;
     while i < at {
-        if lines[i] == order {
-            at = i;
+        if orders[i] == order {
+            if items[i] == item {
+                at = i;
+            }
         }
         i += 1;
     }
     at
 }
 
-// The zeros, and the lowest place of an order: it does not stand in the blocks before the first that has it, and from there on it is searched.
-pub(crate) fn seek(lines: &[u32], order: u32) -> Passed
-    requires { ⌜ length (now lines) ≤ mostEntries ⌝ }
-    ensures { λ r. ⌜ (r .zeros ≡ voidedIn (now (lines .entry))) × (r .place ≡ firstPlace (sameOrder order) (now (lines .entry))) ⌝ }
+// One block: how many lines are spoilt, and whether none is unsound.
+pub(crate) fn block(orders: &[u32], items: &[u8]) -> Scanned
+    requires { ⌜ (length (now items) ≡ length (now orders)) × (length (now orders) ≤ mostEntries) ⌝ }
+    ensures { λ r. ⌜ (r .zeros ≡ voidedIn (pairs (now (orders .entry)) (now (items .entry))))
+        × (r .sound ≡ eqb (unsoundIn (pairs (now (orders .entry)) (now (items .entry)))) 0) ⌝ }
 {
-    let n = lines.len();
+    let zeros = zeros(orders);
+    Scanned {
+        zeros: zeros as u64,
+        sound: sound::sound(orders, items, zeros),
+    }
+}
+
+pub(crate) fn scan(orders: &[u32], items: &[u8]) -> Scanned
+    requires { ⌜ (length (now items) ≡ length (now orders)) × (length (now orders) ≤ mostEntries) ⌝ }
+    ensures { λ r. ⌜ (r .zeros ≡ voidedIn (pairs (now (orders .entry)) (now (items .entry))))
+        × (r .sound ≡ eqb (unsoundIn (pairs (now (orders .entry)) (now (items .entry)))) 0) ⌝ }
+{
+    let n = orders.len();
+    let mut zeros: u64 = 0;
+    let mut sound = true;
+    let mut i: usize = 0;
+    while i < n {
+        let to = i + walsh::lesser(n - i, BLOCK);
+        let part = block(&orders[i..to], &items[i..to]);
+        zeros += part.zeros;
+        if !part.sound {
+            sound = false;
+        }
+        i = to;
+    }
+    Scanned { zeros, sound }
+}
+
+// Where the lines of a block leave a search that has come to their first: at their end where no order among them is the one that is looked for.
+fn reach(
+    orders: &[u32],
+    items: &[u8],
+    clear: usize,
+    to: usize,
+    hits: u32,
+    order: u32,
+    item: u8,
+) -> usize
+    requires { ⌜ (length (now items) ≡ length (now orders)) × (clear ≤ to) × (to ≤ length (now orders))
+        × (firstPlace (sameOrder (entry order item)) (take clear (pairs (now orders) (now items))) ≡ clear)
+        × (hits ≡ times order (take (to - clear) (drop clear (now orders)))) ⌝ }
+    ensures { λ r. ⌜ r ≡ firstPlace (sameOrder (entry order item)) (take to (pairs (now (orders .entry)) (now (items .entry)))) ⌝ }
+{
+    if hits == 0 {
+        return to;
+    }
+    search(orders, items, clear, to, order, item)
+}
+
+// The spoilt lines, whether all are sound, and the lowest place of an order: a block is searched only where the number stands in it.
+pub(crate) fn seek(orders: &[u32], items: &[u8], order: u32, item: u8) -> Passed
+    requires { ⌜ (length (now items) ≡ length (now orders)) × (length (now orders) ≤ mostEntries) ⌝ }
+    ensures { λ r. ⌜ (r .zeros ≡ voidedIn (pairs (now (orders .entry)) (now (items .entry))))
+        × (r .sound ≡ eqb (unsoundIn (pairs (now (orders .entry)) (now (items .entry)))) 0)
+        × (r .place ≡ firstPlace (sameOrder (entry order item)) (pairs (now (orders .entry)) (now (items .entry)))) ⌝ }
+{
+    let n = orders.len();
     let mut zeros: u32 = 0;
+    let mut sound = true;
     let mut clear: usize = 0;
     let mut i: usize = 0;
     while i < n {
-        let size = walsh::lesser(n - i, BLOCK);
-        let block = count(&lines[i..i + size], order);
+        let to = i + walsh::lesser(n - i, BLOCK);
+        let block = count(&orders[i..to], order);
         zeros += block.zeros;
-        if block.hits == 0 {
-            if clear == i {
-                clear = i + size;
-            }
+        if !sound::sound(&orders[i..to], &items[i..to], block.zeros) {
+            sound = false;
         }
-        i += size;
+        if clear == i {
+            clear = reach(orders, items, i, to, block.hits, order, item);
+        }
+        i = to;
     }
     Passed {
         zeros: zeros as u64,
-        place: search(lines, clear, order),
+        sound,
+        place: clear,
     }
 }

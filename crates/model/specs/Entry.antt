@@ -48,10 +48,13 @@ pub record DistinctOrders (l : List Entry) : Type 0 where
 abbrev pub isNoItem : Entry → Bool
 isNoItem e = either (eqb (itemOf e) 0) (ltb 99 (itemOf e))
 
--- "A line whose item line is over 99, or is 0 beside a nonzero order, or isn't 0 beside a spoilt one"
+-- "is 0 beside a nonzero order, or isn't 0 beside a spoilt one"
+abbrev pub isUnmatched : Entry → Bool
+isUnmatched e = either (both (eqb (itemOf e) 0) (not (isVoided e))) (both (not (eqb (itemOf e) 0)) (isVoided e))
+
+-- "A line whose item line is over 99, or" is so
 abbrev pub isUnsound : Entry → Bool
-isUnsound e =
-    either (ltb 99 (itemOf e)) (either (both (eqb (itemOf e) 0) (not (isVoided e))) (both (not (eqb (itemOf e) 0)) (isVoided e)))
+isUnsound e = either (ltb 99 (itemOf e)) (isUnmatched e)
 
 -- ---- counts: "its nonzero entries and its zeros"
 

@@ -1,0 +1,55 @@
+-- Laws of two columns of the same length, read as lines.
+use mathlib.Core.Path.{_≡_, refl, sym, ap, _∙_}
+use mathlib.Core.Bool.{Bool, true, false, cond}
+use mathlib.Core.List.{List, [], _∷_}
+use Prim.Native.Nat.{ℕ, zero, suc, _+_, _≤_, _<_, min}
+use native.Mathlib.Omega.{arith}
+use lib.Dec.{eqb}
+use lib.ListN.{length, getD, take, drop}
+use lib.Seq.{take-all}
+use Rattle.walsh.specs.Tests.{times, both}
+use Rattle.walsh.proofs.Cases.{on-test}
+use Rattle.model.specs.Basics.{howMany}
+use Rattle.model.specs.Entry.{Entry, entry, voidEntry, voidedIn, sameOrder, columns, pairs}
+use Rattle.model.proofs.Entries.{room-entries, take-pairs, pairs-at}
+
+pub drop-pairs : (n : ℕ) (os is : List ℕ) → drop n (pairs os is) ≡ pairs (drop n os) (drop n is)
+drop-pairs zero os is = refl
+drop-pairs (suc n) [] is = refl
+drop-pairs (suc n) (o ∷ os) [] = none (drop n os)
+  where
+    none : (l : List ℕ) → [] ≡ pairs l []
+    none [] = refl
+    none (x ∷ l) = refl
+drop-pairs (suc n) (o ∷ os) (i ∷ is) = drop-pairs n os is
+
+-- the beginnings of two columns, as many as both have, have the same lines
+pub pairs-cut : (os is : List ℕ) → pairs (take (min (length os) (length is)) os) (take (min (length os) (length is)) is) ≡ pairs os is
+pairs-cut os is =
+    let n = min (length os) (length is) in
+    sym (take-pairs n os is) ∙ take-all n (pairs os is) (omega (arith, room-entries (columns os is)))
+
+module _ (os is : List ℕ) (e : length is ≡ length os) where
+  pub pairs-length : length (pairs os is) ≡ length os
+  pairs-length = omega (arith, room-entries (columns os is), e)
+
+  pub line-at : (i : ℕ) → i < length os → getD (pairs os is) i voidEntry ≡ entry (getD os i 0) (getD is i 0)
+  line-at i h = pairs-at os is i h (omega (arith, e, h))
+
+-- the spoilt lines are the zeros of the order column
+pub voided-zeros : (os is : List ℕ) → length is ≡ length os → voidedIn (pairs os is) ≡ times 0 os
+voided-zeros [] is e = refl
+voided-zeros (o ∷ os) [] e = absurd (omega arith)
+voided-zeros (o ∷ os) (i ∷ is) e = ap (λ (k : ℕ). cond (eqb o 0) 1 0 + k) (voided-zeros os is (omega arith))
+
+-- where no order has the number, no line is of the order
+pub none-same : (o i : ℕ) (os is : List ℕ) → times o os ≡ 0 → howMany (sameOrder (entry o i)) (pairs os is) ≡ 0
+none-same o i [] is z = refl
+none-same o i (x ∷ os) [] z = refl
+none-same o i (x ∷ os) (y ∷ is) z =
+    on-test (eqb x o)
+    (λ t. let one : 1 + times o os ≡ 0 = rw t at z in absurd (omega arith))
+    (λ f.
+    let rest : 0 + times o os ≡ 0 = rw f at z in
+    let h = none-same o i os is (omega arith) in
+    rw f (omega arith))
