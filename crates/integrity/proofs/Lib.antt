@@ -4,3 +4,4 @@ pub mod Checks
 pub mod Again
 pub mod Sifting
 pub mod Pairs
+pub mod Ranges

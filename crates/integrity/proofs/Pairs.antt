@@ -1,17 +1,23 @@
 -- Laws of two columns of the same length, read as lines.
 use mathlib.Core.Path.{_≡_, refl, sym, ap, _∙_}
+use mathlib.Core.Logic.{_≢_}
 use mathlib.Core.Bool.{Bool, true, false, cond}
 use mathlib.Core.List.{List, [], _∷_}
 use Prim.Native.Nat.{ℕ, zero, suc, _+_, _≤_, _<_, min}
 use native.Mathlib.Omega.{arith}
 use lib.Dec.{eqb}
-use lib.ListN.{length, getD, take, drop}
-use lib.Seq.{take-all}
+use lib.ListN.{length, getD, take, drop, length-take, length-drop}
+use lib.Seq.{take-all, getD-take}
+use borrow.Author.Tests.{eq-eqb, ne-eqb}
 use Rattle.walsh.specs.Tests.{times, both}
 use Rattle.walsh.proofs.Cases.{on-test}
 use Rattle.model.specs.Basics.{howMany}
 use Rattle.model.specs.Entry.{Entry, entry, voidEntry, voidedIn, sameOrder, columns, pairs}
 use Rattle.model.proofs.Entries.{room-entries, take-pairs, pairs-at}
+
+pub both-false : (t : Bool) → both t false ≡ false
+both-false true = refl
+both-false false = refl
 
 pub drop-pairs : (n : ℕ) (os is : List ℕ) → drop n (pairs os is) ≡ pairs (drop n os) (drop n is)
 drop-pairs zero os is = refl
@@ -35,6 +41,29 @@ module _ (os is : List ℕ) (e : length is ≡ length os) where
 
   pub line-at : (i : ℕ) → i < length os → getD (pairs os is) i voidEntry ≡ entry (getD os i 0) (getD is i 0)
   line-at i h = pairs-at os is i h (omega (arith, e, h))
+
+-- a part of both, n lines from place i on
+module _ (n i : ℕ) (os is : List ℕ) where
+  pub part-lines : take n (drop i (pairs os is)) ≡ pairs (take n (drop i os)) (take n (drop i is))
+  part-lines = ap (take n) (drop-pairs i os is) ∙ take-pairs n (drop i os) (drop i is)
+
+  pub part-even : length is ≡ length os → length (take n (drop i is)) ≡ length (take n (drop i os))
+  part-even e =
+      omega (arith, e, length-take n (drop i is), length-take n (drop i os), length-drop i is, length-drop i os)
+
+-- the line at place i, among the first n
+module _ (os is : List ℕ) (e : length is ≡ length os) (n i : ℕ) (h : i < n) (k : n ≤ length os) (o x : ℕ) where
+  line-here : getD (take n (pairs os is)) i voidEntry ≡ entry (getD os i 0) (getD is i 0)
+  line-here = getD-take n (pairs os is) i voidEntry h ∙ line-at os is e i (omega arith)
+
+  pub line-hit : getD os i 0 ≡ o → getD is i 0 ≡ x → sameOrder (entry o x) (getD (take n (pairs os is)) i voidEntry) ≡ true
+  line-hit p q = rw (line-here, eq-eqb (getD os i 0) o p, eq-eqb (getD is i 0) x q)
+
+  pub other-number : getD os i 0 ≢ o → sameOrder (entry o x) (getD (take n (pairs os is)) i voidEntry) ≡ false
+  other-number p = rw (line-here, ne-eqb (getD os i 0) o p)
+
+  pub other-item : getD is i 0 ≢ x → sameOrder (entry o x) (getD (take n (pairs os is)) i voidEntry) ≡ false
+  other-item q = rw (line-here, ne-eqb (getD is i 0) x q) (both-false (eqb (getD os i 0) o))
 
 -- the spoilt lines are the zeros of the order column
 pub voided-zeros : (os is : List ℕ) → length is ≡ length os → voidedIn (pairs os is) ≡ times 0 os

@@ -8,7 +8,7 @@ use bounds::Bounds;
 use model::Ledger;
 ghost use mathlib.Core.Path.{_≡_};
 ghost use mathlib.Core.Bool.{false, cond};
-ghost use Prim.Native.Nat.{_-_, _≤_};
+ghost use Prim.Native.Nat.{_-_, _≤_, min};
 ghost use lib.Dec.{eqb};
 ghost use Rattle.walsh.specs.Serial.{same};
 ghost use Rattle.walsh.specs.Tests.{both};
@@ -105,10 +105,10 @@ fn unmet() -> Met
     }
 }
 
-// The tests of number 16 that look at no line, of columns with room for so many. More than MOST_ENTRIES entries never belong to a column, so the
-// next serial fits 64 bits.
-fn frame(ledger: Ledger, room: usize) -> Seen
-    ensures { λ r. ⌜ r ≡ seenBy (framed ledger room) ledger ⌝ }
+// The tests of number 16 that look at no line, of columns of these lengths. More than MOST_ENTRIES entries never belong to a column, so the next serial
+// fits 64 bits.
+fn frame(ledger: Ledger, orders: usize, items: usize) -> Seen
+    ensures { λ r. ⌜ r ≡ seenBy (framed ledger (min orders items)) ledger ⌝ }
 {
     let entries = ledger.entries;
     if bounds::MOST_ENTRIES < entries {
@@ -123,7 +123,7 @@ fn frame(ledger: Ledger, room: usize) -> Seen
     if bounds::MOST_ENTRIES < count {
         return unseen();
     }
-    if room < count as usize {
+    if walsh::lesser(orders, items) < count as usize {
         return unseen();
     }
     if count < entries {
@@ -140,11 +140,14 @@ fn frame(ledger: Ledger, room: usize) -> Seen
     Seen { fits: true, count }
 }
 
-// The tests that count the lines: so many of those written are 0.
-fn counted(ledger: Ledger, zeros: u64) -> bool
+// The tests that look at the lines: so many of those written are spoilt, and all are sound or not.
+fn counted(ledger: Ledger, zeros: u64, sound: bool) -> bool
     requires { ⌜ zeros ≤ ledger .entries ⌝ }
-    ensures { λ r. ⌜ r ≡ both (eqb (ledger .voided) zeros) (eqb (ledger .sold) (ledger .entries - zeros)) ⌝ }
+    ensures { λ r. ⌜ r ≡ both sound (both (eqb (ledger .voided) zeros) (eqb (ledger .sold) (ledger .entries - zeros))) ⌝ }
 {
+    if !sound {
+        return false;
+    }
     if ledger.voided != zeros {
         return false;
     }
@@ -155,16 +158,13 @@ fn counted(ledger: Ledger, zeros: u64) -> bool
 pub fn examine(ledger: Ledger, orders: &[u32], items: &[u8]) -> Seen
     ensures { λ r. ⌜ r ≡ seenBy (consistent ledger (columns (now (orders .entry)) (now (items .entry)))) ledger ⌝ }
 {
-    let seen = frame(ledger, walsh::lesser(orders.len(), items.len()));
+    let seen = frame(ledger, orders.len(), items.len());
     if !seen.fits {
         return unseen();
     }
     let n = ledger.entries as usize;
     let scanned = pass::scan(&orders[..n], &items[..n]);
-    if !scanned.sound {
-        return unseen();
-    }
-    if !counted(ledger, scanned.zeros) {
+    if !counted(ledger, scanned.zeros, scanned.sound) {
         return unseen();
     }
     seen
@@ -175,16 +175,13 @@ pub fn examine_for(ledger: Ledger, orders: &[u32], items: &[u8], order: u32, ite
     ensures { λ r. ⌜ r ≡ foundBy (consistent ledger (columns (now (orders .entry)) (now (items .entry)))) ledger
         (columns (now (orders .entry)) (now (items .entry))) (entry order item) ⌝ }
 {
-    let framed = frame(ledger, walsh::lesser(orders.len(), items.len()));
+    let framed = frame(ledger, orders.len(), items.len());
     if !framed.fits {
         return unfound();
     }
     let written = ledger.entries as usize;
     let passed = pass::seek(&orders[..written], &items[..written], order, item);
-    if !passed.sound {
-        return unfound();
-    }
-    if !counted(ledger, passed.zeros) {
+    if !counted(ledger, passed.zeros, passed.sound) {
         return unfound();
     }
     Found {
@@ -205,7 +202,7 @@ pub fn examine_all(
     ensures { λ r. ⌜ r ≡ metBy (consistent ledger (columns (now (orders .entry)) (now (items .entry)))) ledger
         (columns (now (orders .entry)) (now (items .entry))) (columns (now (bundle .entry)) (now (itemlines .entry))) ⌝ }
 {
-    let tested = frame(ledger, walsh::lesser(orders.len(), items.len()));
+    let tested = frame(ledger, orders.len(), items.len());
     if !tested.fits {
         return unmet();
     }
@@ -217,10 +214,7 @@ pub fn examine_all(
         &bundle[..k],
         &itemlines[..k],
     );
-    if !swept.sound {
-        return unmet();
-    }
-    if !counted(ledger, swept.zeros) {
+    if !counted(ledger, swept.zeros, swept.sound) {
         return unmet();
     }
     Met {

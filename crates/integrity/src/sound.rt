@@ -22,7 +22,7 @@ struct Range {
 }
 
 fn lower(a: u8, b: u8) -> u8
-    ensures { λ r. ⌜ r ≡ min a b ⌝ }
+    ensures { λ r. ⌜ (r ≡ min a b) × (b ≤ 255) ⌝ }
 {
     if a < b { a } else { b }
 }

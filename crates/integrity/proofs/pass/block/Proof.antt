@@ -1,26 +1,22 @@
+-- `integrity::pass::block` meets its contract.
+use mathlib.Core.Path.{sym, _∙_}
+use denote.Ref.{now}
 use borrow.Author.Needs.{needs}
+use Rattle.integrity.proofs.Pairs.{voided-zeros}
 use Rattle.integrity.proofs.pass.block.Statement.{statement}
 use Rattle.integrity.proofs.pass.block.Tie as tie
-use Rattle.integrity.proofs.pass.block.Reads as reads
-use Rattle.integrity.proofs.pass.block.Lts as lts
-use Rattle.integrity.proofs.pass.zeros.Reads as zeros-reads
-use Rattle.integrity.proofs.sound.sound.Reads as sound-reads
 
--- src/pass.rt:123:9
-zeros-requires : tie.Need-zeros-requires
-zeros-requires c κs = search needs
-
--- src/pass.rt:125:16
-cast-t4 : tie.Need-cast-t4
-cast-t4 c = search needs
-
--- src/pass.rt:126:16
-sound-requires : tie.Need-sound-requires
-sound-requires c κs = search needs
-
--- src/pass.rt:118:1
 returns : tie.Need-returns
-returns c = search needs
+returns c =
+    let start = c .before .before .before .before in
+    let a = start .args in
+    (c .before .zeros .ensures ∙ sym (voided-zeros (now (a .orders)) (now (a .items)) (start .pre .0)), c .sound .ensures)
 
 pub block-spec : {M : Type 1} → statement M
-block-spec = tie.close (tie.spec zeros-requires cast-t4 sound-requires returns)
+block-spec =
+    tie.close
+    (tie.spec
+    (λ c κs. c .before .before .pre .1)
+    (λ c. search needs)
+    (λ c κs. let p = c .before .before .before .pre in (p .0, p .1, c .zeros .ensures))
+    returns)

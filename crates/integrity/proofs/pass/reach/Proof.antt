@@ -1,21 +1,32 @@
+-- `integrity::pass::reach` meets its contract.
+use mathlib.Core.Path.{_≡_, sym, ap, _∙_}
+use native.Mathlib.Omega.{arith}
+use Prim.Native.Nat.{ℕ, _-_}
+use mathlib.Core.List.{List}
+use lib.ListN.{length, take, drop}
+use denote.Ref.{now}
 use borrow.Author.Needs.{needs}
+use Rattle.model.specs.Basics.{howMany}
+use Rattle.model.specs.Entry.{Entry, entry, sameOrder, pairs}
+use Rattle.integrity.proofs.Pairs.{pairs-length, part-lines, none-same}
+use Rattle.integrity.proofs.Places.{clear-block}
 use Rattle.integrity.proofs.pass.reach.Statement.{statement}
 use Rattle.integrity.proofs.pass.reach.Tie as tie
-use Rattle.integrity.proofs.pass.reach.Reads as reads
-use Rattle.integrity.proofs.pass.reach.Lts as lts
-use Rattle.integrity.proofs.pass.search.Reads as search-reads
 
--- src/pass.rt:167:9
 returns : tie.Need-returns
-returns c = search needs
-
--- src/pass.rt:169:5
-search-requires : tie.Need-search-requires
-search-requires c κs = search needs
-
--- src/pass.rt:152:1
-returns-2 : tie.Need-returns-2
-returns-2 c = search needs
+returns c =
+    let start = c .before .before .before in
+    let a = start .args in
+    let p = start .pre in
+    let os = now (a .orders) in
+    let is = now (a .items) in
+    let e = entry (a .order) (a .item) in
+    let n = pairs-length os is (p .0) in
+    let none = ap (howMany (sameOrder e)) (part-lines (a .to - a .clear) (a .clear) os is)
+    ∙ none-same (a .order) (a .item) (take (a .to - a .clear) (drop (a .clear) os)) _ (sym (p .4) ∙ c .if1 .taken) in
+    let clear = clear-block (sameOrder e) (pairs os is) (record { inside = omega (arith, n, p .1, p .2); none = p .3 }) (a .to) (p .1) (omega (arith, n, p .2)) none in
+    sym (clear .none)
 
 pub reach-spec : {M : Type 1} → statement M
-reach-spec = tie.close (tie.spec returns search-requires returns-2)
+reach-spec =
+    tie.close (tie.spec returns (λ c κs. let p = c .before .before .before .pre in (p .0, p .1, p .2, p .3)) (λ c. search needs))

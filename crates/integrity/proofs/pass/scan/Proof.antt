@@ -1,88 +1,82 @@
+-- `integrity::pass::scan` meets its contract: the first i lines are looked at.
+use mathlib.Core.Path.{_≡_, refl, sym, ap, _∙_}
+use mathlib.Core.List.{List}
+use Prim.Native.Nat.{ℕ, _+_, _-_, _≤_}
+use native.Mathlib.Omega.{arith}
+use lib.Dec.{eqb}
+use lib.ListN.{length, take, drop, length-take}
+use lib.Seq.{take-all}
+use denote.Ref.{now}
 use borrow.Author.Needs.{needs}
+use borrow.Author.Tests.{eqb-true, eqb-false, not-true, not-false}
+use Rattle.model.specs.Entry.{Entry, isVoided, isUnsound, voidedIn, unsoundIn, pairs}
+use Rattle.integrity.proofs.Pairs.{pairs-length, part-lines, part-even}
+use Rattle.integrity.proofs.Places.{many-block, many-all, many-few, none-more, none-never}
 use Rattle.integrity.proofs.pass.scan.Statement.{statement}
 use Rattle.integrity.proofs.pass.scan.Tie as tie
-use Rattle.integrity.proofs.pass.scan.Reads as reads
-use Rattle.integrity.proofs.pass.scan.Lts as lts
-use Rattle.integrity.proofs.pass.block.Reads as block-reads
-use Rattle.walsh.proofs.lesser.Reads as lesser-reads
 
 abbrev Inv-loop : tie.InvT-loop
-Inv-loop orders items n zeros₀ sound₀ i₀ zeros sound i = ?
+Inv-loop orders items n zeros₀ sound₀ i₀ zeros sound i =
+    (zeros ≡ voidedIn (take i (pairs orders items))) × (sound ≡ eqb (unsoundIn (take i (pairs orders items))) 0) × (zeros ≤ i) × (i ≤ length orders)
 
 abbrev μ-loop : tie.MeasureT-loop
-μ-loop orders items n zeros₀ sound₀ i₀ zeros sound i = ?
+μ-loop orders items n zeros₀ sound₀ i₀ zeros sound i = length orders - i
 
--- src/pass.rt:139:5
-loop-holds : tie.Need-loop-holds Inv-loop μ-loop
-loop-holds c = search needs
+-- a block ends within the lines
+ends : (c : tie.After-lesser Inv-loop μ-loop) → c .before .before .loop .i + c .lesser .result ≤ length (now (c .before .before .before .before .before .args .orders))
+ends c = omega (arith, c .lesser .ensures)
 
--- src/pass.rt:140:36
-sub-lesser : tie.Need-sub-lesser Inv-loop μ-loop
-sub-lesser c = search needs
-
--- src/pass.rt:140:22
-lesser-requires : tie.Need-lesser-requires Inv-loop μ-loop
-lesser-requires c κs = search needs
-
--- src/pass.rt:140:18
-add-to : tie.Need-add-to Inv-loop μ-loop
-add-to c = search needs
-
--- src/pass.rt:141:26
-mul-block : tie.Need-mul-block Inv-loop μ-loop
-mul-block c = search needs
-
--- src/pass.rt:141:26
-sub-block : tie.Need-sub-block Inv-loop μ-loop
-sub-block c = search needs
-
--- src/pass.rt:141:26
-part-block-start : tie.Need-part-block-start Inv-loop μ-loop
-part-block-start c = search needs
-
--- src/pass.rt:141:26
-part-block-end : tie.Need-part-block-end Inv-loop μ-loop
-part-block-end c = search needs
-
--- src/pass.rt:141:42
-sub-block-2 : tie.Need-sub-block-2 Inv-loop μ-loop
-sub-block-2 c = search needs
-
--- src/pass.rt:141:42
-part-block-start-2 : tie.Need-part-block-start-2 Inv-loop μ-loop
-part-block-start-2 c = search needs
-
--- src/pass.rt:141:42
-part-block-end-2 : tie.Need-part-block-end-2 Inv-loop μ-loop
-part-block-end-2 c = search needs
-
--- src/pass.rt:141:13
 block-requires : tie.Need-block-requires Inv-loop μ-loop
-block-requires c κs = search needs
+block-requires c κs =
+    let at = c .before .before .before .before .loop in
+    let start = c .before .before .before .before .before .before .before in
+    let n = at .i + c .before .before .lesser .result - at .i in
+    let l = length-take n (drop (at .i) (now (start .args .orders))) in
+    (part-even n (at .i) (now (start .args .orders)) (now (start .args .items)) (start .pre .0), omega (arith, l, ends (c .before .before), start .pre .1))
 
--- src/pass.rt:142:9
-add-zeros : tie.Need-add-zeros Inv-loop μ-loop
-add-zeros c = search needs
+-- the lines up to a block's end
+module _ (c : tie.After-block Inv-loop μ-loop) where
+  abbrev from : ℕ
+  from = c .before .before .before .before .before .loop .i
 
--- src/pass.rt:139:5
-loop-less : tie.Need-loop-less Inv-loop μ-loop
-loop-less c = search needs
+  abbrev to : ℕ
+  to = from + c .before .before .before .lesser .result
 
--- src/pass.rt:139:5
+  abbrev lines : List Entry
+  lines = pairs (now (c .before .before .before .before .before .before .before .before .args .orders)) (now (c .before .before .before .before .before .before .before .before .args .items))
+
+  zeros-so-far : c .before .before .before .before .before .loop .zeros + c .block .result .zeros ≡ voidedIn (take to lines)
+  zeros-so-far =
+      many-block isVoided lines from to _ _ (omega arith) (c .before .before .before .before .before .loop .inv .0)
+      (c .block .ensures .0 ∙ ap voidedIn (sym (part-lines (to - from) from _ _)))
+
+  part-sound : c .block .result .sound ≡ eqb (unsoundIn (take (to - from) (drop from lines))) 0
+  part-sound = c .block .ensures .1 ∙ ap (λ (l : List Entry). eqb (unsoundIn l) 0) (sym (part-lines (to - from) from _ _))
+
+  few : c .before .before .before .before .before .loop .zeros + c .block .result .zeros ≤ to
+  few = many-few isVoided lines _ _ zeros-so-far
+
 loop-again : tie.Need-loop-again Inv-loop μ-loop
-loop-again c = search needs
+loop-again c =
+    let b = c .before .before .before in
+    let no = eqb-false _ 0 (sym (part-sound b) ∙ not-true _ (c .if1 .taken)) in
+    (zeros-so-far b, none-never isUnsound (lines b) (from b) (to b) (omega arith) no, few b, ends (b .before .before .before))
 
--- src/pass.rt:139:5
-loop-less-2 : tie.Need-loop-less-2 Inv-loop μ-loop
-loop-less-2 c = search needs
-
--- src/pass.rt:139:5
 loop-again-2 : tie.Need-loop-again-2 Inv-loop μ-loop
-loop-again-2 c = search needs
+loop-again-2 c =
+    let b = c .before .before .before in
+    let yes = eqb-true _ 0 (sym (part-sound b) ∙ not-false _ (c .if1 .left)) in
+    (zeros-so-far b, none-more isUnsound (lines b) (from b) (to b) (omega arith) _ (b .before .before .before .before .before .loop .inv .1) yes, few b, ends (b .before .before .before))
 
--- src/pass.rt:130:1
 returns : tie.Need-returns Inv-loop μ-loop
-returns c = search needs
+returns c =
+    let at = c .before .loop in
+    let start = c .before .before .before .before in
+    let l = pairs (now (start .args .orders)) (now (start .args .items)) in
+    let h : length l ≤ at .i = omega (arith, pairs-length (now (start .args .orders)) (now (start .args .items)) (start .pre .0), c .loop-test .left) in (
+      many-all isVoided l (at .i) _ h (at .inv .0),
+      at .inv .1 ∙ ap (λ (m : List Entry). eqb (unsoundIn m) 0) (take-all (at .i) l h),
+    )
 
 pub scan-spec : {M : Type 1} → statement M
 scan-spec =
@@ -90,21 +84,21 @@ scan-spec =
     (tie.spec
     Inv-loop
     μ-loop
-    loop-holds
-    sub-lesser
-    lesser-requires
-    add-to
-    mul-block
-    sub-block
-    part-block-start
-    part-block-end
-    sub-block-2
-    part-block-start-2
-    part-block-end-2
+    (λ c. (refl, refl, omega arith, omega arith))
+    (λ c. search needs)
+    (λ c κs. search needs)
+    (λ c. search needs)
+    (λ c. search needs)
+    (λ c. search needs)
+    (λ c. search needs)
+    (λ c. omega (arith, ends c))
+    (λ c. search needs)
+    (λ c. omega (arith, ends (c .before), c .before .before .before .before .before .before .pre .0))
+    (λ c. omega (arith, ends (c .before), c .before .before .before .before .before .before .pre .0))
     block-requires
-    add-zeros
-    loop-less
+    (λ c. omega (arith, few (c .before), ends (c .before .before .before .before), c .before .before .before .before .before .before .before .before .before .pre .1))
+    (λ c. search needs)
     loop-again
-    loop-less-2
+    (λ c. search needs)
     loop-again-2
     returns)

@@ -1,17 +1,16 @@
--- `integrity::pass::zeros` meets its contract: an odd number of lines has one more than its halves.
+-- `integrity::pass::zeros` meets its contract: an odd number of orders has one more than its halves.
 use Prim.Native.Nat.{_+_, _/_, _≤_}
 use native.Mathlib.Omega.{arith}
 use lib.ListN.{length}
 use denote.Ref.{now}
 use borrow.Author.Needs.{needs}
-use Rattle.model.specs.Entry.{isVoided}
-use Rattle.integrity.proofs.Places.{many-more, many-all, many-few}
+use Rattle.integrity.proofs.Places.{equals, many-more, many-all, many-few}
 use Rattle.integrity.proofs.pass.zeros.Statement.{statement}
 use Rattle.integrity.proofs.pass.zeros.Tie as tie
 
--- so many lines have both halves
-even : (c : tie.After-halves) → let n = length (now (c .before .before .args .lines)) in c .halves .result ≤ n / 2 + n / 2
-even c = many-few isVoided (now (c .before .before .args .lines)) _ _ (c .halves .ensures)
+-- so many orders have both halves
+even : (c : tie.After-halves) → let n = length (now (c .before .before .args .orders)) in c .halves .result ≤ n / 2 + n / 2
+even c = many-few (equals 0) (now (c .before .before .args .orders)) _ _ (c .halves .ensures)
 
 add-result : tie.Need-add-result
 add-result c =
@@ -21,13 +20,13 @@ add-result c =
 returns : tie.Need-returns
 returns c =
     let h = c .before .before .before in
-    let lines = now (h .before .before .args .lines) in
-    let n = length lines in
-    many-all isVoided lines (n / 2 + n / 2 + 1) _ (omega arith)
-    (many-more isVoided lines (n / 2 + n / 2) _ _ 0 (c .before .before .if1 .taken) (h .halves .ensures) (c .one .ensures .0))
+    let orders = now (h .before .before .args .orders) in
+    let n = length orders in
+    many-all (equals 0) orders (n / 2 + n / 2 + 1) _ (omega arith)
+    (many-more (equals 0) orders (n / 2 + n / 2) _ _ 0 (c .before .before .if1 .taken) (h .halves .ensures) (c .one .ensures .0))
 
 returns-2 : tie.Need-returns-2
-returns-2 c = many-all isVoided _ _ _ (c .if1 .left) (c .before .halves .ensures)
+returns-2 c = many-all (equals 0) _ _ _ (c .if1 .left) (c .before .halves .ensures)
 
 pub zeros-spec : {M : Type 1} → statement M
 zeros-spec =
@@ -39,7 +38,5 @@ zeros-spec =
     (λ c. search needs)
     (λ c κs. search needs)
     add-result
-    (λ c. search needs)
     returns
-    (λ c. search needs)
     returns-2)

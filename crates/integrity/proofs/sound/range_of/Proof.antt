@@ -1,48 +1,38 @@
+-- `integrity::sound::range_of` meets its contract: the first i item lines are looked at.
+use mathlib.Core.Path.{_≡_, refl, sym, ap, _∙_}
+use Prim.Native.Nat.{_-_, _≤_}
+use native.Mathlib.Omega.{arith}
+use lib.ListN.{length, take}
+use lib.Seq.{take-all}
+use denote.Ref.{now}
 use borrow.Author.Needs.{needs}
+use Rattle.integrity.specs.Range.{leastIn, mostIn}
+use Rattle.integrity.proofs.Ranges.{least-more, most-more}
 use Rattle.integrity.proofs.sound.range_of.Statement.{statement}
 use Rattle.integrity.proofs.sound.range_of.Tie as tie
-use Rattle.integrity.proofs.sound.range_of.Reads as reads
-use Rattle.integrity.proofs.sound.range_of.Lts as lts
-use Rattle.integrity.proofs.sound.higher.Reads as higher-reads
-use Rattle.integrity.proofs.sound.lower.Reads as lower-reads
 
 abbrev Inv-loop : tie.InvT-loop
-Inv-loop items least₀ most₀ i₀ least most i = ?
+Inv-loop items least₀ most₀ i₀ least most i = (least ≡ leastIn (take i items)) × (most ≡ mostIn (take i items)) × (i ≤ length items)
 
 abbrev μ-loop : tie.MeasureT-loop
-μ-loop items least₀ most₀ i₀ least most i = ?
+μ-loop items least₀ most₀ i₀ least most i = length items - i
 
--- src/sound.rt:42:5
-loop-holds : tie.Need-loop-holds Inv-loop μ-loop
-loop-holds c = search needs
-
--- src/sound.rt:43:17
-shared-slice-read-x : tie.Need-shared-slice-read-x Inv-loop μ-loop
-shared-slice-read-x c = search needs
-
--- src/sound.rt:44:9
-lower-requires : tie.Need-lower-requires Inv-loop μ-loop
-lower-requires c κs = search needs
-
--- src/sound.rt:45:9
-higher-requires : tie.Need-higher-requires Inv-loop μ-loop
-higher-requires c κs = search needs
-
--- src/sound.rt:46:9
-add-i : tie.Need-add-i Inv-loop μ-loop
-add-i c = search needs
-
--- src/sound.rt:42:5
-loop-less : tie.Need-loop-less Inv-loop μ-loop
-loop-less c = search needs
-
--- src/sound.rt:42:5
 loop-again : tie.Need-loop-again Inv-loop μ-loop
-loop-again c = search needs
+loop-again c =
+    let at = c .before .before .before .before .loop in
+    let items = now (c .before .before .before .before .before .before .args .items) in
+    let l = c .before .before .before .loop-test .taken in (
+      c .before .lower .ensures .0 ∙ least-more items (at .i) l (at .least) (c .before .lower .ensures .1) (at .inv .0),
+      c .higher .ensures ∙ most-more items (at .i) l (at .most) (at .inv .1),
+      omega arith,
+    )
 
--- src/sound.rt:36:1
 returns : tie.Need-returns Inv-loop μ-loop
-returns c = search needs
+returns c =
+    let at = c .before .loop in
+    let items = now (c .before .before .before .args .items) in
+    let all = take-all (at .i) items (c .loop-test .left) in
+    (at .inv .0 ∙ ap leastIn all, at .inv .1 ∙ ap mostIn all)
 
 pub range-of-spec : {M : Type 1} → statement M
 range-of-spec =
@@ -50,11 +40,11 @@ range-of-spec =
     (tie.spec
     Inv-loop
     μ-loop
-    loop-holds
-    shared-slice-read-x
-    lower-requires
-    higher-requires
-    add-i
-    loop-less
+    (λ c. (refl, refl, omega arith))
+    (λ c. search needs)
+    (λ c κs. search needs)
+    (λ c κs. search needs)
+    (λ c. search needs)
+    (λ c. search needs)
     loop-again
     returns)

@@ -1,25 +1,26 @@
+-- `integrity::sound::unlike` meets its contract.
+use mathlib.Core.Path.{sym, ap, _∙_}
+use mathlib.Core.Logic.{_≢_}
+use native.Mathlib.Omega.{arith}
+use lib.Dec.{eqb}
 use borrow.Author.Needs.{needs}
+use Rattle.integrity.proofs.Ranges as ranges
+use Rattle.integrity.proofs.Ranges.{bit}
 use Rattle.integrity.proofs.sound.unlike.Statement.{statement}
 use Rattle.integrity.proofs.sound.unlike.Tie as tie
-use Rattle.integrity.proofs.sound.unlike.Reads as reads
-use Rattle.integrity.proofs.sound.unlike.Lts as lts
-use Rattle.integrity.proofs.pass.one.Reads as one-reads
 
--- src/sound.rt:55:9
-one-requires : tie.Need-one-requires
-one-requires c κs = search needs
-
--- src/sound.rt:56:9
-one-requires-2 : tie.Need-one-requires-2
-one-requires-2 c κs = search needs
-
--- src/sound.rt:52:1
 returns : tie.Need-returns
-returns c = search needs
+returns c =
+    let a = c .before .before .before .args in
+    let same = sym (c .before .before .one .ensures .0) ∙ c .if1 .taken ∙ c .before .one2 .ensures .0 in
+    (sym (ap bit (ranges.like (a .order) (a .item) same)), omega arith)
 
--- src/sound.rt:52:1
 returns-2 : tie.Need-returns-2
-returns-2 c = search needs
+returns-2 c =
+    let a = c .before .before .before .args in
+    let other : bit (eqb (a .order) 0) ≢ bit (eqb (a .item) 0) =
+    λ q. c .if1 .left (c .before .before .one .ensures .0 ∙ q ∙ sym (c .before .one2 .ensures .0)) in
+    (sym (ap bit (ranges.unlike (a .order) (a .item) other)), omega arith)
 
 pub unlike-spec : {M : Type 1} → statement M
-unlike-spec = tie.close (tie.spec one-requires one-requires-2 returns returns-2)
+unlike-spec = tie.close (tie.spec (λ c κs. search needs) (λ c κs. search needs) returns returns-2)

@@ -1,55 +1,46 @@
+-- `integrity::sound::unmatched` meets its contract: the first i lines are counted.
+use mathlib.Core.Path.{_≡_, refl, sym, ap, _∙_}
+use mathlib.Core.Bool.{cond}
+use Prim.Native.Nat.{_-_, _≤_}
+use native.Mathlib.Omega.{arith}
+use lib.ListN.{length, take}
+use denote.Ref.{now}
 use borrow.Author.Needs.{needs}
+use Rattle.model.specs.Basics.{howMany}
+use Rattle.model.specs.Entry.{Entry, voidEntry, isUnmatched, pairs}
+use Rattle.integrity.proofs.Pairs.{pairs-length, line-at}
+use Rattle.integrity.proofs.Places.{many-more, many-all}
 use Rattle.integrity.proofs.sound.unmatched.Statement.{statement}
 use Rattle.integrity.proofs.sound.unmatched.Tie as tie
-use Rattle.integrity.proofs.sound.unmatched.Reads as reads
-use Rattle.integrity.proofs.sound.unmatched.Lts as lts
-use Rattle.integrity.proofs.sound.unlike.Reads as unlike-reads
 
 abbrev Inv-loop : tie.InvT-loop
-Inv-loop orders items others₀ i₀ others i = ?
+Inv-loop orders items others₀ i₀ others i =
+    (others ≡ howMany isUnmatched (take i (pairs orders items))) × (others ≤ i) × (i ≤ length orders)
 
 abbrev μ-loop : tie.MeasureT-loop
-μ-loop orders items others₀ i₀ others i = ?
+μ-loop orders items others₀ i₀ others i = length orders - i
 
--- src/sound.rt:66:5
-loop-holds : tie.Need-loop-holds Inv-loop μ-loop
-loop-holds c = search needs
-
--- src/sound.rt:67:26
-mul-unlike : tie.Need-mul-unlike Inv-loop μ-loop
-mul-unlike c = search needs
-
--- src/sound.rt:67:26
-shared-slice-read-unlike : tie.Need-shared-slice-read-unlike Inv-loop μ-loop
-shared-slice-read-unlike c = search needs
-
--- src/sound.rt:67:37
-shared-slice-read-unlike-2 : tie.Need-shared-slice-read-unlike-2 Inv-loop μ-loop
-shared-slice-read-unlike-2 c = search needs
-
--- src/sound.rt:67:19
-unlike-requires : tie.Need-unlike-requires Inv-loop μ-loop
-unlike-requires c κs = search needs
-
--- src/sound.rt:67:9
-add-others : tie.Need-add-others Inv-loop μ-loop
-add-others c = search needs
-
--- src/sound.rt:68:9
-add-i : tie.Need-add-i Inv-loop μ-loop
-add-i c = search needs
-
--- src/sound.rt:66:5
-loop-less : tie.Need-loop-less Inv-loop μ-loop
-loop-less c = search needs
-
--- src/sound.rt:66:5
 loop-again : tie.Need-loop-again Inv-loop μ-loop
-loop-again c = search needs
+loop-again c =
+    let at = c .before .before .before .before .loop in
+    let start = c .before .before .before .before .before .before .before in
+    let os = now (start .args .orders) in
+    let is = now (start .args .items) in
+    let e = start .pre .0 in
+    let l = c .before .before .before .loop-test .taken in
+    let here = c .unlike .ensures .0 ∙ ap (λ (d : Entry). cond (isUnmatched d) 1 0) (sym (line-at os is e (at .i) l)) in (
+      many-more isUnmatched (pairs os is) (at .i) _ _ voidEntry (omega (arith, pairs-length os is e, l)) (at .inv .0) here,
+      omega (arith, c .unlike .ensures .1),
+      omega arith,
+    )
 
--- src/sound.rt:60:1
 returns : tie.Need-returns Inv-loop μ-loop
-returns c = search needs
+returns c =
+    let at = c .before .loop in
+    let start = c .before .before .before .before in
+    let os = now (start .args .orders) in
+    let is = now (start .args .items) in
+    many-all isUnmatched (pairs os is) (at .i) _ (omega (arith, pairs-length os is (start .pre .0), c .loop-test .left)) (at .inv .0)
 
 pub unmatched-spec : {M : Type 1} → statement M
 unmatched-spec =
@@ -57,13 +48,13 @@ unmatched-spec =
     (tie.spec
     Inv-loop
     μ-loop
-    loop-holds
-    mul-unlike
-    shared-slice-read-unlike
-    shared-slice-read-unlike-2
-    unlike-requires
-    add-others
-    add-i
-    loop-less
+    (λ c. (refl, omega arith, omega arith))
+    (λ c. search needs)
+    (λ c. search needs)
+    (λ c. omega (arith, c .before .before .before .before .before .before .pre .0, c .before .before .loop-test .taken))
+    (λ c κs. search needs)
+    (λ c. omega (arith, c .unlike .ensures .1, c .before .before .before .before .before .before .before .pre .1, c .before .before .before .loop-test .taken))
+    (λ c. search needs)
+    (λ c. search needs)
     loop-again
     returns)
