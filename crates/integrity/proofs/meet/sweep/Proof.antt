@@ -10,7 +10,7 @@ use lib.ListN.{length, take, drop, length-take}
 use lib.Seq.{take-all}
 use denote.Ref.{now}
 use borrow.Author.Needs.{needs}
-use borrow.Author.Tests.{eqb-true, eqb-false}
+use borrow.Author.Tests.{eqb-true, eqb-false, not-true, not-false}
 use Rattle.model.specs.Entry.{Entry, isVoided, isUnsound, voidedIn, unsoundIn, pairs}
 use Rattle.integrity.specs.Sift.{Sifted, Marked}
 use Rattle.integrity.proofs.Places.{many-block, many-all, many-few, none-more, none-never}
@@ -77,8 +77,8 @@ loop-again c =
     let ok = block .block .ensures .1 in (
       zeros-so-far block,
       ⊎-elim
-      (λ w. w .1 ∙ none-never isUnsound l (at .i) to (omega arith) (λ z. eqb-false _ _ (sym ok ∙ w .0 .taken) (sym part ∙ z)))
-      (λ w. w .1 ∙ none-more isUnsound l (at .i) to (omega arith) _ (at .inv .1) (part ∙ eqb-true _ _ (sym ok ∙ w .0 .left)))
+      (λ w. w .1 ∙ none-never isUnsound l (at .i) to (omega arith) (λ z. eqb-false _ _ (sym ok ∙ not-true _ (w .0 .taken)) (sym part ∙ z)))
+      (λ w. w .1 ∙ none-more isUnsound l (at .i) to (omega arith) _ (at .inv .1) (part ∙ eqb-true _ _ (sym ok ∙ not-false _ (w .0 .left))))
       (c .before .if1 .came),
       c .sift .ensures .0,
       marked-fewer (at .inv .3) (c .sift .ensures .1),
