@@ -44,9 +44,9 @@ loop-again c =
     ))
     (λ w. (
       line-unmarked os is bs js (p .2) (p .3) (at .inv .0) h (p .4) (at .inv .1) (c .before .before .slot .ensures .0)
-      (w .0 .left)
-      (w .1)
-      (w .2),
+          (w .0 .left)
+          (w .1)
+          (w .2),
       omega (arith, w .1),
       omega arith,
     )))

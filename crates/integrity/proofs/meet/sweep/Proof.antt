@@ -77,9 +77,9 @@ loop-again c =
     let ok = block .block .ensures .1 in (
       zeros-so-far block,
       ⊎-elim
-      (λ w. w .1 ∙ none-never isUnsound l (at .i) to (omega arith) (λ z. eqb-false _ _ (sym ok ∙ not-true _ (w .0 .taken)) (sym part ∙ z)))
-      (λ w. w .1 ∙ none-more isUnsound l (at .i) to (omega arith) _ (at .inv .1) (part ∙ eqb-true _ _ (sym ok ∙ not-false _ (w .0 .left))))
-      (c .before .if1 .came),
+          (λ w. w .1 ∙ none-never isUnsound l (at .i) to (omega arith) (λ z. eqb-false _ _ (sym ok ∙ not-true _ (w .0 .taken)) (sym part ∙ z)))
+          (λ w. w .1 ∙ none-more isUnsound l (at .i) to (omega arith) _ (at .inv .1) (part ∙ eqb-true _ _ (sym ok ∙ not-false _ (w .0 .left))))
+          (c .before .if1 .came),
       c .sift .ensures .0,
       marked-fewer (at .inv .3) (c .sift .ensures .1),
       ends (block .before .before .before),
