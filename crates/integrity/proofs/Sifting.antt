@@ -20,7 +20,7 @@ use Rattle.integrity.proofs.Again.{earlier, lowest, First}
 -- ---- places
 
 -- an order that stands at no place before f is none of those
-pub not-among : (x : Entry) (es : List Entry) {f k : ℕ} → f ≤ length es → k ≡ firstPlace (sameOrder x) es → f ≤ k
+not-among : (x : Entry) (es : List Entry) {f k : ℕ} → f ≤ length es → k ≡ firstPlace (sameOrder x) es → f ≤ k
     → (j : ℕ) → j < f → x ≢ getD es j voidEntry
 not-among x es m e h j b y = let n = place-lowest x es j (omega (arith, b, m)) (sym y) in omega (arith, n, e, h, b)
 
@@ -149,7 +149,7 @@ module _ (es : List Entry) where
   pub apart-none : Apart 0
   apart-none = record { new = λ k q h m. absurd (omega (arith, h)) }
 
-  pub apart-more : {i : ℕ} → Apart i → ((q : ℕ) → q < i → getD es i voidEntry ≢ getD es q voidEntry) → Apart (i + 1)
+  apart-more : {i : ℕ} → Apart i → ((q : ℕ) → q < i → getD es i voidEntry ≢ getD es q voidEntry) → Apart (i + 1)
   apart-more {i} a n =
       record {
         new = λ k q h m.
@@ -161,7 +161,7 @@ module _ (es : List Entry) where
       }
 
   -- order i is none of those before it
-  pub not-before : {i k : ℕ} → i ≤ length es → k ≡ firstPlace (sameOrder (getD es i voidEntry)) (take i es) → i ≤ k
+  not-before : {i k : ℕ} → i ≤ length es → k ≡ firstPlace (sameOrder (getD es i voidEntry)) (take i es) → i ≤ k
       → (q : ℕ) → q < i → getD es i voidEntry ≢ getD es q voidEntry
   not-before {i} m e h q b y =
       not-among (getD es i voidEntry) (take i es) (omega (arith, length-take-le i es m)) e h q b (y ∙ sym (getD-take i es q voidEntry b))
@@ -179,7 +179,7 @@ module _ (es : List Entry) where
         }
 
     -- order i stands earlier in the bundle
-    pub apart-hit : {p : ℕ} → i < length es → p ≡ firstPlace (sameOrder (getD es i voidEntry)) (take i es) → p < i → Sifted l es 0 i (length l + p)
+    apart-hit : {p : ℕ} → i < length es → p ≡ firstPlace (sameOrder (getD es i voidEntry)) (take i es) → p < i → Sifted l es 0 i (length l + p)
     apart-hit {p} h e b =
         record {
           most = omega (arith, h);
@@ -228,7 +228,7 @@ marked-none marks os e = record { all = e; set = λ k h. absurd (omega (arith, h
 
 module _ {marks os : List ℕ} {n : ℕ} (m : Marked marks os n) where
   -- a number whose slot is not marked is none of theirs
-  pub marked-not : (x : ℕ) {s : ℕ} → s ≡ x % slots → getD marks s 0 ≡ 0 → (j : ℕ) → j < n → x ≢ getD os j 0
+  marked-not : (x : ℕ) {s : ℕ} → s ≡ x % slots → getD marks s 0 ≡ 0 → (j : ℕ) → j < n → x ≢ getD os j 0
   marked-not x q z j h e = m .set j h (ap (λ (y : ℕ). getD marks (y % slots) 0) (sym e) ∙ ap (λ (t : ℕ). getD marks t 0) (sym q) ∙ z)
 
   -- nor is a line of that number any of the orders

@@ -69,7 +69,7 @@ mark-spec =
     omega (arith, p .1, c .before .before .before .before .before .loop-test .taken))
     (λ c κs.
     let p = c .before .before .before .before .before .before .before .before .before .before .pre in
-    (p .1, omega arith, c .before .before .before .before .before .before .loop .inv .2, refl))
+    (p .1, omega arith, c .before .before .before .before .before .before .loop .inv .2, refl {a = 0}))
     (λ c.
     let at = c .before .before .before .before .before .before .before .before .loop in
     at .inv .1 .all ∙ sym (c .before .before .before .before .before .before .before .before .before .before .before .before .pre .0))

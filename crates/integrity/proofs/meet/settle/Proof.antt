@@ -1,7 +1,7 @@
 -- `integrity::meet::settle` meets its contract.
-use mathlib.Core.Path.{refl, sym, ap, _∙_}
+use mathlib.Core.Path.{_≡_, refl, sym, ap, _∙_}
 use native.Mathlib.Omega.{arith}
-use lib.ListN.{length}
+use lib.ListN.{length, take}
 use lib.Seq.{take-all}
 use denote.Ref.{now}
 use borrow.Author.Needs.{needs}
@@ -28,7 +28,9 @@ returns-2 c =
     let a = start .args in
     let l = pairs (now (a .bundle)) (now (a .items)) in
     let n = pairs-length (now (a .bundle)) (now (a .items)) (start .pre) in
-    c .search .ensures ∙ ap (firstPlace (sameOrder (entry (a .order) (a .item)))) (take-all (length (now (a .bundle))) l (omega (arith, n)))
+    let m = length (now (a .bundle)) in
+    let found : c .search .result ≡ firstPlace (sameOrder (entry (a .order) (a .item))) (take m l) = c .search .ensures in
+    found ∙ ap (firstPlace (sameOrder (entry (a .order) (a .item)))) (take-all m l (omega (arith, n)))
 
 pub settle-spec : {M : Type 1} → statement M
 settle-spec =
@@ -36,5 +38,5 @@ settle-spec =
     (tie.spec
     (λ c κs. search needs)
     returns
-    (λ c κs. (c .before .before .before .before .pre, omega arith, omega arith, refl))
+    (λ c κs. (c .before .before .before .before .pre, omega arith, omega arith, refl {a = 0}))
     returns-2)

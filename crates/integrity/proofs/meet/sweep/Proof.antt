@@ -1,9 +1,9 @@
--- `integrity::meet::sweep` meets its contract: the spoilt ones of the first i lines are counted, none of them is unsound or that is known, and the orders
--- are looked for among them.
+-- `integrity::meet::sweep` meets its contract: of the first i lines the spoilt ones are counted, it is known whether none is unsound, and the orders are
+-- looked for among them.
 use mathlib.Core.Path.{_≡_, refl, sym, ap, _∙_}
 use mathlib.Core.Logic.{⊎-elim}
 use mathlib.Core.List.{List}
-use Prim.Native.Nat.{ℕ, _+_, _-_, _≤_}
+use Prim.Native.Nat.{_+_, _-_, _≤_}
 use native.Mathlib.Omega.{arith}
 use lib.Dec.{eqb}
 use lib.ListN.{length, take, drop, length-take}
