@@ -141,8 +141,11 @@ module _ {A : Type 0} (test : A → Bool) where
       let all : i + (n - i) ≡ n = omega arith in
       let parts : take n l ≡ take i l ++ take (n - i) (drop i l) = ap (λ (k : ℕ). take k l) (sym all) ∙ take-add i (n - i) l in
       let first = length-take-le i l (omega (arith, length-take n l)) in
-      record { inside = omega arith; none = ap (λ (m : List A). firstPlace test (take i m)) parts
-          ∙ ap (firstPlace test) (take-at (take i l) (take (n - i) (drop i l)) i first) ∙ e }
+      record {
+        inside = omega arith;
+        none = ap (λ (m : List A). firstPlace test (take i m)) parts
+            ∙ ap (firstPlace test) (take-at (take i l) (take (n - i) (drop i l)) i first) ∙ e;
+      }
 
   module _ (l : List A) {i : ℕ} (c : Clear l i) where
     long : length (take i l) ≡ i

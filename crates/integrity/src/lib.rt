@@ -17,6 +17,9 @@ ghost use Rattle.model.specs.Entry.{entry, columns};
 ghost use Rattle.model.specs.Record.{upperOf, consistent};
 ghost use Rattle.integrity.specs.Examine.{framed, seenBy, foundBy, metBy};
 
+// The highest item line (document 02, (vi)).
+pub const MOST_ITEM: u8 = 99;
+
 // Whether a record and the columns belong together, and N where they do; elsewhere 0.
 pub struct Seen {
     pub fits: bool,

@@ -12,9 +12,6 @@ ghost use Rattle.model.specs.Entry.{entry, pairs, unsoundIn, isUnmatched};
 ghost use Rattle.integrity.specs.Range.{leastIn, mostIn};
 use crate::pass;
 
-// The highest item line.
-const MOST_ITEM: u8 = 99;
-
 // The least and the highest of some item lines.
 struct Range {
     least: u8,
@@ -76,7 +73,7 @@ pub(crate) fn sound(orders: &[u32], items: &[u8], zeros: u32) -> bool
     ensures { λ r. ⌜ r ≡ eqb (unsoundIn (pairs (now (orders .entry)) (now (items .entry)))) 0 ⌝ }
 {
     let range = range_of(items);
-    if MOST_ITEM < range.most {
+    if crate::MOST_ITEM < range.most {
         return false;
     }
     if zeros == 0 {
