@@ -316,16 +316,16 @@ module _ (os is bs js : List ℕ) (eo : length is ≡ length os) (eb : length js
   settled : {k : ℕ} → Settled k → k ≡ firstPlace (sameOrder (getD (pairs os is) i voidEntry)) (pairs bs js)
   settled q = q ∙ ap (λ (d : Entry). firstPlace (sameOrder d) (pairs bs js)) (sym (line-at os is eo i h))
 
-  pub line-hit : {k g q : ℕ} → Settled k → k < f → g ≡ k → q ≡ i → Sifted (pairs os is) (pairs bs js) (i + 1) g q
-  line-hit e b eg eq = sifted-hit (pairs os is) (pairs bs js) s inside (omega (arith, b, eg)) (eg ∙ settled e) eq
+  pub met-line : {k g q : ℕ} → Settled k → k < f → g ≡ k → q ≡ i → Sifted (pairs os is) (pairs bs js) (i + 1) g q
+  met-line e b eg eq = sifted-hit (pairs os is) (pairs bs js) s inside (omega (arith, b, eg)) (eg ∙ settled e) eq
 
-  pub line-miss : {k g q : ℕ} → Settled k → f ≤ k → g ≡ f → q ≡ p → Sifted (pairs os is) (pairs bs js) (i + 1) g q
-  line-miss e b eg eq = sifted-miss (pairs os is) (pairs bs js) s inside (not-among _ (pairs bs js) (s .most) (settled e) b) eg eq
+  pub other-line : {k g q : ℕ} → Settled k → f ≤ k → g ≡ f → q ≡ p → Sifted (pairs os is) (pairs bs js) (i + 1) g q
+  other-line e b eg eq = sifted-miss (pairs os is) (pairs bs js) s inside (not-among _ (pairs bs js) (s .most) (settled e) b) eg eq
 
   -- or its slot is not marked
-  pub line-unmarked : {marks : List ℕ} {m t g q : ℕ} → Marked marks bs m → f ≤ m → t ≡ getD os i 0 % slots → getD marks t 0 ≡ 0 → g ≡ f → q ≡ p
+  pub unmarked-line : {marks : List ℕ} {m t g q : ℕ} → Marked marks bs m → f ≤ m → t ≡ getD os i 0 % slots → getD marks t 0 ≡ 0 → g ≡ f → q ≡ p
       → Sifted (pairs os is) (pairs bs js) (i + 1) g q
-  line-unmarked k b e z eg eq =
+  unmarked-line k b e z eg eq =
       let few : f ≤ length bs = omega (arith, s .most, pairs-length bs js eb) in
       sifted-miss (pairs os is) (pairs bs js) s inside
       (marked-other (marked-fewer k b) js eb few _ (sym (ap orderOf (line-at os is eo i h))) e z)
@@ -333,13 +333,13 @@ module _ (os is bs js : List ℕ) (eo : length is ≡ length os) (eb : length js
       eq
 
 -- n lines without a mark are passed over
-pub lines-unmarked : (os is bs js : List ℕ) → length is ≡ length os → length js ≡ length bs → {marks : List ℕ} {i f p m : ℕ} (n : ℕ)
+pub unmarked-lines : (os is bs js : List ℕ) → length is ≡ length os → length js ≡ length bs → {marks : List ℕ} {i f p m : ℕ} (n : ℕ)
     → Sifted (pairs os is) (pairs bs js) i f p → Marked marks bs m → f ≤ m
     → Unmarked marks os i n
     → i + n ≤ length os
     → Sifted (pairs os is) (pairs bs js) (i + n) f p
-lines-unmarked os is bs js eo eb {marks} {i} {f} {p} zero s k h u b = subst (λ (j : ℕ). Sifted (pairs os is) (pairs bs js) j f p) (omega arith) s
-lines-unmarked os is bs js eo eb {marks} {i} {f} {p} (suc n) s k h u b =
-    let before = lines-unmarked os is bs js eo eb n s k h (record { none = λ j c. u .none j (omega (arith, c)) }) (omega (arith, b)) in
+unmarked-lines os is bs js eo eb {marks} {i} {f} {p} zero s k h u b = subst (λ (j : ℕ). Sifted (pairs os is) (pairs bs js) j f p) (omega arith) s
+unmarked-lines os is bs js eo eb {marks} {i} {f} {p} (suc n) s k h u b =
+    let before = unmarked-lines os is bs js eo eb n s k h (record { none = λ j c. u .none j (omega (arith, c)) }) (omega (arith, b)) in
     subst (λ (j : ℕ). Sifted (pairs os is) (pairs bs js) j f p) (omega arith)
-    (line-unmarked os is bs js eo eb before (omega (arith, b)) k h refl (u .none n (omega arith)) refl refl)
+    (unmarked-line os is bs js eo eb before (omega (arith, b)) k h refl (u .none n (omega arith)) refl refl)

@@ -8,7 +8,7 @@ use denote.Ref.{now}
 use borrow.Author.Needs.{needs}
 use Rattle.model.specs.Entry.{pairs}
 use Rattle.integrity.specs.Sift.{Sifted}
-use Rattle.integrity.proofs.Sifting.{line-hit, line-miss, line-unmarked}
+use Rattle.integrity.proofs.Sifting.{met-line, other-line, unmarked-line}
 use Rattle.integrity.proofs.meet.look.Statement.{statement}
 use Rattle.integrity.proofs.meet.look.Tie as tie
 
@@ -32,18 +32,18 @@ loop-again c =
     let js = now (a .itemlines) in
     ⊎-elim
     (λ w. (
-      line-hit os is bs js (p .2) (p .3) (at .inv .0) h (w .2 .ensures) (omega (arith, w .3 .taken)) (w .4) (w .5),
+      met-line os is bs js (p .2) (p .3) (at .inv .0) h (w .2 .ensures) (omega (arith, w .3 .taken)) (w .4) (w .5),
       omega (arith, w .3 .taken, w .4),
       omega arith,
     ))
     (⊎-elim
     (λ w. (
-      line-miss os is bs js (p .2) (p .3) (at .inv .0) h (w .2 .ensures) (omega (arith, w .3 .left)) (w .4) (w .5),
+      other-line os is bs js (p .2) (p .3) (at .inv .0) h (w .2 .ensures) (omega (arith, w .3 .left)) (w .4) (w .5),
       omega (arith, w .4),
       omega arith,
     ))
     (λ w. (
-      line-unmarked os is bs js (p .2) (p .3) (at .inv .0) h (p .4) (at .inv .1) (c .before .before .slot .ensures .0)
+      unmarked-line os is bs js (p .2) (p .3) (at .inv .0) h (p .4) (at .inv .1) (c .before .before .slot .ensures .0)
           (w .0 .left)
           (w .1)
           (w .2),

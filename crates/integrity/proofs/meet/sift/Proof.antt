@@ -5,7 +5,7 @@ use native.Mathlib.Omega.{arith}
 use borrow.Author.Needs.{needs}
 use Rattle.model.specs.Entry.{pairs}
 use Rattle.integrity.specs.Sift.{Sifted}
-use Rattle.integrity.proofs.Sifting.{lines-unmarked, marked-fewer}
+use Rattle.integrity.proofs.Sifting.{unmarked-lines, marked-fewer}
 use Rattle.integrity.proofs.meet.sift.Statement.{statement}
 use Rattle.integrity.proofs.meet.sift.Tie as tie
 
@@ -26,7 +26,7 @@ loop-again c =
     (λ w. rw (w .2) (w .1 .ensures .0, omega (arith, w .1 .ensures .1, at .inv .1), h))
     (λ w.
     let over = c .before .marked .ensures (w .0 .left) in
-    let s = lines-unmarked _ _ _ _ (p .2) (p .3) 8 (at .inv .0) (p .4) (at .inv .1) over (omega (arith, h, p .1)) in
+    let s = unmarked-lines _ _ _ _ (p .2) (p .3) 8 (at .inv .0) (p .4) (at .inv .1) over (omega (arith, h, p .1)) in
     rw (w .1) (s, at .inv .1, h))
     (c .if1 .came)
 
