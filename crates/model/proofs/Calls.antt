@@ -162,6 +162,11 @@ module _ (p : Printing) where
         let q = passed (badBundle b) _ (takes-numbered (entriesIn b) l s) (accepting l (claim-all s b) t .0) in
         ((λ z. size-known b (q .0) .1 (sym (room-entries b) ∙ z)), q .2)
 
+    -- and as many item lines as orders
+    pub bundle-paired : (s : ℕ) (b : Lent) → accepted (answer p l (claim-all s b)) ≡ true → Paired b
+    bundle-paired s b t =
+        size-known b (passed (badBundle b) _ (takes-numbered (entriesIn b) l s) (accepting l (claim-all s b) t .0) .0) .0
+
     bundle-turn : (s : ℕ) (es : List Entry) → length es ≢ 0 → Accepts (takesChecks p l s es) → (s ≡ next p l) × (next p l ≤ size p)
     bundle-turn s [] n a = absurd (n refl)
     bundle-turn s (e ∷ es) n a = let q = claim-turn l s e (takes-split l s e es a .0) .1 in (q .serial, q .inside)

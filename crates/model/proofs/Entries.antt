@@ -14,7 +14,7 @@ use Rattle.walsh.proofs.Tests.{both-left, both-right}
 use Rattle.bounds.proofs.Editions.{neither}
 use Rattle.model.specs.Basics.{replaced}
 use Rattle.model.specs.Entry.{Entry, entry, voidEntry, orderOf, itemOf, isVoided, sameOrder, isNoItem, isUnsound, soldIn, voidedIn}
-use Rattle.model.specs.Entry.{Lent, pairs, entriesIn, firstEntries, room, ordersOf, itemsOf, over, put}
+use Rattle.model.specs.Entry.{Lent, pairs, entriesIn, firstEntries, room, Paired, ordersOf, itemsOf, over, put}
 use Rattle.model.proofs.Lists.{many-or-not, length-replaced, sets-replaced}
 
 -- ---- a line
@@ -102,6 +102,13 @@ length-entries n col h = length-take-le n (entriesIn col) (omega (arith, room-en
 pub entry-order : (n : ℕ) (col : Lent) (i : ℕ) → i < n → n ≤ room col → orderOf (getD (firstEntries n col) i voidEntry) ≡ getD (col .orders) i 0
 entry-order n col i h k =
     ap orderOf (getD-take n (entriesIn col) i voidEntry h ∙ pairs-at (col .orders) (col .items) i (omega arith) (omega arith))
+
+-- of columns of the same length, the lines have all of both
+pub orders-back : (col : Lent) → Paired col → ordersOf (entriesIn col) ≡ col .orders
+orders-back col e = back-orders (col .orders) (col .items) (sym e)
+
+pub items-back : (col : Lent) → Paired col → itemsOf (entriesIn col) ≡ col .items
+items-back col e = back-items (col .orders) (col .items) (sym e)
 
 -- the first lines are the beginnings of both columns
 module _ (n : ℕ) (col : Lent) (h : n ≤ room col) where

@@ -6,7 +6,7 @@ use mathlib.Core.List.{List, [], _∷_}
 use Prim.Native.Nat.{ℕ, zero, suc, _-_, _≤_}
 use native.Mathlib.Omega.{arith}
 use native.Mathlib.Nat.{add-zero}
-use lib.ListN.{length, getD}
+use lib.ListN.{length, getD, take}
 use borrow.Author.Tests.{ltb-false, leb-true, le-leb, eqb-true, eq-eqb, ne-eqb}
 use Rattle.walsh.specs.Serial.{same}
 use Rattle.walsh.specs.Tests.{both}
@@ -22,12 +22,12 @@ use Rattle.model.specs.declared.Answer.{Answer}
 use Rattle.model.specs.declared.Claimed.{Claimed}
 use Rattle.model.specs.declared.Ledger.{Ledger}
 use Rattle.model.specs.Basics.{all}
-use Rattle.model.specs.Entry.{soldIn, voidedIn, unsoundIn, Lent, room}
+use Rattle.model.specs.Entry.{soldIn, voidedIn, unsoundIn, Lent, room, firstEntries, ordersOf, itemsOf}
 use Rattle.model.specs.Printing.{Printing, capacity, nextComposition}
 use Rattle.model.specs.Model.{Call, refusedWith, answerBy, answer, accepted}
 use Rattle.model.specs.Record.{upperOf, printingOf, written, tests, consistent, notTogether, grantedBy, answered}
 use Rattle.model.specs.Record.{advanced, counted, entered, recordAfter, columnAfter, calling, entriesOf}
-use Rattle.model.proofs.Entries.{sold-or-voided, length-entries}
+use Rattle.model.proofs.Entries.{sold-or-voided, length-entries, entries-orders, entries-items}
 
 -- ---- number 16
 
@@ -176,10 +176,30 @@ module _ (r : Ledger) (col : Lent) where
 
   -- ---- the lines so far
 
-  pub entries-none : consistent r col ≡ false → [] ≡ entriesOf r col
+  pub entries-none : consistent r col ≡ false → length (entriesOf r col) ≡ 0
   unfolding entriesOf
   entries-none f = rw f
 
-  pub entries-some : consistent r col ≡ true → written r col ≡ entriesOf r col
+  pub entries-some : consistent r col ≡ true → length (entriesOf r col) ≡ r .entries
   unfolding entriesOf
-  entries-some t = rw t
+  entries-some t = rw t (parts t .length-written)
+
+  entries-first : entriesOf r col ≡ firstEntries (length (entriesOf r col)) col
+  unfolding entriesOf
+  entries-first =
+      on-test (consistent r col)
+      (λ t. rw t (ap (λ (n : ℕ). firstEntries n col) (sym (parts t .length-written))))
+      (λ f. rw f)
+
+  pub entries-within : length (entriesOf r col) ≤ room col
+  entries-within =
+      on-test (consistent r col)
+      (λ t. let q = parts t in omega (arith, entries-some t, q .entries, q .fits))
+      (λ f. omega (arith, entries-none f))
+
+  -- they are the beginnings of both columns
+  pub orders-so-far : take (length (entriesOf r col)) (col .orders) ≡ ordersOf (entriesOf r col)
+  orders-so-far = sym (entries-orders (length (entriesOf r col)) col entries-within) ∙ ap ordersOf (sym entries-first)
+
+  pub items-so-far : take (length (entriesOf r col)) (col .items) ≡ itemsOf (entriesOf r col)
+  items-so-far = sym (entries-items (length (entriesOf r col)) col entries-within) ∙ ap itemsOf (sym entries-first)
