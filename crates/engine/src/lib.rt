@@ -210,14 +210,16 @@ pub extern "C" fn huz_claim_all(
 pub extern "C" fn huz_claim_in(
     ledger: &mut Ledger,
     orders: &mut [u32],
+    items: &mut [u8],
     serial: u64,
     order: u32,
+    item: u8,
 ) -> Answer
     ensures { λ r.
-        ⌜ (record { answer = r; ledger = now (ledger .exit) }, now (orders .exit))
-        ≡ calling (now (ledger .entry)) (now (orders .entry)) (Call.claim serial order) ⌝ }
+        ⌜ (record { answer = r; ledger = now (ledger .exit) }, columns (now (orders .exit)) (now (items .exit)))
+        ≡ calling (now (ledger .entry)) (columns (now (orders .entry)) (now (items .entry))) (Call.claim serial (entry order item)) ⌝ }
 {
-    let claimed = ledger::claim(*ledger, orders, serial, order);
+    let claimed = ledger::claim(*ledger, orders, items, serial, order, item);
     if claimed.answer.number == 0 {
         *ledger = claimed.ledger;
     }
@@ -225,12 +227,17 @@ pub extern "C" fn huz_claim_in(
 }
 
 #[no_mangle]
-pub extern "C" fn huz_void_in(ledger: &mut Ledger, orders: &mut [u32], serial: u64) -> Answer
+pub extern "C" fn huz_void_in(
+    ledger: &mut Ledger,
+    orders: &mut [u32],
+    items: &mut [u8],
+    serial: u64,
+) -> Answer
     ensures { λ r.
-        ⌜ (record { answer = r; ledger = now (ledger .exit) }, now (orders .exit))
-        ≡ calling (now (ledger .entry)) (now (orders .entry)) (Call.void serial) ⌝ }
+        ⌜ (record { answer = r; ledger = now (ledger .exit) }, columns (now (orders .exit)) (now (items .exit)))
+        ≡ calling (now (ledger .entry)) (columns (now (orders .entry)) (now (items .entry))) (Call.void serial) ⌝ }
 {
-    let voided = ledger::void(*ledger, orders, serial);
+    let voided = ledger::void(*ledger, orders, items, serial);
     if voided.answer.number == 0 {
         *ledger = voided.ledger;
     }
