@@ -214,14 +214,14 @@ pub extern "C" fn huz_claim_all(
     items: &mut [u8],
     serial: u64,
     bundle: &[u32],
-    bundle_items: &[u8],
+    itemlines: &[u8],
 ) -> Claimed
     ensures { λ r.
         ⌜ (r, columns (now (orders .exit)) (now (items .exit)))
         ≡ calling ledger (columns (now (orders .entry)) (now (items .entry)))
-        (Call.claim-all serial (columns (now (bundle .entry)) (now («bundle_items» .entry)))) ⌝ }
+        (Call.claim-all serial (columns (now (bundle .entry)) (now (itemlines .entry)))) ⌝ }
 {
-    ledger::claim_all(ledger, orders, items, serial, bundle, bundle_items)
+    ledger::claim_all(ledger, orders, items, serial, bundle, itemlines)
 }
 
 // ---- on a record that is lent
