@@ -327,8 +327,8 @@ def call(rng):
 
 
 def new_lines(rng, size, lines=()):
-    """lines for a bundle that differ and stand not among those lines; some of them differ in one bit of the number, in the number alone or in the item
-    line alone from each other or from a line"""
+    """lines for a bundle that differ and stand not among those lines; some differ in one bit of the number, in the number alone or in the item line
+    alone from each other or from a line"""
     taken, found, few = {*lines}, [], [line for line in lines[:9] if line[0]][:3]
     while len(found) < size:
         order, item = rng.choice((*found[-3:], *few, (1, 1)))
@@ -346,8 +346,8 @@ def apart(lines):
 
 
 def bundle(rng):
-    """a record and columns, sound or damaged, a first serial and the lines of a bundle, of which up to two have a fault, stand already or stand twice;
-    one in ten has another number of item lines than of orders"""
+    """a record and columns, sound or damaged, a first serial and the lines of a bundle, of which up to two have a fault, stand already or twice; one in
+    ten bundles has another number of item lines than of orders"""
     record, column, items = register(rng)
     if rng.random() < 0.3:
         record, column, items = damaged(rng, record, column, items)

@@ -59,8 +59,8 @@ def interleaving(ms, r, rng, workers=5):
 
 
 def club(paper, order, rng):
-    """the lines of a bundle after an order: some that are left, all of them or one more, at times none or 41, on an order each or on a few; one of them
-    may have a fault or stand already"""
+    """the lines of a bundle after an order: some that are left, all of them or one more, at times none or 41, on an order each or on a few; one may
+    have a fault or stand already"""
     left = paper.n + 1 - paper.next()
     size = rng.choice([1, 2, 3, 5, min(left, 40), min(left + 1, 40), rng.choice([0, 1, 40, 41])])
     each = rng.choice([1, 1, 2, 41])
@@ -157,7 +157,8 @@ def two_copies():
             calls += [(BUNDLE, 3, lines), (BUNDLE, 3, lines[:4] + [(0, 1)]), (BUNDLE, 9, lines)]
     yield fitting(((1, 2, 3, 2), 4), [7] * 40, calls + [LOOK, bundle(3, [1000] * 5, range(2, 7)), LOOK])
     forty = list(range(1, 41))
-    yield fitting(((8, 8, 8), 8), [7] * 45, [bundle(1, [2000] * 40, forty), bundle(41, [2000, 2000], [41, 40]), bundle(41, [2000] * 5, range(95, 100)), LOOK])
+    yield fitting(((8, 8, 8), 8), [7] * 45, [bundle(1, [2000] * 40, forty), bundle(41, [2000, 2000], [41, 40]),
+                                             bundle(41, [2000] * 5, range(95, 100)), LOOK])
     # pools: with an item line too few or too many, also where the orders are as many as the calls name, all is 13
     for calls in two, [bundle(1, [1007, 1014]), LOOK], [LOOK]:
         orders, items = written(calls)[1:]
@@ -170,8 +171,8 @@ def two_copies():
 
 
 def bundles():
-    """request (v): none and 41, before everything but 16; at the edition's end, one too long, with order 0 there; too early, too late; a fault at each
-    place, after which nothing is written; a line that stands past the lines is free"""
+    """request (v): none and 41, before everything but 16; at the edition's end, one too long, with order 0 there; too early, too late; a fault at
+    each place, after which nothing is written; a line that stands past the lines is free"""
     after, five = [7, 7, 7], [1007, 1014, 1021, 1028, 1035]
     yield fitting(THREE, after, [bundle(0, []), bundle(1, range(1, 42)), bundle(9, []), LOOK, bundle(1, five[:3]), LOOK, bundle(3, [1])])
     yield fitting(THREE, after, [bundle(1, five[:4]), bundle(1, five[:3] + [0]), bundle(1, five), LOOK, bundle(2, five[:2]), bundle(0, five[:1])])
@@ -182,12 +183,13 @@ def bundles():
         calls += [bundle(3, five[:at] + [order] + five[at + 1:]) for order in wrong] + [LOOK]
     yield fitting(((2, 2, 2), 3), [7] * 9, calls + [bundle(3, five), LOOK])
     forty = [2000 + k for k in range(40)]
-    yield fitting(((8, 8, 8), 8), [7] * 45, [bundle(1, forty[:39] + [2000]), bundle(1, forty), LOOK, bundle(41, [9] + forty[:5]), bundle(41, five), LOOK])
+    yield fitting(((8, 8, 8), 8), [7] * 45, [bundle(1, forty[:39] + [2000]), bundle(1, forty), LOOK, bundle(41, [9] + forty[:5]),
+                                             bundle(41, five), LOOK])
 
 
 def pools():
-    """peeks and voids use up nothing, a refused claim its line, a bundle as many as its row says; with an order too few or too many, also where nothing
-    is claimed, all is 13, as it is where a row names more than any pool has"""
+    """peeks and voids use up nothing, a refused claim its line, a bundle as many as its row says; with an order too few or too many, also where
+    nothing is claimed, all is 13, as it is where a row names more than any pool has"""
     after = [7, 7, 7]
     yield fitting(SMALL, after, [LOOK, void(1), claim(2, 1007), LOOK])
     yield fitting(SMALL, after, [claim(9, 1007), claim(1, 1014), claim(2, 0), claim(2, 1021)])

@@ -311,6 +311,7 @@ class Paper:
 
     def __init__(self, ms, r, lines=()):
         self.ms, self.r, self.n, self.lines = tuple(ms), r, number(ms, r), list(lines)
+        self.lowest = dict(zip(reversed(self.lines), range(len(self.lines), 0, -1)))  # the lowest serial of each pair that stands
 
     def next(self):
         return len(self.lines) + 1
@@ -336,12 +337,13 @@ class Paper:
         if refusal[0]:
             return (*refusal, 0, BLANK)
         self.lines.append(line)
+        self.lowest.setdefault(line, serial)
         return self.answer(serial)
 
     def take(self, serial, order, item):
         refusal = (17, 0) if order == 0 else (25, 0) if not 1 <= item <= MOST_ITEM else self.place(serial)
-        if not refusal[0] and (order, item) in self.lines:
-            refusal = 20, self.lines.index((order, item)) + 1
+        if not refusal[0] and (order, item) in self.lowest:
+            refusal = 20, self.lowest[order, item]
         return self.write(refusal, serial, (order, item))
 
     def spoil(self, serial):
@@ -356,7 +358,7 @@ class Paper:
             answer = copy.take(at, *line)
             if answer[0]:
                 return answer
-        self.lines = copy.lines
+        self.lines, self.lowest = copy.lines, copy.lowest
         return self.answer(serial)
 
     def over(self, column, items):
