@@ -45,7 +45,7 @@ enum huz_number {
     HUZ_NO_ORDER = 17,              /* the order number is 0 */
     HUZ_ALREADY_WRITTEN = 18,       /* the serial is already written; detail: the order number on its line, 0 if it is spoilt */
     HUZ_ABOVE_NEXT = 19,            /* the serial is above the next one; detail: the next serial */
-    HUZ_ORDER_STANDS_EARLIER = 20,  /* the order number stands earlier with the same item line, on a line or in the bundle; detail: the lowest serial that they have there */
+    HUZ_ORDER_STANDS_EARLIER = 20,  /* the order number stands earlier with this item line, on a line or in the bundle; detail: the lowest such serial */
     HUZ_ALL_WRITTEN = 21,           /* every serial is written */
     HUZ_NOT_A_REQUEST = 22,         /* the slip does not have the form that the listing program reads */
     HUZ_MAJOR_INDEX_NOT_TOTAL = 23, /* the major index of the sheet order given is not the total */

@@ -43,8 +43,8 @@ def a_tile_withdrawn():
         none, register = edition(zeros, 0), edition(zeros, 0).open()
         compare("document", zeros, (none.count, none.unrank(1), none.rank(zeros), refused(none.successor, zeros), refused(none.predecessor, zeros)),
                 (1, zeros, 1, (9, 0), (9, 0)))
-        compare("document", zeros, (register.peek(), register.claim(1, 1007, 1), refused(register.peek), register.entries(), refused(edition, zeros, 1)),
-                ((1, zeros, 0, 0), (1, zeros), (21, 0), [(1007, 1)], (4, 0)))
+        sold = register.peek(), register.claim(1, 1007, 1), refused(register.peek), register.entries(), refused(edition, zeros, 1)
+        compare("document", zeros, sold, ((1, zeros, 0, 0), (1, zeros), (21, 0), [(1007, 1)], (4, 0)))
     for ms, r, refusal in ([0, 61], 1, (2, 2)), ([1, 0, 61], 256, (2, 3)), ([1] * 24 + [0], 3, (1, 0)), ([0] * 25, 0, (1, 0)):
         compare("document", (ms, r), refused(edition, ms, r), refusal)
     for ms in [2, 1, 0], [2, 0, 1], [0, 2, 1], [0]:
@@ -112,14 +112,15 @@ def a_club_order():
     compare("document", "the two that are left", (three.claim_all(2, *first([1007, 1014])), three.entries()),
             ((2, [0, 1, 0]), [(0, 0), (1007, 1), (1014, 1)]))
     seven = huztiral.Edition([2, 2, 2], 3).open()
-    compare("document", "between single takes", (seven.claim(1, 5, 1), seven.claim_all(2, *first([6, 7, 8])), refused(seven.claim, 4, 9, 1),
-                                                 refused(seven.claim_all, 5, *first([9, 7])), seven.peek(), seven.claim_all(5, [9], [1]), seven.void(6)),
+    between = (seven.claim(1, 5, 1), seven.claim_all(2, *first([6, 7, 8])), refused(seven.claim, 4, 9, 1),
+               refused(seven.claim_all, 5, *first([9, 7])), seven.peek(), seven.claim_all(5, [9], [1]), seven.void(6))
+    compare("document", "between single takes", between,
             ((1, [2, 1, 0]), (2, [1, 2, 0]), (18, 8), (20, 3), (5, [2, 0, 1], 1, 2), (5, [2, 0, 1]), (6, [1, 0, 2])))
     compare("document", "and the lines", seven.entries(), [(5, 1), (6, 1), (7, 1), (8, 1), (9, 1), (0, 0)])
     forty = huztiral.Edition([4, 3, 3, 2], 6)
     register = forty.open()
-    compare("document", "an edition of 40", (forty.count, refused(register.claim_all, 1, *first(range(1, 42))), register.claim_all(1, *first(range(1, 41)))),
-            (40, (24, 0), (1, forty.unrank(1))))
+    compare("document", "an edition of 40", (forty.count, refused(register.claim_all, 1, *first(range(1, 42)))), (40, (24, 0)))
+    compare("document", "40 orders", register.claim_all(1, *first(range(1, 41))), (1, forty.unrank(1)))
     compare("document", "all of it", register.entries(), [(order, 1) for order in range(1, 41)])
 
 

@@ -346,8 +346,8 @@ def apart(lines):
 
 
 def bundle(rng):
-    """a record and columns, sound or damaged, a first serial and the lines of a bundle, of which up to two have a fault, stand already or twice; one in
-    ten bundles has another number of item lines than of orders"""
+    """a record and columns, sound or damaged, a first serial and the lines of a bundle, of which up to two have a fault, stand already or twice; one
+    bundle in ten has another number of item lines than of orders"""
     record, column, items = register(rng)
     if rng.random() < 0.3:
         record, column, items = damaged(rng, record, column, items)

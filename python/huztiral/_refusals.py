@@ -38,8 +38,7 @@ class Number(IntEnum):
     NO_ORDER = 17, "the order number is 0"
     ALREADY_WRITTEN = 18, "the serial is already written", "the order number on its line, 0 if it is spoilt"
     ABOVE_NEXT = 19, "the serial is above the next one", "the next serial"
-    ORDER_STANDS_EARLIER = (20, "the order number stands earlier with the same item line, on a line or in the bundle",
-                            "the lowest serial that they have there")
+    ORDER_STANDS_EARLIER = 20, "the order number stands earlier with this item line, on a line or in the bundle", "the lowest such serial"
     ALL_WRITTEN = 21, "every serial is written"
     NOT_A_REQUEST = 22, "the slip does not have the form that the listing program reads"
     MAJOR_INDEX_NOT_TOTAL = 23, "the major index of the sheet order given is not the total"
