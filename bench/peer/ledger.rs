@@ -33,9 +33,9 @@ impl<'a> Lines<'a> {
     }
 }
 
-/// How many lines are voided, or none where a line cannot be: with an item line over 99, or with a 0 in one column alone. What a block has is asked of
-/// `zeros`, which is handed its first place too. Each column is passed over by itself, a lane as wide as its entries; only in a block that has a 0 are
-/// the two compared.
+/// How many lines are voided, or none where a line cannot be: with an item line over 99, or with a 0 in one column alone. How many orders of a block
+/// are 0 is asked of `zeros`, which is handed its first place too. Each column is passed over by itself; only in a block that has a 0 are the two
+/// compared.
 #[inline(always)]
 fn voided(lines: Lines, mut zeros: impl FnMut(usize, Lines) -> u32) -> Option<u64> {
     let (mut all, mut uneven, mut most) = (0, 0, 0);
@@ -132,7 +132,7 @@ fn mark(bundle: Lines, marks: &mut [u8; SLOTS]) -> (usize, Refused) {
     (bundle.orders.len(), (0, 0))
 }
 
-/// How many lines are voided; the first of the bundle's lines that stands among them, or their number, and its lowest place. Each line is tested for a
+/// How many lines are voided; the first of the bundle's lines that stands among them, or their number, and its lowest place. Each is tested for a
 /// mark, with EIGHTS eight of them at a time, and only a marked line is compared, with the bundle's before the first that was found.
 fn voided_and_first<const EIGHTS: bool>(lines: Lines, bundle: Lines, marks: &[u8; SLOTS]) -> Option<(u64, (usize, usize))> {
     let (mut first, mut place) = (bundle.orders.len(), lines.orders.len());
