@@ -61,6 +61,7 @@ fn zeros(orders: &[u32]) -> u32 {
 }
 
 /// How many lines are voided.
+#[inline(never)]
 fn voided_alone(lines: Lines) -> Option<(u64, ())> {
     voided(lines, |_, block| zeros(block.orders)).map(|all| (all, ()))
 }
@@ -132,16 +133,21 @@ fn mark(bundle: Lines, marks: &mut [u8; SLOTS]) -> (usize, Refused) {
     (bundle.orders.len(), (0, 0))
 }
 
+/// Where a bundle has a line: the way that is seldom taken.
+#[cold]
+#[inline(never)]
+fn found(bundle: Lines, order: u32, item: u8) -> Option<usize> {
+    bundle.position(order, item)
+}
+
 /// How many lines are voided; the first of the bundle's lines that stands among them, or their number, and its lowest place. Each is tested for a
 /// mark, with EIGHTS eight of them at a time, and only a marked line is compared, with the bundle's before the first that was found.
 fn voided_and_first<const EIGHTS: bool>(lines: Lines, bundle: Lines, marks: &[u8; SLOTS]) -> Option<(u64, (usize, usize))> {
     let (mut first, mut place) = (bundle.orders.len(), lines.orders.len());
     let mut search = |from: usize, few: &[u32]| {
         for (i, &o) in few.iter().enumerate() {
-            if marks[slot(o)] != 0
-                && let Some(at) = bundle.first(first).position(o, lines.items[from + i])
-            {
-                (first, place) = (at, from + i);
+            if marks[slot(o)] != 0 {
+                (first, place) = found(bundle.first(first), o, lines.items[from + i]).map_or((first, place), |at| (at, from + i));
             }
         }
     };
