@@ -209,7 +209,7 @@ class Register:
     def __init__(self, edition: Edition) -> None:
         self._edition = edition
         self._lock = threading.Lock()
-        lines = edition.count if edition.count <= _MOST_LINES else 0  # more are refused before the column is looked at
+        lines = edition.count if edition.count <= _MOST_LINES else 0  # more are refused before the columns are looked at
         self._orders, self._items = (c_uint32 * lines)(), (c_uint8 * lines)()
         self._columns = self._orders, lines, self._items, lines
         self._ledger: Ledger = edition._accepted(C.huz_open(*edition._given, *self._columns)).ledger
