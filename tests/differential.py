@@ -193,8 +193,8 @@ def large_register(rng):
                 on_record(rng, record, column, items, "take", written + 1, *line)
             on_record(rng, record, column, items, "spoil", written // 2 + 1)
             on_record(rng, record, column, items, "look")
-            for at in written // 3, written - 1:  # a line with a wrong item line, far from the others
-                on_record(rng, record, column, put(items, at, 1 if at == written // 3 else 100), "look")
+            for at, item in (written // 3, 1), (written - 1, 100), (written - 2, 0):  # a line with a wrong item line, far from the others
+                on_record(rng, record, column, put(items, at, item), "look")
             lines_so_far(rng, record, column, items)
         bundles.in_large_register(rng, ms, r, n)
 

@@ -52,11 +52,12 @@ def put(column, at, value):
 
 
 def each_line(rng):
-    """a register whose lines are all sound, with each line in turn unsound or nearly so, and the same past the lines, where nothing is looked at"""
-    for ms, r in ((2, 2, 2), 3), ((2, 0, 2, 2), 3), ((5, 4, 3, 3), 7):
+    """a register whose lines are all sound, some of them spoilt, none or all, with each line in turn unsound or nearly so, and the same past the lines,
+    where nothing is looked at"""
+    for ms, r in ((2, 2, 2), 3), ((2, 0, 2, 2), 3), ((4, 3, 2, 1), 5):
         n = ref.number(ms, r)
-        for written in n, n - 2, 0:
-            lines = [ref.SPOILT if at % 3 == 2 else (1007, 1 + at) for at in range(written)]
+        for written, spoilt in (n, {2, 5}), (n - 2, {2, 5}), (n, ()), (n, range(n)), (0, ()):
+            lines = [ref.SPOILT if at in spoilt else (1007, 1 + at) for at in range(written)]
             column, items = inputs.apart(lines + [(1014, 5)] * (n + 1 - written))
             record = ref.record_of(ms, r, lines)
             for at in range(n + 1):
