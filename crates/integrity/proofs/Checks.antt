@@ -1,7 +1,7 @@
 -- The tests of number 16, one law for each way out of them.
 use mathlib.Core.Path.{_≡_, refl, sym, ap, _∙_}
 use mathlib.Core.Bool.{Bool, true, false}
-use mathlib.Core.List.{List, [], _∷_}
+use mathlib.Core.List.{List, []}
 use Prim.Native.Nat.{ℕ, _+_, _-_, _≤_, _<_, min, max}
 use native.Mathlib.Omega.{arith}
 use lib.Dec.{eqb, leb}
@@ -19,7 +19,7 @@ use Rattle.bounds.specs.declared.Refusal.{Refusal}
 use Rattle.rank.specs.Locate.{nearest, locateRecordOf}
 use Rattle.rank.specs.declared.Located.{Located}
 use Rattle.rank.proofs.Locations.{record-refused, record-accepted}
-use Rattle.model.specs.Basics.{all, firstPlace}
+use Rattle.model.specs.Basics.{firstPlace}
 use Rattle.model.specs.Entry.{Entry, Lent, columns, pairs, entriesIn, sameOrder, room, soldIn, voidedIn, unsoundIn}
 use Rattle.model.specs.Printing.{Printing, size, capacity, serialAt, nextComposition}
 use Rattle.model.specs.Record.{upperOf, printingOf, written, consistent}

@@ -12,7 +12,7 @@ use borrow.Author.Tests.{eq-eqb, ne-eqb}
 use Rattle.walsh.specs.Tests.{times, both}
 use Rattle.walsh.proofs.Cases.{on-test}
 use Rattle.model.specs.Basics.{howMany}
-use Rattle.model.specs.Entry.{Entry, entry, voidEntry, voidedIn, sameOrder, columns, pairs}
+use Rattle.model.specs.Entry.{entry, voidEntry, voidedIn, sameOrder, columns, pairs}
 use Rattle.model.proofs.Entries.{room-entries, take-pairs, pairs-at}
 
 pub both-false : (t : Bool) → both t false ≡ false

@@ -8,7 +8,7 @@ use native.Mathlib.Numerals.{add-one}
 use native.Mathlib.Omega.{arith}
 use lib.Dec.{eqb}
 use lib.ListN.{length, getD, take, drop, length-take, length-drop}
-use lib.Seq.{length-take-le, take-suc, take-add, split-at, take-all, take-at, getD-drop}
+use lib.Seq.{length-take-le, take-suc, take-add, split-at, take-all, take-at}
 use borrow.Author.Tests.{ne-eqb}
 use Rattle.walsh.proofs.Cases.{on-test, on-less}
 use Rattle.model.specs.Basics.{howMany, firstPlace}
@@ -33,21 +33,6 @@ module _ {A : Type 0} (test : A → Bool) where
       → a ≡ cond (test (getD l i d)) 1 0
       → n + a ≡ howMany test (take (i + 1) l)
   many-more l i n a d h e f = rw (add-one i, take-suc l i d h, many-snoc (take i l) (getD l i d), e, f)
-
-  -- one entry more behind the first k
-  pub many-behind : (l : List A) (k i n a : ℕ) (d : A) → k + i < length l → n ≡ howMany test (take i (drop k l))
-      → a ≡ cond (test (getD l (k + i) d)) 1 0
-      → n + a ≡ howMany test (take (i + 1) (drop k l))
-  many-behind l k i n a d h e f =
-      many-more (drop k l) i n a d (omega (arith, length-drop k l)) e (f ∙ ap (λ (x : A). cond (test x) 1 0) (sym (getD-drop k l i d)))
-
-  -- the first k and as many behind them
-  pub many-halves : (l : List A) (k i n a : ℕ) → i ≡ k → n ≡ howMany test (take i l) → a ≡ howMany test (take i (drop k l))
-      → n + a ≡ howMany test (take (k + k) l)
-  many-halves l k i n a q e f =
-      let low : n ≡ howMany test (take k l) = e ∙ ap (λ (j : ℕ). howMany test (take j l)) q in
-      let high : a ≡ howMany test (take k (drop k l)) = f ∙ ap (λ (j : ℕ). howMany test (take j (drop k l))) q in
-      rw (take-add k k l, many-append test (take k l) (take k (drop k l)), low, high)
 
   -- a block more, up to place j
   pub many-block : (l : List A) (i j n a : ℕ) → i ≤ j → n ≡ howMany test (take i l) → a ≡ howMany test (take (j - i) (drop i l))

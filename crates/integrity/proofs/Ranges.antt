@@ -1,19 +1,19 @@
 -- Laws of the least and the highest of some item lines.
-use mathlib.Core.Path.{_≡_, refl, sym, ap, _∙_}
+use mathlib.Core.Path.{_≡_, refl}
 use mathlib.Core.Logic.{_≢_}
-use mathlib.Core.Bool.{Bool, true, false, cond, not}
+use mathlib.Core.Bool.{Bool, true, false, cond}
 use mathlib.Core.List.{List, [], _∷_, _++_}
 use Prim.Native.Nat.{ℕ, _+_, _≤_, _<_, min, max}
 use native.Mathlib.Numerals.{add-one}
 use native.Mathlib.Omega.{arith}
-use lib.Dec.{eqb, ltb}
+use lib.Dec.{eqb}
 use lib.ListN.{length, getD, take}
 use lib.Seq.{take-suc}
-use borrow.Author.Tests.{eq-eqb, ne-eqb, lt-ltb, le-ltb}
-use Rattle.walsh.specs.Tests.{times, either, both}
+use borrow.Author.Tests.{ne-eqb, le-ltb}
+use Rattle.walsh.specs.Tests.{times}
 use Rattle.walsh.proofs.Cases.{on-test, on-less}
 use Rattle.model.specs.Basics.{howMany}
-use Rattle.model.specs.Entry.{Entry, entry, isUnmatched, isUnsound, unsoundIn, pairs}
+use Rattle.model.specs.Entry.{entry, isUnmatched, unsoundIn, pairs}
 use Rattle.integrity.specs.Range.{leastIn, mostIn}
 
 -- ---- one more

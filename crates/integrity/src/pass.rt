@@ -41,33 +41,16 @@ pub(crate) fn one(a: u32, b: u32) -> u32
     if a == b { 1 } else { 0 }
 }
 
-// How many of the first `half` orders are 0, and of as many behind them: two at a time, so that the speed of so short a loop does not hang on where
-// the compiler puts it.
-fn halves(orders: &[u32], half: usize) -> u32
-    requires { ⌜ (half + half ≤ length (now orders)) × (half ≤ mostEntries) ⌝ }
-    ensures { λ r. ⌜ r ≡ times 0 (take (half + half) (now (orders .entry))) ⌝ }
-{
-    let mut low: u32 = 0;
-    let mut high: u32 = 0;
-    let mut i: usize = 0;
-    while i < half {
-        low += one(orders[i], 0);
-        high += one(orders[half + i], 0);
-        i += 1;
-    }
-    low + high
-}
-
 // How many orders are 0.
 fn zeros(orders: &[u32]) -> u32
     requires { ⌜ length (now orders) ≤ mostEntries ⌝ }
     ensures { λ r. ⌜ r ≡ times 0 (now (orders .entry)) ⌝ }
 {
-    let half = orders.len() / 2;
-    let voided = halves(orders, half);
-    let even = half + half;
-    if even < orders.len() {
-        return voided + one(orders[even], 0);
+    let mut voided: u32 = 0;
+    let mut i: usize = 0;
+    while i < orders.len() {
+        voided += one(orders[i], 0);
+        i += 1;
     }
     voided
 }

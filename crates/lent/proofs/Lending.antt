@@ -17,12 +17,12 @@ use mir.Val.{Val, vint, vbool, vptr, bits}
 use base.Logic.{SProp, ent, sep, emp, via, fst∗, id⊢}
 use base.Fml.{Lft, Share, GName, ftrue, fat, flft, fobs, fbor}
 use prog.Wp.{Heap, Env, Calls, Loops, WpFn, Tables, spotOf}
-use ghost.Atoms.{Atoms, sem}
+use ghost.Atoms.{Atoms}
 use contract.Monad.{fact}
 use contract.Lifetimes.{Lfts}
 use types.Kit.{Given, Item, ‵, mean, raw, some, later, _⊛_, ⋆, _$_, _∵_, !, qed, by, move, keep, drop, use0, use1, use3}
 use types.Kit.{split, join, pick, rewrite, suffices, frame, await, done, fsplit, fsplit3, fjoin, fjoin3, feqL, feqI}
-use types.Run.{Opd, Rv, look, look-raw, init, store-raw, forget, stop, hop, fld, from, load, lit, bin, of-opd, and-then, no-more}
+use types.Run.{Opd, Rv, look, look-raw, init, store-raw, forget, stop, hop, fld, from, load, lit, bin, of-opd, and-then}
 use types.Run.{assigns, land, returns, enter, alloc1, alloc0, params1, pass1, pass0, free1, free0}
 use types.Part.{whole, sub, look-in}
 use types.SemTy.{Body}

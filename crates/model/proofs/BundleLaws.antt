@@ -24,7 +24,7 @@ use Rattle.model.proofs.Calls.{size-good, size-known, accepting, takes-
 use Rattle.model.proofs.Records.{answered-16, answered-by}
 use Rattle.model.proofs.Bundles.{by-takes}
 
--- ---- a bundle of one order is a take: the same answer, record and column, of any record and column
+-- ---- a bundle of one order is a take: the same answer, record and columns, of any record and columns
 
 module _ (r : Ledger) (col : Lent) (s : ℕ) (e : Entry) (b : Lent) (even : Paired b) (one : entriesIn b ≡ e ∷ []) where
   single : room b ≡ 1

@@ -1,4 +1,4 @@
--- Laws of the record and the column: what number 16 tests, and what a call leaves.
+-- Laws of the record and the columns: what number 16 tests, and what a call leaves.
 use mathlib.Core.Path.{_≡_, refl, sym, ap, _∙_}
 use mathlib.Core.Logic.{_≢_}
 use mathlib.Core.Bool.{Bool, true, false, not, false≢true}
@@ -50,7 +50,7 @@ one-fails (suc i) (false ∷ bs) e = refl
 pub few-parts : (b : Bounds) → firstRefusal (recordChecks b) .number ≡ 0 → b .parts ≤ 24
 few-parts b e = ltb-false 24 (b .parts) (passed _ _ refl e .0)
 
--- what a record and a column meet that belong together
+-- what a record and columns meet that belong together
 pub record Consistent (r : Ledger) (col : Lent) : Type 0 where
   pub sound : firstRefusal (recordChecks (r .bounds)) .number ≡ 0
   pub small : capacity (printingOf r) ≤ mostEntries
@@ -139,7 +139,7 @@ module _ (r : Ledger) (col : Lent) where
     unfolding answered
     answered-16 f = ap (λ (v : Refusal). answerBy v p (grantedBy r col c)) (refusal-here (notTogether r col) _ (ap not f))
 
-    -- where a record and a column belong together, the answer is the model's over the lines written
+    -- where a record and columns belong together, the answer is the model's over the lines written
     pub answered-by : consistent r col ≡ true → answered r col c ≡ answer p (written r col) c
     unfolding answered answer
     answered-by t = ap (λ (v : Refusal). answerBy v p (grantedBy r col c)) (refusal-next (notTogether r col) _ (ap not t))

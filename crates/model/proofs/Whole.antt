@@ -1,4 +1,4 @@
--- The statement about a whole list of calls holds of every list, from an accepted opening over any column.
+-- The statement about a whole list of calls holds of every list, from an accepted opening over any columns.
 use mathlib.Core.Path.{_≡_, refl, sym, ap, _∙_}
 use mathlib.Core.Logic.{_≢_, _↔_, _⊎_, inl, inr}
 use mathlib.Core.Bool.{true}

@@ -1,14 +1,13 @@
 -- Document 02, (vi), "Two copies on one order", computed of the model with the three copies of 1 1 1 of total 1.
 use mathlib.Core.Path.{_≡_, refl}
-use mathlib.Core.Bool.{Bool, true, false}
-use mathlib.Core.List.{List, [], _∷_, map}
-use Prim.Native.Nat.{ℕ}
+use mathlib.Core.Bool.{true, false}
+use mathlib.Core.List.{[], _∷_, map}
 use Rattle.walsh.specs.Order.{order, listing, countOf, count}
 use Rattle.bounds.specs.Refusal.{firstRefusal}
 use Rattle.bounds.specs.Edition.{cellsOf}
 use Rattle.model.specs.Entry.{entry, isUnsound, columns, over, put}
 use Rattle.model.specs.Printing.{compositions}
-use Rattle.model.specs.Model.{claim, void, claim-all, given, refusedWith, answer, after, bookFrom}
+use Rattle.model.specs.Model.{claim, claim-all, given, refusedWith, answer, after, bookFrom}
 use Rattle.model.specs.Bundle.{threeOnes, replies}
 
 -- "Buyers put two copies in a basket and the second is refused 20": no longer, but with the same item line it is, and the detail is the lowest such

@@ -1,6 +1,7 @@
 -- Document 01, "The register": the paper register, which says what must happen. "It is fed the arguments of the calls, and nothing of the record
 -- or the column. Its state is the edition and a list of order numbers, empty after opening; the first entry is serial 1's, the second serial 2's
--- and so on, and its next serial is the list's length + 1." Here p is what it is opened for, the edition, and l is the list of lines.
+-- and so on, and its next serial is the list's length + 1." Document 02, (vi): its "entries become pairs of number and item line". Here p is what it is
+-- opened for, the edition, and l is the list of lines.
 use mathlib.Core.Path.{_≡_, refl}
 use mathlib.Core.Bool.{Bool, cond, not}
 use mathlib.Core.List.{List, [], _∷_, _++_}

@@ -1,5 +1,5 @@
 -- Document 01, "The register", and "Refusals", places 'opening' and 'register calls': what each call does, as a function of the record and the
--- column alone.
+-- columns alone. `col` is both columns (specs/Entry `Lent`).
 use mathlib.Core.Bool.{Bool, cond, not}
 use mathlib.Core.List.{List, [], _∷_, _++_}
 use Prim.Native.Nat.{ℕ, _+_}
@@ -92,7 +92,7 @@ tests r col =
     ∷ eqb (unsoundIn (written r col)) 0
     ∷ []
 
--- a record and a column that belong together
+-- a record and columns that belong together
 unfoldable pub consistent : Ledger → Lent → Bool
 consistent r col = all (tests r col)
 
@@ -139,7 +139,7 @@ advanced r es =
       next = nextComposition (printingOf r) (r .entries + length es);
     }
 
--- what an accepted call makes of the record, and of the column: its lines stand from the entry of the serial that it answers on. A peek appends
+-- what an accepted call makes of the record, and of the columns: its lines stand from the entry of the serial that it answers on. A peek appends
 -- none, and leaves both as they were (proofs/Records `calling-peek`).
 abbrev pub counted : Ledger → Call → Ledger
 counted r c = advanced r (appended c)
@@ -154,7 +154,7 @@ recordAfter r col c = cond (accepted (answered r col c)) (counted r c) r
 unfoldable pub columnAfter : Ledger → Lent → Call → Lent
 columnAfter r col c = cond (accepted (answered r col c)) (entered r col c) col
 
--- a claim, a void or a bundle: what it hands back, and the column that it leaves
+-- a claim, a void or a bundle: what it hands back, and the columns that it leaves
 unfoldable pub calling : Ledger → Lent → Call → Claimed × Lent
 calling r col c = (record { answer = answered r col c; ledger = recordAfter r col c }, columnAfter r col c)
 
@@ -164,7 +164,7 @@ entriesOf r col = cond (consistent r col) (written r col) []
 
 -- ---- a list of calls
 
--- the calls with their answers, and the record and the column that they leave
+-- the calls with their answers, and the record and the columns that they leave
 pub record Run : Type 0 where
   pub trace : List Event
   pub ledger : Ledger

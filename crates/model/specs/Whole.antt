@@ -22,14 +22,14 @@ use Rattle.model.specs.Trace.{writes, isClaim, isVoid, named, those, wri
 use Rattle.model.specs.Trace.{peeked, Foretold, countFrom}
 use Rattle.model.specs.Reason.{GoodOrder, Reason}
 
--- the list of calls on the record and the column of an opened ledger, and on the model
+-- the list of calls on the record and the columns of an opened ledger, and on the model
 abbrev pub ran : Printing → Lent → List Call → Run
 ran p col cs = run (opened p) col cs
 
 abbrev pub book : Printing → List Call → Book
 book p cs = bookFrom p [] cs
 
--- the lines that a run leaves: the beginning of its column, as many as its record counts
+-- the lines that a run leaves: the beginnings of its columns, as many as its record counts
 abbrev pub lines : Run → List Entry
 lines w = firstEntries (w .ledger .entries) (w .column)
 
@@ -37,7 +37,7 @@ lines w = firstEntries (w .ledger .entries) (w .column)
 abbrev pub secondList : Printing → Run → List Call
 secondList p w = peeked (writers p (w .trace))
 
--- Of an opening for p over the column col: w is the run of the list cs, v the run of its second list. First what document 01 says by the paper
+-- Of an opening for p over the columns col: w is the run of the list cs, v the run of its second list. First what document 01 says by the paper
 -- register, then what it comes to by the calls and their answers alone.
 pub record Whole (p : Printing) (col : Lent) (cs : List Call) (w v : Run) : Type 0 where
   -- "The answer of each call (number and detail, serial, mix) is the paper register's"; document 02, (i): "the paper register's look answers the pair

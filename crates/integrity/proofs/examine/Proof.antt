@@ -2,13 +2,12 @@
 use mathlib.Core.Path.{_≡_, sym, ap, _∙_}
 use mathlib.Core.Bool.{Bool, true}
 use mathlib.Core.List.{List}
-use Prim.Native.Nat.{ℕ}
 use lib.Dec.{eqb}
 use denote.Ref.{now}
 use borrow.Author.Needs.{needs}
 use borrow.Author.Tests.{not-true, not-false}
 use Rattle.model.specs.Entry.{Entry, isVoided, voidedIn, unsoundIn, columns, room}
-use Rattle.model.specs.Record.{consistent, written}
+use Rattle.model.specs.Record.{written}
 use Rattle.integrity.specs.Examine.{framed, seenBy}
 use Rattle.integrity.proofs.Places.{many-few}
 use Rattle.integrity.proofs.Checks.{seen-fits, seen-none, not-framed, by-counts, as-written, orders-within, items-within, passable}

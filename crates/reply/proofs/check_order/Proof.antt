@@ -1,7 +1,6 @@
 -- `reply::check_order` meets its contract.
 use mathlib.Core.Path.{refl, sym}
 use mathlib.Core.Logic.{inl, inr}
-use borrow.Author.Needs.{needs}
 use Rattle.bounds.proofs.Refusals.{refusal-none}
 use Rattle.model.proofs.Answers.{order-none, order-bad, order-good}
 use Rattle.model.specs.Entry.{entry}

@@ -1,13 +1,12 @@
 -- `integrity::pass::reach` meets its contract.
-use mathlib.Core.Path.{_≡_, sym, ap, _∙_}
+use mathlib.Core.Path.{sym, ap, _∙_}
 use native.Mathlib.Omega.{arith}
-use Prim.Native.Nat.{ℕ, _-_}
-use mathlib.Core.List.{List}
-use lib.ListN.{length, take, drop}
+use Prim.Native.Nat.{_-_}
+use lib.ListN.{take, drop}
 use denote.Ref.{now}
 use borrow.Author.Needs.{needs}
 use Rattle.model.specs.Basics.{howMany}
-use Rattle.model.specs.Entry.{Entry, entry, sameOrder, pairs}
+use Rattle.model.specs.Entry.{entry, sameOrder, pairs}
 use Rattle.integrity.proofs.Pairs.{pairs-length, part-lines, none-same}
 use Rattle.integrity.proofs.Places.{clear-block}
 use Rattle.integrity.proofs.pass.reach.Statement.{statement}

@@ -1,12 +1,11 @@
 -- `integrity::pass::search` meets its contract: it goes through the first `to` lines.
-use mathlib.Core.Path.{_≡_, sym, ap, _∙_}
+use mathlib.Core.Path.{_≡_, sym}
 use mathlib.Core.Logic.{⊎-elim}
-use Prim.Native.Nat.{ℕ, _-_, _<_}
+use Prim.Native.Nat.{_-_, _<_}
 use native.Mathlib.Omega.{arith}
 use lib.ListN.{length, take}
 use lib.Seq.{length-take-le}
 use denote.Ref.{now}
-use Rattle.model.specs.Basics.{firstPlace}
 use Rattle.model.specs.Entry.{entry, voidEntry, sameOrder, pairs}
 use Rattle.integrity.proofs.Pairs.{pairs-length, line-hit, other-number, other-item}
 use Rattle.integrity.proofs.Places.{Seeking, clear-within, seeking-hit, seeking-miss, seeking-done}
