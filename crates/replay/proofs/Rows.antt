@@ -11,31 +11,31 @@ use borrow.Author.Tests.{eq-eqb, ne-eqb}
 use Rattle.bounds.specs.Places.{copied}
 use Rattle.bounds.proofs.Cells.{copied-same}
 use Rattle.model.specs.Basics.{replaced}
-use Rattle.model.specs.Entry.{voidEntry, Lent, entriesIn, room}
+use Rattle.model.specs.Entry.{entry, orderOf, itemOf, Lent, columns, Paired}
 use Rattle.model.specs.Model.{Call, peek, claim, void, claim-all, Event}
-use Rattle.replay.specs.Rows.{callWidth, callOf, uses, callsIn, namedIn, rowWidth, rowOf, rowsOf, shown}
+use Rattle.replay.specs.Rows.{callWidth, callOf, uses, nextOf, leftOf, callsIn, namedIn, rowWidth, rowOf, rowsOf, shown}
 
 -- ---- the script
 
 -- the call of each number
-module _ (k s : ℕ) (os : Lent) where
-  pub call-peek : k ≡ 0 → callOf k s os ≡ Call.peek
+module _ (k s : ℕ) (b : Lent) where
+  pub call-peek : k ≡ 0 → callOf k s b ≡ Call.peek
   call-peek p = rw (eq-eqb k 0 p)
 
-  pub call-claim : k ≢ 0 → k ≡ 1 → callOf k s os ≡ Call.claim s (getD (entriesIn os) 0 voidEntry)
+  pub call-claim : k ≢ 0 → k ≡ 1 → callOf k s b ≡ Call.claim s (entry (getD (b .orders) 0 0) (getD (b .items) 0 0))
   call-claim n p = rw (ne-eqb k 0 n, eq-eqb k 1 p)
 
-  pub call-claim-all : k ≢ 0 → k ≢ 1 → k ≡ 3 → callOf k s os ≡ Call.claim-all s os
+  pub call-claim-all : k ≢ 0 → k ≢ 1 → k ≡ 3 → callOf k s b ≡ Call.claim-all s b
   call-claim-all n n′ p = rw (ne-eqb k 0 n, ne-eqb k 1 n′, eq-eqb k 3 p)
 
-  pub call-void : k ≢ 0 → k ≢ 1 → k ≢ 3 → callOf k s os ≡ Call.void s
+  pub call-void : k ≢ 0 → k ≢ 1 → k ≢ 3 → callOf k s b ≡ Call.void s
   call-void n n′ n″ = rw (ne-eqb k 0 n, ne-eqb k 1 n′, ne-eqb k 3 n″)
 
-pub calls-count : (rows : List ℕ) (os : Lent) → length (callsIn rows os) ≡ length rows / callWidth
-calls-count [] os = refl
-calls-count (k ∷ []) os = refl
-calls-count (k ∷ s ∷ []) os = refl
-calls-count (k ∷ s ∷ n ∷ rows) os = omega (arith, calls-count rows (drop (uses k n) os))
+pub calls-count : (rows : List ℕ) (pool : Lent) → length (callsIn rows pool) ≡ length rows / callWidth
+calls-count [] pool = refl
+calls-count (k ∷ []) pool = refl
+calls-count (k ∷ s ∷ []) pool = refl
+calls-count (k ∷ s ∷ n ∷ rows) pool = omega (arith, calls-count rows (leftOf (uses k n) pool))
 
 -- fewer numbers than a row
 pub named-none : (rows : List ℕ) → length rows < callWidth → namedIn rows ≡ 0
@@ -74,39 +74,59 @@ module _ (rows : List ℕ) (i : ℕ) where
     pub named-next : namedIn (drop (i * callWidth) rows) ≡ usesAt + namedIn (drop ((i + 1) * callWidth) rows)
     named-next = rw rows-next
 
-    pub calls-next : (os : Lent) (used : ℕ)
-        → callsIn (drop (i * callWidth) rows) (drop used os)
-        ≡ callOf whichAt serialIn (take usesAt (drop used os)) ∷ callsIn (drop ((i + 1) * callWidth) rows) (drop (used + usesAt) os)
-    calls-next os used = rw (rows-next, drop-drop usesAt used os)
+    pub calls-next : (pool : Lent) (used : ℕ)
+        → callsIn (drop (i * callWidth) rows) (leftOf used pool)
+        ≡ callOf whichAt serialIn (nextOf usesAt (leftOf used pool)) ∷ callsIn (drop ((i + 1) * callWidth) rows) (leftOf (used + usesAt) pool)
+    calls-next pool used = rw (rows-next, drop-drop usesAt used (pool .orders), drop-drop usesAt used (pool .items))
 
--- every list of calls can be lent so, its second list too, with a pool that fits
+-- every list of calls whose bundles name an item line for each order can be lent so, its second list too, with pools that fit
+abbrev pub AllPaired : List Call → Type 0
+AllPaired [] = Unit
+AllPaired (peek ∷ cs) = AllPaired cs
+AllPaired (claim s e ∷ cs) = AllPaired cs
+AllPaired (void s ∷ cs) = AllPaired cs
+AllPaired (claim-all s b ∷ cs) = Paired b × AllPaired cs
+
 abbrev pub rowsFor : List Call → List ℕ
 rowsFor [] = []
 rowsFor (peek ∷ cs) = 0 ∷ 0 ∷ 0 ∷ rowsFor cs
-rowsFor (claim s o ∷ cs) = 1 ∷ s ∷ 1 ∷ rowsFor cs
+rowsFor (claim s e ∷ cs) = 1 ∷ s ∷ 1 ∷ rowsFor cs
 rowsFor (void s ∷ cs) = 2 ∷ s ∷ 0 ∷ rowsFor cs
-rowsFor (claim-all s b ∷ cs) = 3 ∷ s ∷ room b ∷ rowsFor cs
+rowsFor (claim-all s b ∷ cs) = 3 ∷ s ∷ length (b .orders) ∷ rowsFor cs
 
-abbrev pub ordersFor : List Call → Lent
-ordersFor [] = []
-ordersFor (peek ∷ cs) = ordersFor cs
-ordersFor (claim s o ∷ cs) = o ∷ ordersFor cs
-ordersFor (void s ∷ cs) = ordersFor cs
-ordersFor (claim-all s b ∷ cs) = entriesIn b ++ ordersFor cs
+abbrev pub poolFor : List Call → Lent
+poolFor [] = columns [] []
+poolFor (peek ∷ cs) = poolFor cs
+poolFor (claim s e ∷ cs) = columns (orderOf e ∷ poolFor cs .orders) (itemOf e ∷ poolFor cs .items)
+poolFor (void s ∷ cs) = poolFor cs
+poolFor (claim-all s b ∷ cs) = columns (b .orders ++ poolFor cs .orders) (b .items ++ poolFor cs .items)
 
-pub every-list : (cs : List Call) → callsIn (rowsFor cs) (ordersFor cs) ≡ cs
-every-list [] = refl
-every-list (peek ∷ cs) = ap (λ (l : List Call). Call.peek ∷ l) (every-list cs)
-every-list (claim s o ∷ cs) = ap (λ (l : List Call). Call.claim s o ∷ l) (every-list cs)
-every-list (void s ∷ cs) = ap (λ (l : List Call). Call.void s ∷ l) (every-list cs)
-every-list (claim-all s b ∷ cs) = rw (take-append-seam b (ordersFor cs), drop-append-seam b (ordersFor cs), every-list cs)
+pub every-list : (cs : List Call) → AllPaired cs → callsIn (rowsFor cs) (poolFor cs) ≡ cs
+every-list [] w = refl
+every-list (peek ∷ cs) w = ap (λ (l : List Call). Call.peek ∷ l) (every-list cs w)
+every-list (claim s e ∷ cs) w = ap (λ (l : List Call). Call.claim s e ∷ l) (every-list cs w)
+every-list (void s ∷ cs) w = ap (λ (l : List Call). Call.void s ∷ l) (every-list cs w)
+every-list (claim-all s b ∷ cs) w =
+    let n = length (b .orders) in
+    let rest = poolFor cs in
+    rw (
+      take-append-seam (b .orders) (rest .orders),
+      drop-append-seam (b .orders) (rest .orders),
+      take-at (b .items) (rest .items) n (w .0),
+      drop-at (b .items) (rest .items) n (w .0),
+      every-list cs (w .1),
+    )
 
-pub every-pool : (cs : List Call) → namedIn (rowsFor cs) ≡ length (ordersFor cs)
-every-pool [] = refl
-every-pool (peek ∷ cs) = omega (arith, every-pool cs)
-every-pool (claim s o ∷ cs) = omega (arith, every-pool cs)
-every-pool (void s ∷ cs) = omega (arith, every-pool cs)
-every-pool (claim-all s b ∷ cs) = omega (arith, every-pool cs, length-append b (ordersFor cs))
+pub every-pool : (cs : List Call) → AllPaired cs
+    → (length (poolFor cs .orders) ≡ namedIn (rowsFor cs)) × (length (poolFor cs .items) ≡ namedIn (rowsFor cs))
+every-pool [] w = (refl, refl)
+every-pool (peek ∷ cs) w = let p = every-pool cs w in (omega (arith, p .0), omega (arith, p .1))
+every-pool (claim s e ∷ cs) w = let p = every-pool cs w in (omega (arith, p .0), omega (arith, p .1))
+every-pool (void s ∷ cs) w = let p = every-pool cs w in (omega (arith, p .0), omega (arith, p .1))
+every-pool (claim-all s b ∷ cs) w =
+    let p = every-pool cs (w .1) in
+    let rest = poolFor cs in
+    (omega (arith, p .0, length-append (b .orders) (rest .orders)), omega (arith, p .1, w .0, length-append (b .items) (rest .items)))
 
 -- ---- the answers
 

@@ -16,16 +16,17 @@ use Rattle.walsh.specs.declared.Transition.{Transition}
 use Rattle.model.specs.declared.Ledger.{Ledger}
 use Rattle.model.proofs.Lists.{length-snoc, snoc-append, length-replaced}
 use Rattle.model.proofs.Records.{each}
-use Rattle.replay.specs.Rows.{callWidth, callOf, callsIn, namedIn, rowWidth, rowOf, rowsOf, shown}
+use Rattle.replay.specs.Rows.{callWidth, callOf, nextOf, leftOf, callsIn, namedIn, rowWidth, rowOf, rowsOf, shown}
 use Rattle.replay.specs.Replay.{Script, Buffers, callsOf, sizes, Ran}
 use Rattle.replay.proofs.Rows.{calls-count, whichAt, serialIn, usesAt, named-next, calls-next}
 use Rattle.replay.proofs.Rows.{Full, full-snoc, rows-length, rows-more, read-back}
 
--- whole rows, as many of the answers as of the calls, and the orders that these name
+-- whole rows, as many of the answers as of the calls, and the orders and item lines that these name
 pub record Fit (x : Script) (b : Buffers) : Type 0 where
   pub whole : length (x .rows) % callWidth ≡ 0
   pub room : length (b .answers) ≡ length (x .rows) / callWidth * rowWidth
-  pub pool : length (x .orders) ≡ namedIn (x .rows)
+  pub orders : length (x .pool .orders) ≡ namedIn (x .rows)
+  pub items : length (x .pool .items) ≡ namedIn (x .rows)
 
 pub fit-of : (x : Script) (b : Buffers) → all (sizes x b) ≡ true → Fit x b
 fit-of x b t =
@@ -34,8 +35,9 @@ fit-of x b t =
       whole = eqb-true (length (x .rows) % callWidth) 0 (p .0);
       room =
           eqb-true (length (b .answers)) (length (callsOf x) * rowWidth) (p .1 .0)
-          ∙ ap (λ (n : ℕ). n * rowWidth) (calls-count (x .rows) (x .orders));
-      pool = eqb-true (length (x .orders)) (namedIn (x .rows)) (p .1 .1 .0);
+          ∙ ap (λ (n : ℕ). n * rowWidth) (calls-count (x .rows) (x .pool));
+      orders = eqb-true (length (x .pool .orders)) (namedIn (x .rows)) (p .1 .1 .0);
+      items = eqb-true (length (x .pool .items)) (namedIn (x .rows)) (p .1 .1 .1 .0);
     }
 
 -- a run that comes after the calls of a trace
@@ -56,42 +58,44 @@ unfolding run
 run-calls r col [] = refl
 run-calls r col (c ∷ cs) = ap {B = List Call} (λ l. c ∷ l) (run-calls (recordAfter r col c) (columnAfter r col c) cs)
 
--- i calls are made, and so many orders of the pool used up: the run is that of the calls so far and of those to come, and what is left of the pool is
--- what these name
+-- i calls are made, and so many orders and item lines of the pools used up: the run is that of the calls so far and of those to come, and what is left
+-- of the pools is what these name
 pub record Progress (r : Ledger) (x : Script) (b b′ : Buffers) (l : Ledger) (used i : ℕ) : Type 0 where
   pub trace : List Event
   pub so-far : run r (b .column) (callsOf x)
-      ≡ behind trace (run l (b′ .column) (callsIn (drop (i * callWidth) (x .rows)) (drop used (x .orders))))
+      ≡ behind trace (run l (b′ .column) (callsIn (drop (i * callWidth) (x .rows)) (leftOf used (x .pool))))
   pub rows : b′ .answers ≡ replaced (b .answers) (rowsOf trace)
   pub full : Full trace
   pub count : length trace ≡ i
-  pub left : used + namedIn (drop (i * callWidth) (x .rows)) ≡ length (x .orders)
-  pub for-column : length (b′ .column) ≡ length (b .column)
+  pub left : used + namedIn (drop (i * callWidth) (x .rows)) ≡ namedIn (x .rows)
+  pub for-column : length (b′ .column .orders) ≡ length (b .column .orders)
+  pub for-items : length (b′ .column .items) ≡ length (b .column .items)
   pub for-answers : length (b′ .answers) ≡ length (b .answers)
 
-pub start : (r : Ledger) (x : Script) (b : Buffers) → Fit x b → Progress r x b b r 0 0
-start r x b f =
+pub start : (r : Ledger) (x : Script) (b : Buffers) → Progress r x b b r 0 0
+start r x b =
     record {
       trace = [];
       so-far = refl;
       rows = refl;
       full = tt;
       count = refl;
-      left = omega (arith, f .pool);
+      left = omega arith;
       for-column = refl;
+      for-items = refl;
       for-answers = refl;
     }
 
--- the orders of the next call are there
+-- what the next call names is there
 pub enough : (r : Ledger) (x : Script) (b b′ : Buffers) (l : Ledger) (used i : ℕ) → Progress r x b b′ l used i → i < length (x .rows) / callWidth
-    → used + usesAt (x .rows) i ≤ length (x .orders)
+    → used + usesAt (x .rows) i ≤ namedIn (x .rows)
 enough r x b b′ l used i w h = omega (arith, w .left, named-next (x .rows) i (omega arith))
 
 -- a call more, of which the code did a step and put the answer into its row
-module _ (r : Ledger) (x : Script) (b b′ b″ : Buffers) (l : Ledger) (used i : ℕ) (t : Claimed) (x′ : Transition) (os : Lent) (used′ : ℕ)
+module _ (r : Ledger) (x : Script) (b b′ b″ : Buffers) (l : Ledger) (used i : ℕ) (t : Claimed) (x′ : Transition) (lines : Lent) (used′ : ℕ)
     (part : List ℕ) where
   abbrev made : Call
-  made = callOf (whichAt (x .rows) i) (serialIn (x .rows) i) os
+  made = callOf (whichAt (x .rows) i) (serialIn (x .rows) i) lines
 
   -- how long the part for the row is, as the code has it
   abbrev long : ℕ
@@ -104,20 +108,21 @@ module _ (r : Ledger) (x : Script) (b b′ b″ : Buffers) (l : Ledger) (used i 
       → used′ ≡ used + usesAt (x .rows) i
       → _≡_ {A = Claimed × Lent} (t, b″ .column) (calling l (b′ .column) made)
       → x′ ≡ told (printingOf l) made (t .answer)
-      → os ≡ take (used′ - used) (drop used (x .orders))
+      → lines ≡ nextOf (used′ - used) (leftOf used (x .pool))
       → part ≡ rowOf (t .answer) x′
       → length part ≡ length (take long (drop (i * rowWidth) (b′ .answers)))
       → b″ .answers ≡ take (i * rowWidth) (b′ .answers) ++ (part ++ drop long (drop (i * rowWidth) (b′ .answers)))
-      → length (b″ .column) ≡ length (b′ .column)
+      → length (b″ .column .orders) ≡ length (b′ .column .orders)
+      → length (b″ .column .items) ≡ length (b′ .column .items)
       → Progress r x b b″ (t .ledger) used′ (i + 1)
   unfolding calling
-  onward f w h up g pair of is wide put kept =
+  onward f w h up g pair of is wide put kept kept-items =
       let col = b′ .column in
       let whole-row : i * callWidth + callWidth ≤ length (x .rows) = omega arith in
       let wanted : used + usesAt (x .rows) i - used ≡ usesAt (x .rows) i = omega arith in
-      let cs = callsIn (drop ((i + 1) * callWidth) (x .rows)) (drop used′ (x .orders)) in
-      let ahead : callsIn (drop (i * callWidth) (x .rows)) (drop used (x .orders)) ≡ made ∷ cs =
-      rw (of, up, wanted) (calls-next (x .rows) i whole-row (x .orders) used) in
+      let cs = callsIn (drop ((i + 1) * callWidth) (x .rows)) (leftOf used′ (x .pool)) in
+      let ahead : callsIn (drop (i * callWidth) (x .rows)) (leftOf used (x .pool)) ≡ made ∷ cs =
+      rw (of, up, wanted) (calls-next (x .rows) i whole-row (x .pool) used) in
       let answer : t .answer ≡ answered l col made = ap (λ (p : Claimed × Lent). p .0 .answer) g in
       let ledger : t .ledger ≡ recordAfter l col made = ap (λ (p : Claimed × Lent). p .0 .ledger) g in
       let column : b″ .column ≡ columnAfter l col made = ap (λ (p : Claimed × Lent). p .1) g in
@@ -142,6 +147,7 @@ module _ (r : Ledger) (x : Script) (b b′ b″ : Buffers) (l : Ledger) (used i 
         count = count;
         left = omega (arith, w .left, up, named-next (x .rows) i whole-row);
         for-column = kept ∙ w .for-column;
+        for-items = kept-items ∙ w .for-items;
         for-answers = ap length rows ∙ length-replaced (b .answers) (rowsOf trace) (omega (arith, rows-length trace full, f .room));
       }
 
