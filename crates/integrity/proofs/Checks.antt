@@ -20,7 +20,7 @@ use Rattle.rank.specs.Locate.{nearest, locateRecordOf}
 use Rattle.rank.specs.declared.Located.{Located}
 use Rattle.rank.proofs.Locations.{record-refused, record-accepted}
 use Rattle.model.specs.Basics.{firstPlace}
-use Rattle.model.specs.Entry.{Entry, Lent, columns, pairs, entriesIn, sameOrder, room, soldIn, voidedIn, unsoundIn}
+use Rattle.model.specs.Entry.{Entry, isVoided, Lent, columns, pairs, entriesIn, sameOrder, room, soldIn, voidedIn, unsoundIn}
 use Rattle.model.specs.Printing.{Printing, size, capacity, serialAt, nextComposition}
 use Rattle.model.specs.Record.{upperOf, printingOf, written, consistent}
 use Rattle.model.specs.declared.Ledger.{Ledger}
@@ -33,6 +33,7 @@ use Rattle.integrity.specs.declared.Seen.{Seen}
 use Rattle.integrity.specs.declared.Found.{Found}
 use Rattle.integrity.specs.declared.Met.{Met}
 use Rattle.integrity.proofs.Pairs.{both-false}
+use Rattle.integrity.proofs.Places.{many-few}
 
 -- the composition of the nearest serial to the next is that of the next, of serial N when full
 pub nearest-next : (p : Printing) (e : ℕ) → nearest (p .bounds) (p .total) (e + 1) ≡ nextComposition p e
@@ -234,17 +235,13 @@ module _ (r : Ledger) (col : Lent) where
   pub not-framed : framed r (room col) ≡ false → consistent r col ≡ false
   not-framed f = lines-behind ∙ rw f
 
-  -- the lines are counted where they are within the columns
-  pub by-counts : (z : ℕ) (b : Bool) → framed r (room col) ≡ true → z ≡ voidedIn (written r col) → b ≡ eqb (unsoundIn (written r col)) 0
-      → consistent r col ≡ both b (both (eqb (r .voided) z) (eqb (r .sold) (r .entries - z)))
-  by-counts z b t e f =
-      let s : soldIn (written r col) ≡ r .entries - z = sold-of r col (frame-room r (room col) t .0) ∙ ap (λ (k : ℕ). r .entries - k) (sym e) in
-      lines-behind ∙ rw (t, sym e, s, sym f)
-
 -- ---- the lines written, as the pass has them: the beginnings of both columns
 
 module _ (r : Ledger) (os is : List ℕ) (t : framed r (min (length os) (length is)) ≡ true) where
-  pub as-written : pairs (take (r .entries) os) (take (r .entries) is) ≡ written r (columns os is)
+  abbrev lines : List Entry
+  lines = pairs (take (r .entries) os) (take (r .entries) is)
+
+  pub as-written : lines ≡ written r (columns os is)
   as-written = sym (take-pairs (r .entries) os is)
 
   pub orders-within : length (take (r .entries) os) ≡ r .entries
@@ -256,3 +253,19 @@ module _ (r : Ledger) (os is : List ℕ) (t : framed r (min (length os) (length 
   -- what is asked of the pass
   pub passable : (length (take (r .entries) is) ≡ length (take (r .entries) os)) × (length (take (r .entries) os) ≤ mostEntries)
   passable = (items-within ∙ sym orders-within, omega (arith, orders-within, frame-room r _ t .1))
+
+  -- what it counts decides
+  module _ (z : ℕ) (e : z ≡ voidedIn lines) where
+    as-zeros : z ≡ voidedIn (written r (columns os is))
+    as-zeros = e ∙ ap voidedIn as-written
+
+    pub few-zeros : z ≤ r .entries
+    few-zeros = many-few isVoided (pairs os is) (r .entries) z as-zeros
+
+    pub by-counts : (b : Bool) → b ≡ eqb (unsoundIn lines) 0
+        → consistent r (columns os is) ≡ both b (both (eqb (r .voided) z) (eqb (r .sold) (r .entries - z)))
+    by-counts b f =
+        let sold : soldIn (written r (columns os is)) ≡ r .entries - z =
+        sold-of r (columns os is) (frame-room r _ t .0) ∙ ap (λ (k : ℕ). r .entries - k) (sym as-zeros) in
+        let sound = f ∙ ap (λ (l : List Entry). eqb (unsoundIn l) 0) as-written in
+        lines-behind r (columns os is) ∙ rw (t, sym as-zeros, sold, sym sound)

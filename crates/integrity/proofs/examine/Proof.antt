@@ -1,16 +1,12 @@
 -- `integrity::examine` meets its contract.
 use mathlib.Core.Path.{_≡_, sym, ap, _∙_}
 use mathlib.Core.Bool.{Bool, true}
-use mathlib.Core.List.{List}
-use lib.Dec.{eqb}
 use denote.Ref.{now}
 use borrow.Author.Needs.{needs}
 use borrow.Author.Tests.{not-true, not-false}
-use Rattle.model.specs.Entry.{Entry, isVoided, voidedIn, unsoundIn, columns, room}
-use Rattle.model.specs.Record.{written}
+use Rattle.model.specs.Entry.{columns, room}
 use Rattle.integrity.specs.Examine.{framed, seenBy}
-use Rattle.integrity.proofs.Places.{many-few}
-use Rattle.integrity.proofs.Checks.{seen-fits, seen-none, not-framed, by-counts, as-written, orders-within, items-within, passable}
+use Rattle.integrity.proofs.Checks.{seen-fits, seen-none, not-framed, few-zeros, by-counts, orders-within, items-within, passable}
 use Rattle.integrity.proofs.examine.Statement.{statement}
 use Rattle.integrity.proofs.examine.Tie as tie
 
@@ -23,29 +19,17 @@ returns c =
 passes : (c : tie.Else1) → let a = c .before .before .before .before .before .args in framed (a .ledger) (room (columns (now (a .orders)) (now (a .items)))) ≡ true
 passes c = sym (seen-fits _ (c .before .before .frame .ensures)) ∙ not-false _ (c .if1 .left)
 
--- what the pass finds of the lines written
-zeros : (c : tie.After-scan) → let a = c .before .before .before .before .before .before .before .before .args in c .scan .result .zeros ≡ voidedIn (written (a .ledger) (columns (now (a .orders)) (now (a .items))))
-zeros c =
-    let a = c .before .before .before .before .before .before .before .before .args in
-    c .scan .ensures .0 ∙ ap voidedIn (as-written (a .ledger) (now (a .orders)) (now (a .items)) (passes (c .before .before .before)))
-
-sound : (c : tie.After-scan)
-    → let a = c .before .before .before .before .before .before .before .before .args in c .scan .result .sound ≡ eqb (unsoundIn (written (a .ledger) (columns (now (a .orders)) (now (a .items))))) 0
-sound c =
-    let a = c .before .before .before .before .before .before .before .before .args in
-    c .scan .ensures .1 ∙ ap (λ (l : List Entry). eqb (unsoundIn l) 0) (as-written (a .ledger) (now (a .orders)) (now (a .items)) (passes (c .before .before .before)))
-
 returns-2 : tie.Need-returns-2
 returns-2 c =
     let s = c .before .before .before in
-    let no = by-counts _ _ _ _ (passes (s .before .before .before)) (zeros s) (sound s) ∙ sym (c .before .before .counted .ensures) ∙ not-true _ (c .before .if2 .taken) in
+    let no = by-counts _ _ _ (passes (s .before .before .before)) _ (s .scan .ensures .0) _ (s .scan .ensures .1) ∙ sym (c .before .before .counted .ensures) ∙ not-true _ (c .before .if2 .taken) in
     seen-none _ no (c .unseen2 .ensures)
 
 returns-3 : tie.Need-returns-3
 returns-3 c =
     let s = c .before .before in
     let a = s .before .before .before .before .before .before .before .before .args in
-    let yes = by-counts _ _ _ _ (passes (s .before .before .before)) (zeros s) (sound s) ∙ sym (c .before .counted .ensures) ∙ not-false _ (c .if2 .left) in
+    let yes = by-counts _ _ _ (passes (s .before .before .before)) _ (s .scan .ensures .0) _ (s .scan .ensures .1) ∙ sym (c .before .counted .ensures) ∙ not-false _ (c .if2 .left) in
     s .before .before .before .before .before .frame .ensures ∙ ap (λ (b : Bool). seenBy b (a .ledger)) (passes (s .before .before .before) ∙ sym yes)
 
 pub examine-spec : {M : Type 1} → statement M
@@ -58,7 +42,7 @@ examine-spec =
     (λ c. let a = c .before .before .before .before .before .before .args in sym (orders-within (a .ledger) (now (a .orders)) (now (a .items)) (passes (c .before))))
     (λ c. let a = c .before .before .before .before .before .before .before .args in sym (items-within (a .ledger) (now (a .orders)) (now (a .items)) (passes (c .before .before))))
     (λ c κs. passable _ _ _ (passes (c .before .before)))
-    (λ c κs. many-few isVoided _ _ _ (zeros c))
+    (λ c κs. let a = c .before .before .before .before .before .before .before .before .args in few-zeros (a .ledger) (now (a .orders)) (now (a .items)) (passes (c .before .before .before)) _ (c .scan .ensures .0))
     (λ c κs. search needs)
     returns-2
     returns-3)

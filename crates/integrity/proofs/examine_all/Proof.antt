@@ -1,23 +1,18 @@
 -- `integrity::examine_all` meets its contract.
 use mathlib.Core.Path.{_≡_, sym, ap, _∙_}
 use mathlib.Core.Bool.{true}
-use mathlib.Core.List.{List}
 use Prim.Native.Nat.{ℕ, min}
 use native.Mathlib.Omega.{arith}
-use lib.Dec.{eqb}
 use lib.ListN.{length, take}
 use lib.Seq.{length-take-le}
 use denote.Ref.{now}
 use borrow.Author.Needs.{needs}
 use borrow.Author.Tests.{not-true, not-false}
-use Rattle.model.specs.Entry.{Entry, isVoided, voidedIn, unsoundIn, columns, pairs, room}
-use Rattle.model.specs.Record.{written}
+use Rattle.model.specs.Entry.{columns, pairs, room}
 use Rattle.integrity.specs.Again.{firstAgain, placeAgain}
-use Rattle.integrity.specs.Sift.{Sweeps}
 use Rattle.integrity.specs.Examine.{framed}
 use Rattle.integrity.proofs.Pairs.{pairs-cut}
-use Rattle.integrity.proofs.Places.{many-few}
-use Rattle.integrity.proofs.Checks.{seen-fits, seen-count, met-none, met-made, not-framed, by-counts}
+use Rattle.integrity.proofs.Checks.{seen-fits, seen-count, met-none, met-made, not-framed, few-zeros, by-counts}
 use Rattle.integrity.proofs.Checks.{as-written, orders-within, items-within, passable}
 use Rattle.integrity.proofs.examine_all.Statement.{statement}
 use Rattle.integrity.proofs.examine_all.Tie as tie
@@ -51,35 +46,21 @@ module _ (c : tie.After-lesser) where
       ap (λ (n : ℕ). pairs (take n (now (c .before .before .before .before .before .before .before .before .args .bundle))) (take n (now (c .before .before .before .before .before .before .before .before .args .itemlines)))) fewest
       ∙ pairs-cut (now (c .before .before .before .before .before .before .before .before .args .bundle)) (now (c .before .before .before .before .before .before .before .before .args .itemlines))
 
--- what the pass finds, of the lines written and the whole bundle
-swept : (c : tie.After-meet)
-    → let a = c .before .before .before .before .before .before .before .before .before .before .before .before .before .args in
-    Sweeps (written (a .ledger) (columns (now (a .orders)) (now (a .items)))) (pairs (now (a .bundle)) (now (a .itemlines))) (c .meet .result)
-swept c =
-    let a = c .before .before .before .before .before .before .before .before .before .before .before .before .before .args in
-    let l = as-written (a .ledger) (now (a .orders)) (now (a .items)) (passes (c .before .before .before .before .before .before)) in
-    let es = bundle-cut (c .before .before .before .before .before) in
-    let s = c .meet .ensures in
-    record {
-      zeros = s .zeros ∙ ap voidedIn l;
-      sound = s .sound ∙ ap (λ (m : List Entry). eqb (unsoundIn m) 0) l;
-      first = s .first ∙ (λ i. firstAgain (l i) (es i));
-      place = s .place ∙ (λ i. placeAgain (l i) (es i));
-    }
-
 returns-2 : tie.Need-returns-2
 returns-2 c =
     let m = c .before .before .before in
-    let s = swept m in
-    let no = by-counts _ _ _ _ (passes (m .before .before .before .before .before .before)) (s .zeros) (s .sound) ∙ sym (c .before .before .counted .ensures) ∙ not-true _ (c .before .if2 .taken) in
+    let no = by-counts _ _ _ (passes (m .before .before .before .before .before .before)) _ (m .meet .ensures .zeros) _ (m .meet .ensures .sound) ∙ sym (c .before .before .counted .ensures) ∙ not-true _ (c .before .if2 .taken) in
     met-none _ _ _ no (c .unmet2 .ensures)
 
 returns-3 : tie.Need-returns-3
 returns-3 c =
     let m = c .before .before in
-    let s = swept m in
-    let yes = by-counts _ _ _ _ (passes (m .before .before .before .before .before .before)) (s .zeros) (s .sound) ∙ sym (c .before .counted .ensures) ∙ not-false _ (c .if2 .left) in
-    met-made _ _ _ yes (seen-count _ (passes (m .before .before .before .before .before .before)) (m .before .before .before .before .before .before .before .before .frame .ensures)) (s .first) (s .place)
+    let a = m .before .before .before .before .before .before .before .before .before .before .before .before .before .args in
+    let s = m .meet .ensures in
+    let yes = by-counts _ _ _ (passes (m .before .before .before .before .before .before)) _ (s .zeros) _ (s .sound) ∙ sym (c .before .counted .ensures) ∙ not-false _ (c .if2 .left) in
+    let l = as-written (a .ledger) (now (a .orders)) (now (a .items)) (passes (m .before .before .before .before .before .before)) in
+    let es = bundle-cut (m .before .before .before .before .before) in
+    met-made _ _ _ yes (seen-count _ (passes (m .before .before .before .before .before .before)) (m .before .before .before .before .before .before .before .before .frame .ensures)) (s .first ∙ (λ i. firstAgain (l i) (es i))) (s .place ∙ (λ i. placeAgain (l i) (es i)))
 
 meet-requires : tie.Need-meet-requires
 meet-requires c κs =
@@ -101,7 +82,7 @@ examine-all-spec =
     (λ c. sym (orders-cut (c .before .before .before)))
     (λ c. sym (items-cut (c .before .before .before .before)))
     meet-requires
-    (λ c κs. many-few isVoided _ _ _ (swept c .zeros))
+    (λ c κs. let a = c .before .before .before .before .before .before .before .before .before .before .before .before .before .args in few-zeros (a .ledger) (now (a .orders)) (now (a .items)) (passes (c .before .before .before .before .before .before)) _ (c .meet .ensures .zeros))
     (λ c κs. search needs)
     returns-2
     returns-3)
