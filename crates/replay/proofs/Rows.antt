@@ -5,15 +5,16 @@ use mathlib.Core.List.{List, [], _∷_, _++_, map, append-assoc, append-nil}
 use Prim.Native.Nat.{ℕ, suc, _+_, _-_, _*_, _/_, _≤_, _<_}
 use native.Mathlib.Omega.{arith}
 use lib.ListN.{length, getD, take, drop, set, length-append, length-set, drop-of-length-le}
-use lib.Seq.{drop-cons, drop-drop, drop-set-add, getD-append-add, drop-append-add, length-take-le, take-at, drop-at}
+use lib.Seq.{drop-cons, drop-drop, getD-drop, drop-set-add, getD-append-add, drop-append-add, length-take-le, take-at, drop-at}
 use lib.Seq.{take-append-seam, drop-append-seam}
 use borrow.Author.Tests.{eq-eqb, ne-eqb}
 use Rattle.bounds.specs.Places.{copied}
 use Rattle.bounds.proofs.Cells.{copied-same}
 use Rattle.model.specs.Basics.{replaced}
-use Rattle.model.specs.Entry.{entry, orderOf, itemOf, Lent, columns, Paired}
+use Rattle.model.specs.Entry.{entry, orderOf, itemOf, Lent, columns}
 use Rattle.model.specs.Model.{Call, peek, claim, void, claim-all, Event}
-use Rattle.replay.specs.Rows.{callWidth, callOf, uses, nextOf, leftOf, callsIn, namedIn, rowWidth, rowOf, rowsOf, shown}
+use Rattle.replay.specs.Rows.{callWidth, ordersColumn, itemsColumn, callOf, uses, nextOf, leftOf, callsIn, namedIn}
+use Rattle.replay.specs.Rows.{rowWidth, rowOf, rowsOf, shown}
 
 -- ---- the script
 
@@ -35,14 +36,16 @@ pub calls-count : (rows : List ℕ) (pool : Lent) → length (callsIn rows pool)
 calls-count [] pool = refl
 calls-count (k ∷ []) pool = refl
 calls-count (k ∷ s ∷ []) pool = refl
-calls-count (k ∷ s ∷ n ∷ rows) pool = omega (arith, calls-count rows (leftOf (uses k n) pool))
+calls-count (k ∷ s ∷ n ∷ []) pool = refl
+calls-count (k ∷ s ∷ n ∷ m ∷ rows) pool = omega (arith, calls-count rows (leftOf (uses k n) (uses k m) pool))
 
 -- fewer numbers than a row
-pub named-none : (rows : List ℕ) → length rows < callWidth → namedIn rows ≡ 0
-named-none [] h = refl
-named-none (k ∷ []) h = refl
-named-none (k ∷ s ∷ []) h = refl
-named-none (k ∷ s ∷ n ∷ rows) h = absurd (omega (arith, h))
+pub named-none : (c : ℕ) (rows : List ℕ) → length rows < callWidth → namedIn c rows ≡ 0
+named-none c [] h = refl
+named-none c (k ∷ []) h = refl
+named-none c (k ∷ s ∷ []) h = refl
+named-none c (k ∷ s ∷ n ∷ []) h = refl
+named-none c (k ∷ s ∷ n ∷ m ∷ rows) h = absurd (omega (arith, h))
 
 -- the row at a place, and those after it
 module _ (rows : List ℕ) (i : ℕ) where
@@ -52,47 +55,53 @@ module _ (rows : List ℕ) (i : ℕ) where
   abbrev pub serialIn : ℕ
   serialIn = getD rows (i * callWidth + 1) 0
 
-  abbrev pub usesAt : ℕ
-  usesAt = uses whichAt (getD rows (i * callWidth + 2) 0)
+  -- what it uses up, by the number in that column
+  abbrev pub usesAt : (column : ℕ) → ℕ
+  usesAt c = uses whichAt (getD rows (i * callWidth + c) 0)
 
   module _ (h : i * callWidth + callWidth ≤ length rows) where
-    rows-next : drop (i * callWidth) rows ≡ whichAt ∷ serialIn ∷ getD rows (i * callWidth + 2) 0 ∷ drop ((i + 1) * callWidth) rows
+    abbrev rowThen : List ℕ → List ℕ
+    rowThen l = whichAt ∷ serialIn ∷ getD rows (i * callWidth + ordersColumn) 0 ∷ getD rows (i * callWidth + itemsColumn) 0 ∷ l
+
+    rows-next : drop (i * callWidth) rows ≡ rowThen (drop ((i + 1) * callWidth) rows)
     rows-next =
         let n = i * callWidth in
         let second : n + 1 ≡ suc n = omega arith in
         let third : n + 2 ≡ suc (suc n) = omega arith in
-        let after : (i + 1) * callWidth ≡ suc (suc (suc n)) = omega arith in
+        let fourth : n + 3 ≡ suc (suc (suc n)) = omega arith in
+        let after : (i + 1) * callWidth ≡ suc (suc (suc (suc n))) = omega arith in
         rw (
           second,
           third,
+          fourth,
           after,
           drop-cons rows n 0 (omega arith),
           drop-cons rows (suc n) 0 (omega arith),
           drop-cons rows (suc (suc n)) 0 (omega arith),
+          drop-cons rows (suc (suc (suc n))) 0 (omega arith),
         )
 
-    pub named-next : namedIn (drop (i * callWidth) rows) ≡ usesAt + namedIn (drop ((i + 1) * callWidth) rows)
-    named-next = rw rows-next
+    pub named-next : (c : ℕ) → namedIn c (drop (i * callWidth) rows) ≡ usesAt c + namedIn c (drop ((i + 1) * callWidth) rows)
+    named-next c =
+        let after = drop ((i + 1) * callWidth) rows in
+        let same : getD (rowThen after) c 0 ≡ getD rows (i * callWidth + c) 0 =
+        ap (λ (l : List ℕ). getD l c 0) (sym rows-next) ∙ getD-drop (i * callWidth) rows c 0 in
+        ap (λ (l : List ℕ). namedIn c l) rows-next ∙ ap (λ (n : ℕ). uses whichAt n + namedIn c after) same
 
-    pub calls-next : (pool : Lent) (used : ℕ)
-        → callsIn (drop (i * callWidth) rows) (leftOf used pool)
-        ≡ callOf whichAt serialIn (nextOf usesAt (leftOf used pool)) ∷ callsIn (drop ((i + 1) * callWidth) rows) (leftOf (used + usesAt) pool)
-    calls-next pool used = rw (rows-next, drop-drop usesAt used (pool .orders), drop-drop usesAt used (pool .items))
+    pub calls-next : (pool : Lent) (n m : ℕ)
+        → callsIn (drop (i * callWidth) rows) (leftOf n m pool)
+        ≡ callOf whichAt serialIn (nextOf (usesAt ordersColumn) (usesAt itemsColumn) (leftOf n m pool))
+        ∷ callsIn (drop ((i + 1) * callWidth) rows) (leftOf (n + usesAt ordersColumn) (m + usesAt itemsColumn) pool)
+    calls-next pool n m =
+        rw (rows-next, drop-drop (usesAt ordersColumn) n (pool .orders), drop-drop (usesAt itemsColumn) m (pool .items))
 
--- every list of calls whose bundles name an item line for each order can be lent so, its second list too, with pools that fit
-abbrev pub AllPaired : List Call → Type 0
-AllPaired [] = Unit
-AllPaired (peek ∷ cs) = AllPaired cs
-AllPaired (claim s e ∷ cs) = AllPaired cs
-AllPaired (void s ∷ cs) = AllPaired cs
-AllPaired (claim-all s b ∷ cs) = Paired b × AllPaired cs
-
+-- every list of calls can be lent so, its second list too, with pools that fit
 abbrev pub rowsFor : List Call → List ℕ
 rowsFor [] = []
-rowsFor (peek ∷ cs) = 0 ∷ 0 ∷ 0 ∷ rowsFor cs
-rowsFor (claim s e ∷ cs) = 1 ∷ s ∷ 1 ∷ rowsFor cs
-rowsFor (void s ∷ cs) = 2 ∷ s ∷ 0 ∷ rowsFor cs
-rowsFor (claim-all s b ∷ cs) = 3 ∷ s ∷ length (b .orders) ∷ rowsFor cs
+rowsFor (peek ∷ cs) = 0 ∷ 0 ∷ 0 ∷ 0 ∷ rowsFor cs
+rowsFor (claim s e ∷ cs) = 1 ∷ s ∷ 1 ∷ 1 ∷ rowsFor cs
+rowsFor (void s ∷ cs) = 2 ∷ s ∷ 0 ∷ 0 ∷ rowsFor cs
+rowsFor (claim-all s b ∷ cs) = 3 ∷ s ∷ length (b .orders) ∷ length (b .items) ∷ rowsFor cs
 
 abbrev pub poolFor : List Call → Lent
 poolFor [] = columns [] []
@@ -101,32 +110,31 @@ poolFor (claim s e ∷ cs) = columns (orderOf e ∷ poolFor cs .orders) (itemOf 
 poolFor (void s ∷ cs) = poolFor cs
 poolFor (claim-all s b ∷ cs) = columns (b .orders ++ poolFor cs .orders) (b .items ++ poolFor cs .items)
 
-pub every-list : (cs : List Call) → AllPaired cs → callsIn (rowsFor cs) (poolFor cs) ≡ cs
-every-list [] w = refl
-every-list (peek ∷ cs) w = ap (λ (l : List Call). Call.peek ∷ l) (every-list cs w)
-every-list (claim s e ∷ cs) w = ap (λ (l : List Call). Call.claim s e ∷ l) (every-list cs w)
-every-list (void s ∷ cs) w = ap (λ (l : List Call). Call.void s ∷ l) (every-list cs w)
-every-list (claim-all s b ∷ cs) w =
-    let n = length (b .orders) in
+pub every-list : (cs : List Call) → callsIn (rowsFor cs) (poolFor cs) ≡ cs
+every-list [] = refl
+every-list (peek ∷ cs) = ap (λ (l : List Call). Call.peek ∷ l) (every-list cs)
+every-list (claim s e ∷ cs) = ap (λ (l : List Call). Call.claim s e ∷ l) (every-list cs)
+every-list (void s ∷ cs) = ap (λ (l : List Call). Call.void s ∷ l) (every-list cs)
+every-list (claim-all s b ∷ cs) =
     let rest = poolFor cs in
     rw (
       take-append-seam (b .orders) (rest .orders),
       drop-append-seam (b .orders) (rest .orders),
-      take-at (b .items) (rest .items) n (w .0),
-      drop-at (b .items) (rest .items) n (w .0),
-      every-list cs (w .1),
+      take-append-seam (b .items) (rest .items),
+      drop-append-seam (b .items) (rest .items),
+      every-list cs,
     )
 
-pub every-pool : (cs : List Call) → AllPaired cs
-    → (length (poolFor cs .orders) ≡ namedIn (rowsFor cs)) × (length (poolFor cs .items) ≡ namedIn (rowsFor cs))
-every-pool [] w = (refl, refl)
-every-pool (peek ∷ cs) w = let p = every-pool cs w in (omega (arith, p .0), omega (arith, p .1))
-every-pool (claim s e ∷ cs) w = let p = every-pool cs w in (omega (arith, p .0), omega (arith, p .1))
-every-pool (void s ∷ cs) w = let p = every-pool cs w in (omega (arith, p .0), omega (arith, p .1))
-every-pool (claim-all s b ∷ cs) w =
-    let p = every-pool cs (w .1) in
+pub every-pool : (cs : List Call)
+    → (length (poolFor cs .orders) ≡ namedIn ordersColumn (rowsFor cs)) × (length (poolFor cs .items) ≡ namedIn itemsColumn (rowsFor cs))
+every-pool [] = (refl, refl)
+every-pool (peek ∷ cs) = let p = every-pool cs in (omega (arith, p .0), omega (arith, p .1))
+every-pool (claim s e ∷ cs) = let p = every-pool cs in (omega (arith, p .0), omega (arith, p .1))
+every-pool (void s ∷ cs) = let p = every-pool cs in (omega (arith, p .0), omega (arith, p .1))
+every-pool (claim-all s b ∷ cs) =
+    let p = every-pool cs in
     let rest = poolFor cs in
-    (omega (arith, p .0, length-append (b .orders) (rest .orders)), omega (arith, p .1, w .0, length-append (b .items) (rest .items)))
+    (omega (arith, p .0, length-append (b .orders) (rest .orders)), omega (arith, p .1, length-append (b .items) (rest .items)))
 
 -- ---- the answers
 

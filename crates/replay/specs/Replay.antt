@@ -17,7 +17,7 @@ use Rattle.model.specs.Record.{opened, blankLedger, openingChecks, Run, run}
 use Rattle.model.specs.Whole.{ran, secondList, Whole}
 use Rattle.model.specs.declared.Ledger.{Ledger}
 use Rattle.model.specs.declared.Opened.{Opened}
-use Rattle.replay.specs.Rows.{callWidth, callsIn, namedIn, rowWidth, rowOf, rowsOf, shown}
+use Rattle.replay.specs.Rows.{callWidth, ordersColumn, itemsColumn, callsIn, namedIn, rowWidth, rowOf, rowsOf, shown}
 
 -- ---- what is lent
 
@@ -46,37 +46,41 @@ seen cs l b = record { trace = shown cs (b .answers); ledger = l; column = b .co
 
 -- ---- refusals: those of the opening, then the place 'lent part'
 
--- a script of so many numbers has whole rows, a buffer of so many a row for each call, and pools of so many orders and item lines just those that the
--- calls name
-abbrev pub sizesOf : (rows calls answers orders items named : ℕ) → List Bool
-sizesOf rows calls answers orders items named =
-    eqb (rows % callWidth) 0 ∷ eqb answers (calls * rowWidth) ∷ eqb orders named ∷ eqb items named ∷ []
+-- such rows are whole ones, a buffer of so many numbers has a row for each call, and pools of so many orders and item lines just those that the calls
+-- name
+abbrev pub sizesOf : (rows : List ℕ) (calls answers orders items : ℕ) → List Bool
+sizesOf rows calls answers orders items =
+    eqb (length rows % callWidth) 0
+    ∷ eqb answers (calls * rowWidth)
+    ∷ eqb orders (namedIn ordersColumn rows)
+    ∷ eqb items (namedIn itemsColumn rows)
+    ∷ []
 
 abbrev pub sizes : Script → Buffers → List Bool
-sizes x b =
-    sizesOf (length (x .rows)) (length (callsOf x)) (length (b .answers)) (length (x .pool .orders)) (length (x .pool .items)) (namedIn (x .rows))
+sizes x b = sizesOf (x .rows) (length (callsOf x)) (length (b .answers)) (length (x .pool .orders)) (length (x .pool .items))
 
--- for example, with a bundle of two and a buffer of one row pools of two fit, and those in which one of either is missing or over do not
+-- for example, with a bundle of two orders and one item line and a buffer of one row pools of two and one fit, and those in which one of either is
+-- missing or over do not
 fitting : (pool : Lent) → Bool
-fitting pool = all (sizes (scripted (3 ∷ 1 ∷ 2 ∷ []) pool) (buffers (columns [] []) (rowOf (refusedWith 18 1007) none)))
+fitting pool = all (sizes (scripted (3 ∷ 1 ∷ 2 ∷ 1 ∷ []) pool) (buffers (columns [] []) (rowOf (refusedWith 18 1007) none)))
 
-just-two : fitting (columns (1007 ∷ 1014 ∷ []) (1 ∷ 1 ∷ [])) ≡ true
+just-those : fitting (columns (1007 ∷ 1014 ∷ []) (1 ∷ [])) ≡ true
 unfolding fitting
-just-two = refl
+just-those = refl
 
-one-missing : fitting (columns (1007 ∷ []) (1 ∷ 1 ∷ [])) ≡ false
+one-missing : fitting (columns (1007 ∷ []) (1 ∷ [])) ≡ false
 unfolding fitting
 one-missing = refl
 
-one-over : fitting (columns (1007 ∷ 1014 ∷ 1021 ∷ []) (1 ∷ 1 ∷ [])) ≡ false
+one-over : fitting (columns (1007 ∷ 1014 ∷ 1021 ∷ []) (1 ∷ [])) ≡ false
 unfolding fitting
 one-over = refl
 
-item-missing : fitting (columns (1007 ∷ 1014 ∷ []) (1 ∷ [])) ≡ false
+item-missing : fitting (columns (1007 ∷ 1014 ∷ []) []) ≡ false
 unfolding fitting
 item-missing = refl
 
-item-over : fitting (columns (1007 ∷ 1014 ∷ []) (1 ∷ 1 ∷ 1 ∷ [])) ≡ false
+item-over : fitting (columns (1007 ∷ 1014 ∷ []) (1 ∷ 1 ∷ [])) ≡ false
 unfolding fitting
 item-over = refl
 

@@ -14,9 +14,15 @@ use Rattle.model.specs.declared.Answer.{Answer}
 
 -- ---- the script
 
--- the columns of a call: which call, its serial, and how many orders it names, each with its item line
+-- the columns of a call: which call, its serial, how many orders it names and how many item lines
 abbrev pub callWidth : ℕ
-callWidth = 3
+callWidth = 4
+
+abbrev pub ordersColumn : ℕ
+ordersColumn = 2
+
+abbrev pub itemsColumn : ℕ
+itemsColumn = 3
 
 -- 0 is a peek, 1 a claim, 3 a bundle, any other a void, with the orders and the item lines that it names: a claim is for the first of each
 abbrev pub callOf : (which serial : ℕ) (lines : Lent) → Call
@@ -24,49 +30,65 @@ callOf k s b =
     cond (eqb k 0) peek
     (cond (eqb k 1) (claim s (entry (getD (b .orders) 0 0) (getD (b .items) 0 0))) (cond (eqb k 3) (claim-all s b) (void s)))
 
--- how many orders a call names: the number in its row counts for a bundle alone; a claim names one, a peek and a void none
-abbrev pub uses : (which orders : ℕ) → ℕ
+-- how many orders a call names, or item lines: the number in its row counts for a bundle alone; a claim names one, a peek and a void none
+abbrev pub uses : (which number : ℕ) → ℕ
 uses k n = cond (eqb k 1) 1 (cond (eqb k 3) n 0)
 
--- the first n of either pool, and what is left of both behind them
-abbrev pub nextOf : ℕ → Lent → Lent
-nextOf n pool = columns (take n (pool .orders)) (take n (pool .items))
+-- the first orders and the first item lines of the pools, and what is left of both behind them
+abbrev pub nextOf : (orders items : ℕ) → Lent → Lent
+nextOf n m pool = columns (take n (pool .orders)) (take m (pool .items))
 
-abbrev pub leftOf : ℕ → Lent → Lent
-leftOf n pool = columns (drop n (pool .orders)) (drop n (pool .items))
+abbrev pub leftOf : (orders items : ℕ) → Lent → Lent
+leftOf n m pool = columns (drop n (pool .orders)) (drop m (pool .items))
 
 -- the calls in turn, each for the next orders and item lines of the pools, which it uses up. Numbers that make no whole row are no call.
 abbrev pub callsIn : (rows : List ℕ) (pool : Lent) → List Call
 callsIn [] pool = []
 callsIn (k ∷ []) pool = []
 callsIn (k ∷ s ∷ []) pool = []
-callsIn (k ∷ s ∷ n ∷ rows) pool = callOf k s (nextOf (uses k n) pool) ∷ callsIn rows (leftOf (uses k n) pool)
+callsIn (k ∷ s ∷ n ∷ []) pool = []
+callsIn (k ∷ s ∷ n ∷ m ∷ rows) pool = callOf k s (nextOf (uses k n) (uses k m) pool) ∷ callsIn rows (leftOf (uses k n) (uses k m) pool)
 
--- how many orders they name in all
-abbrev pub namedIn : (rows : List ℕ) → ℕ
-namedIn [] = 0
-namedIn (k ∷ []) = 0
-namedIn (k ∷ s ∷ []) = 0
-namedIn (k ∷ s ∷ n ∷ rows) = uses k n + namedIn rows
+-- how many orders they name in all, or item lines: by the numbers in that column
+abbrev pub namedIn : (column : ℕ) (rows : List ℕ) → ℕ
+namedIn c [] = 0
+namedIn c (k ∷ []) = 0
+namedIn c (k ∷ s ∷ []) = 0
+namedIn c (k ∷ s ∷ n ∷ []) = 0
+namedIn c (k ∷ s ∷ n ∷ m ∷ rows) = uses k (getD (k ∷ s ∷ n ∷ m ∷ rows) c 0) + namedIn c rows
 
--- for example, a claim, a peek, a void, a bundle of two, a claim and a bundle of none; of the last number in a row that of the bundles alone counts
+-- for example, a claim, a peek, a void, a bundle of two, an uneven one of two orders and one item line, a claim and a bundle of none; of the last
+-- two numbers in a row those of the bundles alone count
 someRows : List ℕ
-someRows = 1 ∷ 1 ∷ 9 ∷ 0 ∷ 9 ∷ 9 ∷ 2 ∷ 2 ∷ 9 ∷ 3 ∷ 3 ∷ 2 ∷ 1 ∷ 5 ∷ 0 ∷ 3 ∷ 6 ∷ 0 ∷ []
+someRows =
+    1 ∷ 1 ∷ 9 ∷ 9
+    ∷ 0 ∷ 9 ∷ 9 ∷ 9
+    ∷ 2 ∷ 2 ∷ 9 ∷ 9
+    ∷ 3 ∷ 3 ∷ 2 ∷ 2
+    ∷ 3 ∷ 5 ∷ 2 ∷ 1
+    ∷ 1 ∷ 5 ∷ 0 ∷ 0
+    ∷ 3 ∷ 6 ∷ 0 ∷ 0
+    ∷ []
 
-in-turn : callsIn someRows (columns (1007 ∷ 1014 ∷ 1014 ∷ 1028 ∷ []) (4 ∷ 1 ∷ 2 ∷ 3 ∷ []))
+in-turn : callsIn someRows (columns (1007 ∷ 1014 ∷ 1014 ∷ 1021 ∷ 1035 ∷ 1028 ∷ []) (4 ∷ 1 ∷ 2 ∷ 5 ∷ 3 ∷ []))
     ≡ claim 1 (entry 1007 4)
     ∷ peek
     ∷ void 2
     ∷ claim-all 3 (columns (1014 ∷ 1014 ∷ []) (1 ∷ 2 ∷ []))
+    ∷ claim-all 5 (columns (1021 ∷ 1035 ∷ []) (5 ∷ []))
     ∷ claim 5 (entry 1028 3)
     ∷ claim-all 6 (columns [] [])
     ∷ []
 unfolding someRows
 in-turn = refl
 
-four-named : namedIn someRows ≡ 4
+six-orders : namedIn ordersColumn someRows ≡ 6
 unfolding someRows
-four-named = refl
+six-orders = refl
+
+five-items : namedIn itemsColumn someRows ≡ 5
+unfolding someRows
+five-items = refl
 
 -- ---- the answers
 

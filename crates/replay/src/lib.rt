@@ -7,7 +7,7 @@ use model::Opened;
 use walsh::Transition;
 ghost use mathlib.Core.Path.{_≡_};
 ghost use mathlib.Core.Bool.{true};
-ghost use Prim.Native.Nat.{_/_};
+ghost use Prim.Native.Nat.{_/_, _<_};
 ghost use lib.Dec.{eqb};
 ghost use lib.ListN.{length, getD};
 ghost use Rattle.bounds.specs.Places.{copied};
@@ -19,8 +19,12 @@ ghost use Rattle.model.specs.Record.{printingOf, answered, calling};
 ghost use Rattle.replay.specs.Rows.{callWidth, callOf, uses, namedIn, rowWidth, rowOf};
 ghost use Rattle.replay.specs.Replay.{scripted, buffers, callsOf, sizesOf, sizes, Ran, Replays};
 
-// The columns of a call in the script: which call, serial, how many orders it names, each with its item line.
-const CALL: usize = 3;
+// The columns of a call in the script: which call, serial, how many orders it names, how many item lines.
+const CALL: usize = 4;
+
+const ORDERS: usize = 2;
+
+const ITEMS: usize = 3;
 
 // The columns of an answer: number, detail, serial, the 24 cells of the composition, gain and loss.
 const ROW: usize = 29;
@@ -112,7 +116,7 @@ fn call(
     unpaired(ledger::void(ledger, column, items, serial))
 }
 
-// How many orders, and item lines, of the pools a call uses up, with the number in its row.
+// How many orders of the pool a call uses up, or item lines, with the number in its row.
 fn uses(kind: u64, n: u64) -> usize
     ensures { λ r. ⌜ r ≡ uses kind n ⌝ }
 {
@@ -168,11 +172,13 @@ fn run(
 {
     let mut l = ledger;
     let mut next: usize = 0;
+    let mut next_item: usize = 0;
     let mut i: usize = 0;
     while i < script.len() / CALL {
         let from = i * CALL;
         let which = script[from];
-        let end = next + uses(which, script[from + 2]);
+        let end = next + uses(which, script[from + ORDERS]);
+        let end_item = next_item + uses(which, script[from + ITEMS]);
         let done = call(
             l,
             column,
@@ -180,7 +186,7 @@ fn run(
             which,
             script[from + 1],
             &orders[next..end],
-            &itemlines[next..end],
+            &itemlines[next_item..end_item],
         );
         let claimed = done.claimed;
         let at = i * ROW;
@@ -188,20 +194,22 @@ fn run(
         put(claimed.answer, done.pair, &mut answers[at..row]);
         l = claimed.ledger;
         next = end;
+        next_item = end_item;
         i += 1;
     }
     l
 }
 
-// Whether a pool of so many entries has just those that the calls name.
-fn pool_fits(rows: &[u64], pool: usize) -> bool
-    ensures { λ r. ⌜ r ≡ eqb pool (namedIn (now (rows .entry))) ⌝ }
+// Whether a pool of so many entries has just those that the calls name, by the numbers in that column of their rows.
+fn pool_fits(rows: &[u64], counts: usize, pool: usize) -> bool
+    requires { ⌜ counts < callWidth ⌝ }
+    ensures { λ r. ⌜ r ≡ eqb pool (namedIn counts (now (rows .entry))) ⌝ }
 {
     let mut left = pool;
     let mut k: usize = 0;
     while k < rows.len() / CALL {
         let start = k * CALL;
-        let used = uses(rows[start], rows[start + 2]);
+        let used = uses(rows[start], rows[start + counts]);
         if left < used {
             return false;
         }
@@ -215,10 +223,7 @@ fn pool_fits(rows: &[u64], pool: usize) -> bool
 // name.
 fn fits(script: &[u64], answers: usize, orders: usize, itemlines: usize) -> bool
     ensures { λ r.
-        ⌜ r
-        ≡ all
-        (sizesOf (length (now (script .entry))) (length (now (script .entry)) / callWidth) answers orders itemlines
-        (namedIn (now (script .entry)))) ⌝ }
+        ⌜ r ≡ all (sizesOf (now (script .entry)) (length (now (script .entry)) / callWidth) answers orders itemlines) ⌝ }
 {
     if script.len() % CALL != 0 {
         return false;
@@ -229,15 +234,15 @@ fn fits(script: &[u64], answers: usize, orders: usize, itemlines: usize) -> bool
     if answers / ROW != script.len() / CALL {
         return false;
     }
-    if itemlines != orders {
+    if !pool_fits(script, ORDERS, orders) {
         return false;
     }
-    pool_fits(script, orders)
+    pool_fits(script, ITEMS, itemlines)
 }
 
-// A list of calls on a newly opened ledger over `column` and, beside it, `items`. The script has a row of three numbers for each call, and the pools
-// `orders` and `itemlines` just the orders that the calls name and their item lines, in turn: a claim one of each, a bundle as many of each as its row
-// says. The answers go into the lent buffer, a row of 29 numbers each. A refusal writes nothing.
+// A list of calls on a newly opened ledger over `column` and, beside it, `items`. The script has a row of four numbers for each call, and the pools
+// `orders` and `itemlines` just the orders and the item lines that the calls name, in turn: a claim one of each, a bundle as many of either as its
+// row says. The answers go into the lent buffer, a row of 29 numbers each. A refusal writes nothing.
 pub fn replay(
     upper: &[u8],
     total: u32,

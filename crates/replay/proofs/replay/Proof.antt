@@ -8,7 +8,6 @@ use borrow.Author.Needs.{needs}
 use borrow.Author.Tests.{not-true, not-false}
 use Rattle.model.specs.Basics.{all}
 use Rattle.model.specs.Entry.{columns}
-use Rattle.replay.specs.Rows.{namedIn}
 use Rattle.replay.specs.Replay.{Script, scripted, Buffers, buffers, sizesOf, sizes}
 use Rattle.replay.proofs.Rows.{calls-count}
 use Rattle.replay.proofs.Promise.{replay-unopened, replay-unfit, replay-done}
@@ -27,7 +26,7 @@ fitting c =
     let s = c .before .before .before .before .before .before .before .before .before .before .before .before .before in
     let rows = now (s .args .script) in
     let pool = asked s .pool in
-    ap (λ (n : ℕ). all (sizesOf (length rows) n (length (now (s .args .answers))) (length (pool .orders)) (length (pool .items)) (namedIn rows)))
+    ap (λ (n : ℕ). all (sizesOf rows n (length (now (s .args .answers))) (length (pool .orders)) (length (pool .items))))
     (calls-count rows pool)
     ∙ sym (c .fits2 .ensures)
 
