@@ -1,11 +1,12 @@
 """Lists of ledger calls for crates/vectors, as several workers make them in turn.
 
-The lists are document 01's copies I and J, two copies on one order, bundles with a fault at each place, editions with kinds withdrawn, openings that
-are refused, scripts, pools and buffers that do not fit, lines that stand in the columns past the lines written, the Saturday of copy 212, and
-interleavings of several workers, each of whom peeks and then claims, for one order or several, or voids what it saw, at times too late, with an order
-and item line that stand already, for the next copy on an order that stands, with no order, with an item line out of range, with more orders than are
-left, or with a serial out of nowhere. A list is (ceilings, total, order column and item column before, script, pool of orders, pool of item lines,
-length of the buffer for the answers). A call is (which, serial, line), of a bundle (which, serial, lines); a line is an order and its item line.
+The lists are document 01's copies I and J, two copies on one order, bundles with a fault at each place, bundles with another number of item lines
+than of orders, editions with kinds withdrawn, openings that are refused, scripts, pools and buffers that do not fit, lines that stand in the columns
+past the lines written, the Saturday of copy 212, and interleavings of several workers, each of whom peeks and then claims, for one order or several,
+or voids what it saw, at times too late, with an order and item line that stand already, for the next copy on an order that stands, with no order,
+with an item line out of range, with an item line too few or too many, with more orders than are left, or with a serial out of nowhere. A list is
+(ceilings, total, order column and item column before, script, pool of orders, pool of item lines, length of the buffer for the answers). A call is
+(which, serial, line), of a bundle (which, serial, (orders, items)); a line is an order and its item line.
 """
 import random
 
@@ -14,14 +15,14 @@ import reference as ref
 PEEK, CLAIM, VOID, BUNDLE = 0, 1, 2, 3
 NONE = 0, 0  # what a call names that names no line
 WORDS = "look", "take", "spoil", "bundle"
-CALL = 3  # numbers of a call in the script: which, serial, and of a bundle how many orders it names
+CALL = 4  # numbers of a call in the script: which, serial, and of a bundle how many orders it names and how many item lines
 ROW = 29  # numbers of an answer: number, detail, serial, 24 cells, and the pair
 
 
 def answer(paper, call):
     """what the paper register answers to a call, with 0 and 0 where the call answers no pair"""
-    which, serial, lines = call
-    arguments = (), (serial, *lines), (serial,), (serial, *(zip(*lines) if which == BUNDLE and lines else ((), ())))
+    which, serial, named = call
+    arguments = (), (serial, *named), (serial,), (serial, *named)
     said = getattr(paper, WORDS[which])(*arguments[which])
     return said if which == PEEK else (*said, *ref.NO_PAIR)
 
@@ -42,7 +43,7 @@ def interleaving(ms, r, rng, workers=5):
         elif dice < 0.45:  # the next copy on an order that stands
             call = (CLAIM, seen[w], (standing[0] or order, standing[1] + 1))
         elif dice < 0.52:
-            call = (BUNDLE, seen[w], club(paper, order, rng))
+            call = (BUNDLE, seen[w], miscounted(apart(club(paper, order, rng)), rng))
             order += 200
         elif dice < 0.58:
             call = (CLAIM, seen[w], standing)
@@ -71,30 +72,58 @@ def club(paper, order, rng):
     return lines
 
 
+def apart(lines):
+    """the orders of some lines, and their item lines"""
+    return [order for order, _ in lines], [item for _, item in lines]
+
+
+def miscounted(named, rng):
+    """what a bundle names, at times with an item line or an order too few or too many, or with no item line"""
+    orders, items = named
+    if rng.random() < 0.8:
+        return named
+    return rng.choice([(orders, items + [1]), (orders, items[:-1]), (orders, []), (orders + [1], items), (orders[:-1], items)])
+
+
+def is_uneven(call):
+    """whether it is a bundle with another number of item lines than of orders"""
+    which, _, named = call
+    return which == BUNDLE and len(named[0]) != len(named[1])
+
+
 def written(calls):
-    """the script and the pools of such calls; of other calls than bundles the last number of a row is not looked at"""
-    script = [n for which, serial, lines in calls for n in (which, serial, len(lines) if which == BUNDLE else 9)]
-    lines = [line for which, _, lines in calls for line in ([lines] if which == CLAIM else lines if which == BUNDLE else [])]
-    return script, [o for o, _ in lines], [i for _, i in lines]
+    """the script and the pools of such calls; of other calls than bundles the last two numbers of a row are not looked at"""
+    script, orders, items = [], [], []
+    for which, serial, named in calls:
+        script += [which, serial, *(map(len, named) if which == BUNDLE else (9, 9))]
+        if which in (CLAIM, BUNDLE):
+            of_call = named if which == BUNDLE else apart([named])
+            orders += of_call[0]
+            items += of_call[1]
+    return script, orders, items
 
 
-def named(which, count):
-    """how many lines a row names"""
+def uses(which, count):
+    """how many of a pool a row names"""
     return 1 if which == CLAIM else count if which == BUNDLE else 0
 
 
 def rows_of(script):
-    return list(zip(script[::CALL], script[1::CALL], script[2::CALL]))
+    return list(zip(*(script[k::CALL] for k in range(CALL))))
 
 
 def calls_of(script, orders, items):
     """the calls of a script; each uses up the orders and the item lines that it names. None where a pool does not have just those."""
-    calls, at = [], 0
-    for which, serial, count in rows_of(script):
-        lines = list(zip(orders[at:at + named(which, count)], items[at:at + named(which, count)]))
-        at += named(which, count)
-        calls.append((which, serial, lines) if which == BUNDLE else (which, serial, *lines) if which == CLAIM else (min(which, VOID), serial, NONE))
-    return calls if at == len(orders) == len(items) else None
+    calls, at, at_item = [], 0, 0
+    for which, serial, count, items_count in rows_of(script):
+        end, end_item = at + uses(which, count), at_item + uses(which, items_count)
+        if end > len(orders) or end_item > len(items):
+            return None
+        named = list(orders[at:end]), list(items[at_item:end_item])
+        at, at_item = end, end_item
+        calls.append((which, serial, named) if which == BUNDLE else (CLAIM, serial, (named[0][0], named[1][0])) if which == CLAIM
+                     else (min(which, VOID), serial, NONE))
+    return calls if (at, at_item) == (len(orders), len(items)) else None
 
 
 def first(orders):
@@ -111,7 +140,7 @@ def claim(serial, order, item=1):
 
 
 def bundle(serial, orders, items=None):
-    return BUNDLE, serial, first(orders) if items is None else list(zip(orders, items))
+    return BUNDLE, serial, (list(orders), [1] * len(orders) if items is None else list(items))
 
 
 def void(serial):
@@ -154,7 +183,7 @@ def two_copies():
         for wrong in (1005, 0), (1005, 100), (0, 0), (1000, 255), (1000, 1):
             lines = first([1001, 1002, 1003, 1004, 1006])
             lines[at] = wrong
-            calls += [(BUNDLE, 3, lines), (BUNDLE, 3, lines[:4] + [(0, 1)]), (BUNDLE, 9, lines)]
+            calls += [bundle(3, *apart(lines)), bundle(3, *apart(lines[:4] + [(0, 1)])), bundle(9, *apart(lines))]
     yield fitting(((1, 2, 3, 2), 4), [7] * 40, calls + [LOOK, bundle(3, [1000] * 5, range(2, 7)), LOOK])
     forty = list(range(1, 41))
     yield fitting(((8, 8, 8), 8), [7] * 45, [bundle(1, [2000] * 40, forty), bundle(41, [2000, 2000], [41, 40]),
@@ -201,8 +230,24 @@ def pools():
             yield fitting(SMALL, after, calls, orders_pool=orders[:-1])
             yield fitting(SMALL, after, calls, orders_pool=[])
     for counts in [2 ** 64 - 1], [2 ** 63, 2 ** 63], [2, 2 ** 64 - 1], [2 ** 64 - 1, 2 ** 64 - 1, 2]:
-        script = [n for count in counts for n in (BUNDLE, 1, count)]
-        yield *SMALL, after, after, script, [1007, 1014], [1, 1], ROW * len(counts)
+        fit = [2] + [0] * (len(counts) - 1)
+        for both in (counts, counts), (counts, fit), (fit, counts):
+            script = [n for pair in zip(*both) for n in (BUNDLE, 1, *pair)]
+            yield *SMALL, after, after, script, [1007, 1014], [1, 1], ROW * len(counts)
+
+
+def uneven():
+    """request (vi): a bundle with another number of item lines than of orders is 24, also where the serial or a line has a fault, and uses up what
+    it names of either pool; pools of one length are then 13"""
+    after = [7, 7, 7]
+    for orders, items in ([1007, 1014], [1]), ([1007], [1, 2]), ([], [1]), ([1007], []), ([1007] * 41, range(1, 41)), ([1007] * 40, range(1, 42)), \
+            ([0, 1007], [100]), ([1021], [2, 0, 1]):
+        wrong = bundle(1, orders, items), bundle(9, orders, items)
+        calls = [LOOK, *wrong, claim(1, 1021, 2), bundle(2, orders, items), bundle(2, [1028, 1028], [3, 4]), *wrong, LOOK]
+        yield fitting(THREE, after, calls)
+        pool, item_pool = written(calls)[1:]
+        yield fitting(THREE, after, calls, orders_pool=(pool + [7] * len(item_pool))[:len(item_pool)])
+        yield fitting(THREE, after, calls, items_pool=(item_pool + [1] * len(pool))[:len(pool)])
 
 
 def buffers():
@@ -218,7 +263,7 @@ def buffers():
         yield *SMALL, after, after, [1, 1], *pool, size
     yield *SMALL, after, after, [], [], [], 1
     yield *SMALL, after, after, [], [], [], ROW
-    for part in [1], [3, 1], [3, 1, 1, 0, 0]:
+    for part in [1], [3, 1], [3, 1, 1], [3, 1, 1, 1, 0, 0], [3, 1, 1, 1, 0, 0, 0]:
         yield *SMALL, after, after, part, [1007], [1], 0
     yield (1, 1), 3, after, after, script[:-1], *pool, 0
 
@@ -260,6 +305,7 @@ def lists(seed=212):
     yield fitting(SMALL, after, [(4, 1, NONE), (2 ** 64 - 1, 2, NONE), (256, 2, NONE)])
     yield from bundles()
     yield from two_copies()
+    yield from uneven()
     # kinds withdrawn: in front, between, behind; all of them, with a register of one line
     for edition in ((0, 1, 0, 1, 0), 1), ((0, 0, 1, 1), 1), ((1, 1, 0), 1):
         yield fitting(edition, after, [LOOK, claim(1, 1007), LOOK, claim(1, 1014), claim(2, 1007), claim(2, 1007, 0), void(2), LOOK])

@@ -336,6 +336,15 @@ def answer_of(line):
     return first[0] if first else None
 
 
+def uneven_bundles(line):
+    """how many bundles with another number of item lines than of orders a list that is run has"""
+    if line[0] != "l" or answer_of(line):
+        return 0
+    read = Reader(line)
+    read.edition(), read.list(), read.list()
+    return sum(map(interleave.is_uneven, interleave.calls_of(read.list(), read.list(), read.list())))
+
+
 def answered(text):
     """the lines that answer the commands"""
     return [" ".join(map(str, answer)) + "\n" for line in text.split("\n") if line for answer in lines_of(line)]
@@ -358,7 +367,8 @@ def path(name):
 
 
 def checked():
-    """stdout is what the reference says, and every number that a command can answer comes up, with all kinds and with a kind withdrawn"""
+    """stdout is what the reference says, every number that a command can answer comes up, with all kinds and with a kind withdrawn, and so do uneven
+    bundles in lists"""
     with open(path("stdin"), encoding="ascii") as f:
         commands = f.read()
     with open(path("stdout"), encoding="ascii") as f:
@@ -368,9 +378,12 @@ def checked():
     for kind in KINDS:
         missing = sorted(answer for answer in numbers(kind) if not came_up[kind, *answer])
         differences += [f"{kind} does not answer {number}{' with a kind withdrawn' * there}" for there, number in missing]
+    uneven = [n for line in commands.split("\n") if line and (n := uneven_bundles(line))]
+    differences += [] if uneven else ["no list has a bundle with another number of item lines than of orders"]
     print("\n".join(differences), end="\n" if differences else "")
     for kind in CALLS:
         print(f"{kind} with a kind withdrawn: answered", ", ".join(f"{n} {came_up[kind, t, n]} times" for t, n in sorted(numbers(kind)) if t))
+    print(f"l: {sum(uneven)} bundles with another number of item lines than of orders, in {len(uneven)} lists")
     print(f"vectors: {came_up.total()} commands, {len(differences)} differences")
     return 1 if differences else 0
 
