@@ -1,5 +1,5 @@
 // A list of calls on a newly opened ledger, as several workers make them in turn. The command has the bounds and the total, the order column and the
-// item column as they are before, the script with three numbers a call, the pools of the orders that the calls name and of their item lines, and the
+// item column as they are before, the script with four numbers a call, the pools of the orders that the calls name and of their item lines, and the
 // length of the buffer for the answers. It is answered by number and detail, a line for the record after the last call, a line for each column and a
 // line for the rows.
 use crate::read;
