@@ -8,7 +8,7 @@ use native.Mathlib.Omega.{arith}
 use lib.Dec.{eqb}
 use lib.ListN.{length, getD, take, drop, length-take, length-drop}
 use lib.Seq.{take-all, getD-take}
-use borrow.Author.Tests.{eq-eqb, ne-eqb}
+use borrow.Author.Tests.{eq-eqb, ne-eqb, eqb-true, eqb-false}
 use Rattle.walsh.specs.Tests.{times, both}
 use Rattle.walsh.proofs.Cases.{on-test}
 use Rattle.model.specs.Basics.{howMany}
@@ -82,3 +82,18 @@ none-same o i (x ∷ os) (y ∷ is) z =
     let rest : 0 + times o os ≡ 0 = rw f at z in
     let h = none-same o i os is (omega arith) in
     rw f (omega arith))
+
+-- ---- counts of which none is to be
+
+module _ (n m : ℕ) where
+  pub none-both : eqb (n + m) 0 ≡ both (eqb n 0) (eqb m 0)
+  none-both =
+      on-test (eqb n 0)
+      (λ t. let z = eqb-true n 0 t in let same : n + m ≡ m = omega (arith, z) in rw t (ap (λ (k : ℕ). eqb k 0) same))
+      (λ f. let z = eqb-false n 0 f in rw (f, ne-eqb (n + m) 0 (λ q. z (omega (arith, q)))))
+
+  pub still-none : (b : Bool) → b ≡ eqb n 0 → eqb m 0 ≡ true → b ≡ eqb (n + m) 0
+  still-none b e t = let same : n + m ≡ n = omega (arith, eqb-true m 0 t) in e ∙ ap (λ (k : ℕ). eqb k 0) (sym same)
+
+  pub no-longer-none : eqb m 0 ≡ false → false ≡ eqb (n + m) 0
+  no-longer-none f = let z = eqb-false m 0 f in sym (ne-eqb (n + m) 0 (λ q. z (omega (arith, q))))

@@ -7,8 +7,8 @@ use Prim.Native.Nat.{ℕ, suc, _+_, _-_, _≤_, _<_}
 use native.Mathlib.Numerals.{add-one}
 use native.Mathlib.Omega.{arith}
 use lib.Dec.{eqb}
-use lib.ListN.{length, getD, take, drop, length-take, length-drop}
-use lib.Seq.{length-take-le, take-suc, take-add, split-at, take-all, take-at}
+use lib.ListN.{length, getD, take, drop, length-take, length-drop, take-append-drop}
+use lib.Seq.{length-take-le, take-suc, take-add, split-at, take-all, take-at, drop-drop}
 use borrow.Author.Tests.{ne-eqb}
 use Rattle.walsh.proofs.Cases.{on-test, on-less}
 use Rattle.model.specs.Basics.{howMany, firstPlace}
@@ -21,7 +21,7 @@ equals v x = eqb x v
 module _ {A : Type 0} (test : A → Bool) where
   -- ---- counts
 
-  many-most : (l : List A) → howMany test l ≤ length l
+  pub many-most : (l : List A) → howMany test l ≤ length l
   many-most [] = omega arith
   many-most (x ∷ l) = let h = many-most l in on-test (test x) (λ t. rw t (omega arith)) (λ t. rw t (omega arith))
 
@@ -34,6 +34,10 @@ module _ {A : Type 0} (test : A → Bool) where
       → n + a ≡ howMany test (take (i + 1) l)
   many-more l i n a d h e f = rw (add-one i, take-suc l i d h, many-snoc (take i l) (getD l i d), e, f)
 
+  -- the first k, and those behind them
+  pub many-parts : (l : List A) (k : ℕ) → howMany test l ≡ howMany test (take k l) + howMany test (drop k l)
+  many-parts l k = ap (howMany test) (sym (take-append-drop k l)) ∙ many-append test (take k l) (drop k l)
+
   -- a block more, up to place j
   pub many-block : (l : List A) (i j n a : ℕ) → i ≤ j → n ≡ howMany test (take i l) → a ≡ howMany test (take (j - i) (drop i l))
       → n + a ≡ howMany test (take j l)
@@ -42,12 +46,34 @@ module _ {A : Type 0} (test : A → Bool) where
       rw (e, f) (sym (many-append test (take i l) (take (j - i) (drop i l))) ∙ ap (howMany test) (sym (take-add i (j - i) l)))
       ∙ ap (λ (k : ℕ). howMany test (take k l)) all
 
-  pub many-few : (l : List A) (j n : ℕ) → n ≡ howMany test (take j l) → n ≤ j
-  many-few l j n e = omega (arith, e, many-most (take j l), length-take j l)
-
   -- all are counted
   pub many-all : (l : List A) (i n : ℕ) → length l ≤ i → n ≡ howMany test (take i l) → n ≡ howMany test l
   many-all l i n h e = e ∙ ap (howMany test) (take-all i l h)
+
+  pub many-few : (l : List A) (j n : ℕ) → n ≡ howMany test (take j l) → n ≤ j
+  many-few l j n e = omega (arith, e, many-most (take j l), length-take j l)
+
+  -- the first i, and i from place h on
+  module _ (l : List A) (h : ℕ) where
+    abbrev pub streams : ℕ → ℕ
+    streams i = howMany test (take i l) + howMany test (take i (drop h l))
+
+    -- a block more of each, up to place j
+    pub streams-more : (i j : ℕ) → i ≤ j
+        → streams i + (howMany test (take (j - i) (drop i l)) + howMany test (take (h + j - (h + i)) (drop (h + i) l))) ≡ streams j
+    streams-more i j k =
+        let wide : h + j - (h + i) ≡ j - i = omega arith in
+        let there : howMany test (take (h + j - (h + i)) (drop (h + i) l)) ≡ howMany test (take (j - i) (drop i (drop h l))) =
+        rw (wide, drop-drop i h l) in
+        let low = many-block l i j _ _ k refl refl in
+        let high = many-block (drop h l) i j _ _ k refl there in
+        omega (arith, low, high)
+
+    pub streams-few : (i : ℕ) → streams i ≤ i + i
+    streams-few i = omega (arith, many-few l i _ refl, many-few (drop h l) i _ refl)
+
+    pub streams-all : (i : ℕ) → i ≡ h → streams i ≡ howMany test (take (h + h) l)
+    streams-all i e = rw e (sym (ap (howMany test) (take-add h h l) ∙ many-append test (take h l) (take h (drop h l))))
 
   -- whether none passes: of a block more, up to place j
   module _ (l : List A) (i j : ℕ) (h : i ≤ j) where

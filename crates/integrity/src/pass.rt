@@ -6,7 +6,7 @@ ghost use Prim.Native.Nat.{_+_, _-_, _≤_};
 ghost use lib.Dec.{eqb};
 ghost use lib.ListN.{length, take, drop};
 ghost use Rattle.bounds.specs.Places.{mostEntries};
-ghost use Rattle.walsh.specs.Tests.{times};
+ghost use Rattle.walsh.specs.Tests.{times, both};
 ghost use Rattle.model.specs.Basics.{firstPlace};
 ghost use Rattle.model.specs.Entry.{entry, pairs, sameOrder, voidedIn, unsoundIn};
 use crate::sound;
@@ -18,6 +18,12 @@ pub(crate) const BLOCK: usize = 1024;
 pub(crate) struct Counts {
     pub(crate) zeros: u32,
     pub(crate) hits: u32,
+}
+
+// How many orders of one block are 0, and of another.
+struct Voided {
+    low: u32,
+    high: u32,
 }
 
 // How many lines are spoilt, and whether none is unsound.
@@ -53,6 +59,25 @@ fn zeros(orders: &[u32]) -> u32
         i += 1;
     }
     voided
+}
+
+// The same of two blocks as long as each other: two orders at a time, so that the speed of so short a loop does not hang on where the compiler puts it.
+fn twin_zeros(low: &[u32], high: &[u32]) -> Voided
+    requires { ⌜ (length (now high) ≡ length (now low)) × (length (now low) ≤ mostEntries) ⌝ }
+    ensures { λ r. ⌜ (r .low ≡ times 0 (now (low .entry))) × (r .high ≡ times 0 (now (high .entry))) ⌝ }
+{
+    let mut first: u32 = 0;
+    let mut second: u32 = 0;
+    let mut i: usize = 0;
+    while i < low.len() {
+        first += one(low[i], 0);
+        second += one(high[i], 0);
+        i += 1;
+    }
+    Voided {
+        low: first,
+        high: second,
+    }
 }
 
 pub(crate) fn count(block: &[u32], order: u32) -> Counts
@@ -110,18 +135,49 @@ pub(crate) fn block(orders: &[u32], items: &[u8]) -> Scanned
     }
 }
 
-pub(crate) fn scan(orders: &[u32], items: &[u8]) -> Scanned
-    requires { ⌜ (length (now items) ≡ length (now orders)) × (length (now orders) ≤ mostEntries) ⌝ }
-    ensures { λ r. ⌜ (r .zeros ≡ voidedIn (pairs (now (orders .entry)) (now (items .entry))))
-        × (r .sound ≡ eqb (unsoundIn (pairs (now (orders .entry)) (now (items .entry)))) 0) ⌝ }
+fn both(a: bool, b: bool) -> bool
+    ensures { λ r. ⌜ r ≡ both a b ⌝ }
 {
-    let n = orders.len();
+    if a { b } else { false }
+}
+
+// The same of two blocks as long as each other.
+fn twins(orders: &[u32], items: &[u8], high: &[u32], itemlines: &[u8]) -> Scanned
+    requires { ⌜ (length (now items) ≡ length (now orders)) × (length (now itemlines) ≡ length (now high))
+        × (length (now high) ≡ length (now orders)) × (length (now orders) ≤ mostEntries) ⌝ }
+    ensures { λ r. ⌜ (r .zeros ≡ voidedIn (pairs (now (orders .entry)) (now (items .entry)))
+        + voidedIn (pairs (now (high .entry)) (now (itemlines .entry))))
+        × (r .sound ≡ both (eqb (unsoundIn (pairs (now (orders .entry)) (now (items .entry)))) 0)
+        (eqb (unsoundIn (pairs (now (high .entry)) (now (itemlines .entry)))) 0)) ⌝ }
+{
+    let zeros = twin_zeros(orders, high);
+    let first = sound::sound(orders, items, zeros.low);
+    let second = sound::sound(high, itemlines, zeros.high);
+    Scanned {
+        zeros: (zeros.low + zeros.high) as u64,
+        sound: both(first, second),
+    }
+}
+
+// The lines in two halves, a block of each at a time.
+fn halves(orders: &[u32], items: &[u8], half: usize) -> Scanned
+    requires { ⌜ (length (now items) ≡ length (now orders)) × (length (now orders) ≤ mostEntries) × (half + half ≤ length (now orders)) ⌝ }
+    ensures { λ r. ⌜ (r .zeros ≡ voidedIn (take (half + half) (pairs (now (orders .entry)) (now (items .entry)))))
+        × (r .sound ≡ eqb (unsoundIn (take (half + half) (pairs (now (orders .entry)) (now (items .entry))))) 0) ⌝ }
+{
     let mut zeros: u64 = 0;
     let mut sound = true;
     let mut i: usize = 0;
-    while i < n {
-        let to = i + walsh::lesser(n - i, BLOCK);
-        let part = block(&orders[i..to], &items[i..to]);
+    while i < half {
+        let to = i + walsh::lesser(half - i, BLOCK);
+        let from = half + i;
+        let end = half + to;
+        let part = twins(
+            &orders[i..to],
+            &items[i..to],
+            &orders[from..end],
+            &items[from..end],
+        );
         zeros += part.zeros;
         if !part.sound {
             sound = false;
@@ -129,6 +185,25 @@ pub(crate) fn scan(orders: &[u32], items: &[u8]) -> Scanned
         i = to;
     }
     Scanned { zeros, sound }
+}
+
+// All lines: an odd number has one more than its halves.
+pub(crate) fn scan(orders: &[u32], items: &[u8]) -> Scanned
+    requires { ⌜ (length (now items) ≡ length (now orders)) × (length (now orders) ≤ mostEntries) ⌝ }
+    ensures { λ r. ⌜ (r .zeros ≡ voidedIn (pairs (now (orders .entry)) (now (items .entry))))
+        × (r .sound ≡ eqb (unsoundIn (pairs (now (orders .entry)) (now (items .entry)))) 0) ⌝ }
+{
+    let half = orders.len() / 2;
+    let even = half + half;
+    let most = halves(orders, items, half);
+    if even == orders.len() {
+        return most;
+    }
+    let last = block(&orders[even..], &items[even..]);
+    Scanned {
+        zeros: most.zeros + last.zeros,
+        sound: both(most.sound, last.sound),
+    }
 }
 
 // Where the lines of a block leave a search that has come to their first: at their end where no order among them is the one that is looked for.

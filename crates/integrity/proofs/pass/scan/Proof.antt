@@ -1,104 +1,94 @@
--- `integrity::pass::scan` meets its contract: the first i lines are looked at.
-use mathlib.Core.Path.{_≡_, refl, sym, ap, _∙_}
+-- `integrity::pass::scan` meets its contract: the halves are looked at, and the last line where there is one more.
+use mathlib.Core.Path.{_≡_, sym, ap, _∙_}
 use mathlib.Core.List.{List}
-use Prim.Native.Nat.{ℕ, _+_, _-_, _≤_}
+use Prim.Native.Nat.{ℕ, _+_, _-_, _/_}
 use native.Mathlib.Omega.{arith}
 use lib.Dec.{eqb}
-use lib.ListN.{length, take, drop, length-take}
+use lib.ListN.{length, take, drop, length-drop}
 use lib.Seq.{take-all}
 use denote.Ref.{now}
 use borrow.Author.Needs.{needs}
-use borrow.Author.Tests.{eqb-true, eqb-false, not-true, not-false}
+use Rattle.walsh.specs.Tests.{both}
 use Rattle.model.specs.Entry.{Entry, isVoided, isUnsound, voidedIn, unsoundIn, pairs}
-use Rattle.integrity.proofs.Pairs.{pairs-length, part-lines, part-even}
-use Rattle.integrity.proofs.Places.{many-block, many-all, many-few, none-more, none-never}
+use Rattle.integrity.proofs.Pairs.{pairs-length, drop-pairs, none-both}
+use Rattle.integrity.proofs.Places.{many-parts, many-most}
 use Rattle.integrity.proofs.pass.scan.Statement.{statement}
 use Rattle.integrity.proofs.pass.scan.Tie as tie
 
-abbrev Inv-loop : tie.InvT-loop
-Inv-loop orders items n zeros₀ sound₀ i₀ zeros sound i =
-    (zeros ≡ voidedIn (take i (pairs orders items))) × (sound ≡ eqb (unsoundIn (take i (pairs orders items))) 0) × (zeros ≤ i) × (i ≤ length orders)
+-- what goes in, and where its halves end
+module _ (s : tie.Start) where
+  abbrev os : List ℕ
+  os = now (s .args .orders)
 
-abbrev μ-loop : tie.MeasureT-loop
-μ-loop orders items n zeros₀ sound₀ i₀ zeros sound i = length orders - i
-
--- a block ends within the lines
-ends : (c : tie.After-lesser Inv-loop μ-loop) → c .before .before .loop .i + c .lesser .result ≤ length (now (c .before .before .before .before .before .args .orders))
-ends c = omega (arith, c .lesser .ensures)
-
-block-requires : tie.Need-block-requires Inv-loop μ-loop
-block-requires c κs =
-    let at = c .before .before .before .before .loop in
-    let start = c .before .before .before .before .before .before .before in
-    let n = at .i + c .before .before .lesser .result - at .i in
-    let l = length-take n (drop (at .i) (now (start .args .orders))) in
-    (part-even n (at .i) (now (start .args .orders)) (now (start .args .items)) (start .pre .0), omega (arith, l, ends (c .before .before), start .pre .1))
-
--- the lines up to a block's end
-module _ (c : tie.After-block Inv-loop μ-loop) where
-  abbrev from : ℕ
-  from = c .before .before .before .before .before .loop .i
-
-  abbrev to : ℕ
-  to = from + c .before .before .before .lesser .result
+  abbrev is : List ℕ
+  is = now (s .args .items)
 
   abbrev lines : List Entry
-  lines = pairs (now (c .before .before .before .before .before .before .before .before .args .orders)) (now (c .before .before .before .before .before .before .before .before .args .items))
+  lines = pairs os is
 
-  zeros-so-far : c .before .before .before .before .before .loop .zeros + c .block .result .zeros ≡ voidedIn (take to lines)
-  zeros-so-far =
-      many-block isVoided lines from to _ _ (omega arith) (c .before .before .before .before .before .loop .inv .0)
-      (c .block .ensures .0 ∙ ap voidedIn (sym (part-lines (to - from) from _ _)))
+  abbrev even : ℕ
+  even = length os / 2 + length os / 2
 
-  part-sound : c .block .result .sound ≡ eqb (unsoundIn (take (to - from) (drop from lines))) 0
-  part-sound = c .block .ensures .1 ∙ ap (λ (l : List Entry). eqb (unsoundIn l) 0) (sym (part-lines (to - from) from _ _))
+  -- from there on the part is all of the rest
+  back : take (length os - even) (drop even os) ≡ drop even os
+  back = take-all (length os - even) (drop even os) (omega (arith, length-drop even os))
 
-  few : c .before .before .before .before .before .loop .zeros + c .block .result .zeros ≤ to
-  few = many-few isVoided lines _ _ zeros-so-far
+  back-items : take (length is - even) (drop even is) ≡ drop even is
+  back-items = take-all (length is - even) (drop even is) (omega (arith, length-drop even is))
 
-loop-again : tie.Need-loop-again Inv-loop μ-loop
-loop-again c =
-    let b = c .before .before .before in
-    let no = eqb-false _ 0 (sym (part-sound b) ∙ not-true _ (c .if1 .taken)) in
-    (zeros-so-far b, none-never isUnsound (lines b) (from b) (to b) (omega arith) no, few b, ends (b .before .before .before))
+  rest : pairs (take (length os - even) (drop even os)) (take (length is - even) (drop even is)) ≡ drop even lines
+  rest = (λ i. pairs (back i) (back-items i)) ∙ sym (drop-pairs even os is)
 
-loop-again-2 : tie.Need-loop-again-2 Inv-loop μ-loop
-loop-again-2 c =
-    let b = c .before .before .before in
-    let yes = eqb-true _ 0 (sym (part-sound b) ∙ not-false _ (c .if1 .left)) in
-    (zeros-so-far b, none-more isUnsound (lines b) (from b) (to b) (omega arith) _ (b .before .before .before .before .before .loop .inv .1) yes, few b, ends (b .before .before .before))
-
-returns : tie.Need-returns Inv-loop μ-loop
+returns : tie.Need-returns
 returns c =
-    let at = c .before .loop in
-    let start = c .before .before .before .before in
-    let l = pairs (now (start .args .orders)) (now (start .args .items)) in
-    let h : length l ≤ at .i = omega (arith, pairs-length (now (start .args .orders)) (now (start .args .items)) (start .pre .0), c .loop-test .left) in (
-      many-all isVoided l (at .i) _ h (at .inv .0),
-      at .inv .1 ∙ ap (λ (m : List Entry). eqb (unsoundIn m) 0) (take-all (at .i) l h),
+    let s = c .before .before .before .before in
+    let all = take-all (even s) (lines s) (omega (arith, pairs-length (os s) (is s) (s .pre .0), c .if1 .taken)) in
+    let h = c .before .halves .ensures in
+    (h .0 ∙ ap voidedIn all, h .1 ∙ ap (λ (l : List Entry). eqb (unsoundIn l) 0) all)
+
+block-requires : tie.Need-block-requires
+block-requires c κs =
+    let s = c .before .before .before .before .before .before in
+    let o = ap length (back s) ∙ length-drop (even s) (os s) in
+    let i = ap length (back-items s) ∙ length-drop (even s) (is s) in
+    (omega (arith, o, i, s .pre .0), omega (arith, o, s .pre .1))
+
+-- the spoilt lines of both parts
+zeros : (c : tie.After-block) → let s = c .before .before .before .before .before .before .before in c .before .before .before .before .halves .result .zeros + c .block .result .zeros ≡ voidedIn (lines s)
+zeros c =
+    let s = c .before .before .before .before .before .before .before in
+    (λ i. (c .before .before .before .before .halves .ensures .0) i + (c .block .ensures .0 ∙ ap voidedIn (rest s)) i) ∙ sym (many-parts isVoided (lines s) (even s))
+
+returns-2 : tie.Need-returns-2
+returns-2 c =
+    let b = c .before .before .before in
+    let s = b .before .before .before .before .before .before .before in
+    let first = b .before .before .before .before .halves .ensures .1 in
+    let second = b .block .ensures .1 ∙ ap (λ (l : List Entry). eqb (unsoundIn l) 0) (rest s) in
+    let parts = many-parts isUnsound (lines s) (even s) in (
+      zeros b,
+      c .both .ensures ∙ (λ i. both (first i) (second i))
+          ∙ sym (none-both (unsoundIn (take (even s) (lines s))) (unsoundIn (drop (even s) (lines s))))
+          ∙ ap (λ (n : ℕ). eqb n 0) (sym parts),
     )
 
 pub scan-spec : {M : Type 1} → statement M
 scan-spec =
     tie.close
     (tie.spec
-    Inv-loop
-    μ-loop
-    (λ c. (refl, refl, omega arith, omega arith))
-    (λ c. search needs)
-    (λ c κs. search needs)
-    (λ c. search needs)
+    (λ c. omega (arith, c .before .before .pre .1))
+    (λ c κs. let p = c .before .before .pre in (p .0, p .1, omega arith))
+    returns
+    (λ c. omega (arith, c .before .before .before .before .pre .1))
     (λ c. search needs)
     (λ c. search needs)
     (λ c. search needs)
-    (λ c. omega (arith, ends c))
+    (λ c. omega (arith, c .before .before .before .before .before .pre .0))
+    (λ c. omega (arith, c .before .before .before .before .before .pre .0))
     (λ c. search needs)
-    (λ c. omega (arith, ends (c .before), c .before .before .before .before .before .before .pre .0))
-    (λ c. omega (arith, ends (c .before), c .before .before .before .before .before .before .pre .0))
     block-requires
-    (λ c. omega (arith, few (c .before), ends (c .before .before .before .before), c .before .before .before .before .before .before .before .before .before .pre .1))
-    (λ c. search needs)
-    loop-again
-    (λ c. search needs)
-    loop-again-2
-    returns)
+    (λ c.
+    let b = c .before .before in
+    omega (arith, zeros b, many-most isVoided (lines (b .before .before .before .before .before .before .before)), pairs-length (os (b .before .before .before .before .before .before .before)) (is (b .before .before .before .before .before .before .before)) (b .before .before .before .before .before .before .before .pre .0), b .before .before .before .before .before .before .before .pre .1))
+    (λ c κs. search needs)
+    returns-2)
