@@ -129,17 +129,60 @@ fn orders(random: &mut Random, u: &[u8], r: u32, g: &[u8]) {
     }
 }
 
-/// A ledger of so many lines, some spoilt, over orders that now repeat and now do not.
-fn lines(random: &mut Random, u: &[u8], r: u32, count: u64) -> (peer::Ledger, Vec<u32>) {
-    let most = [50, 5_000, u32::MAX as u64][random.below(3) as usize];
-    let orders: Vec<u32> = (0..count).map(|_| if random.below(9) == 0 { 0 } else { random.below(most) as u32 }).collect();
-    let mut ledger = engine::open(u, r, &orders).ledger;
+/// The two columns of a register.
+#[derive(Clone, PartialEq, Debug)]
+struct Columns {
+    orders: Vec<u32>,
+    items: Vec<u8>,
+}
+
+impl Columns {
+    /// Some lines spoilt; orders that now repeat and now do not, with few item lines or many.
+    fn of(random: &mut Random, count: u64) -> Columns {
+        let (most, last) = ([50, 5_000, u32::MAX as u64][random.below(3) as usize], [2, 99][random.below(2) as usize]);
+        let orders: Vec<u32> = (0..count).map(|_| if random.below(9) == 0 { 0 } else { random.below(most) as u32 }).collect();
+        let items = orders.iter().map(|&o| if o == 0 { 0 } else { 1 + random.below(last) as u8 }).collect();
+        Columns { orders, items }
+    }
+
+    /// As they were, or with an item line of the first lines changed, or the item column cut or longer by one.
+    fn damaged(&self, random: &mut Random) -> Columns {
+        let mut columns = self.clone();
+        let at = random.below(columns.orders.len() as u64) as usize;
+        match random.below(60) {
+            0 => columns.items[at] = [0, 1, 99, 100, 255][random.below(5) as usize],
+            1 => columns.orders[at] ^= columns.orders[at].max(1),
+            2 => columns.items.truncate(at),
+            3 => columns.items.push(255),
+            _ => {}
+        }
+        columns
+    }
+
+    /// A line of the columns, or one with another item line or another order.
+    fn line(&self, random: &mut Random) -> (u32, u8) {
+        let at = random.below(self.orders.len() as u64) as usize;
+        let (order, item) = (self.orders[at], self.items.get(at).copied().unwrap_or(1));
+        match random.below(5) {
+            0 => (order, 1 + random.below(99) as u8),
+            1 => (random.below(60) as u32, item),
+            2 => (random.next() as u32, [1, 2, 99, 0, 100, 255][random.below(6) as usize]),
+            _ => (order, item),
+        }
+    }
+}
+
+/// A ledger of so many lines, and its columns.
+fn lines(random: &mut Random, u: &[u8], r: u32, count: u64) -> (peer::Ledger, Columns) {
+    let columns = Columns::of(random, count);
+    let orders = &columns.orders;
+    let mut ledger = engine::open(u, r, orders, &columns.items).ledger;
     ledger.entries = [0, random.below(count + 1), count - 1 - random.below(count.min(13))][random.below(3) as usize];
     ledger.voided = orders[..ledger.entries as usize].iter().filter(|&&o| o == 0).count() as u64;
     ledger.sold = ledger.entries - ledger.voided;
     let next = (ledger.entries + 1).min(count);
     assert_eq!(peer::unrank::<false>(u, r, next, &mut ledger.next[..u.len()]).number, 0);
-    (ledger, orders)
+    (ledger, columns)
 }
 
 /// A record as it was, or with a count or a cell changed.
@@ -157,42 +200,53 @@ fn spoilt(random: &mut Random, mut ledger: peer::Ledger) -> peer::Ledger {
     ledger
 }
 
-/// The orders of a bundle: mostly new ones, some of them with a slot that another or a line has too; then one that is 0, of the column, or of the
-/// bundle.
-fn bundle(random: &mut Random, orders: &[u32]) -> Vec<u32> {
+/// The lines of a bundle: mostly new ones, some of them with a slot or a number that another or a line has too; then one that has a fault, is of the
+/// columns, or of the bundle; at times an item line too many or too few.
+fn bundle(random: &mut Random, columns: &Columns) -> (Vec<u32>, Vec<u8>) {
     let size = [0, 1, 2, 39, 40, 41, 1 + random.below(40), 1 + random.below(12)][random.below(8) as usize];
-    let mut bundle: Vec<u32> = Vec::new();
+    let mut bundle: Vec<(u32, u8)> = Vec::new();
     for _ in 0..size {
-        let near = bundle.last().or(orders.first()).map_or(1, |o| o ^ 8192 << random.below(19));
-        bundle.push([random.next() as u32, random.next() as u32, near][random.below(3) as usize]);
+        let (last, item) = *bundle.last().unwrap_or(&(columns.orders[0], 1));
+        let new = random.next() as u32;
+        bundle.push([(new, item), (new, 1), (last ^ 8192 << random.below(19), item), (last, item % 99 + 1)][random.below(4) as usize]);
     }
     if size > 0 && random.below(2) == 0 {
         let at = random.below(size) as usize;
-        bundle[at] = [0, orders[random.below(orders.len() as u64) as usize], bundle[random.below(size) as usize]][random.below(3) as usize];
+        bundle[at] = [(0, 1), columns.line(random), bundle[random.below(size) as usize], (bundle[at].0, 100)][random.below(4) as usize];
     }
-    bundle
+    let (orders, mut items): (Vec<u32>, Vec<u8>) = bundle.into_iter().unzip();
+    match random.below(20) {
+        0 => items.push(1),
+        1 => _ = items.pop(),
+        _ => {}
+    }
+    (orders, items)
 }
 
 fn calls(random: &mut Random, u: &[u8], r: u32, count: u64) {
-    let (mut ledger, mut orders) = lines(random, u, r, count);
-    let mut copy = orders.clone();
+    let (mut ledger, mut columns) = lines(random, u, r, count);
     for _ in 0..12 {
         ledger = spoilt(random, ledger);
-        assert_eq!(engine::peek(ledger, &orders), peer::peek(ledger, &copy), "peek {u:?} {r} {ledger:?}");
+        let mut ours = columns.damaged(random);
+        let mut theirs = ours.clone();
+        assert_eq!(engine::peek(ledger, &ours.orders, &ours.items), peer::peek(ledger, &ours.orders, &ours.items), "peek {u:?} {r} {ledger:?}");
         let next = ledger.entries.wrapping_add(1);
         let serial = [next, next, next, ledger.entries, random.below(count + 2)][random.below(5) as usize];
-        // one of the column's, or any
-        let order = [orders[random.below(count) as usize], random.below(60) as u32, random.next() as u32][random.below(3) as usize];
-        let bundle = bundle(random, &orders);
+        let (order, item) = columns.line(random);
+        let (bundle, lines) = bundle(random, &columns);
+        let (x, y) = ((&mut ours.orders, &mut ours.items), (&mut theirs.orders, &mut theirs.items));
         let (a, b) = match random.below(6) {
-            0 => (engine::void(ledger, &mut orders, serial), peer::void(ledger, &mut copy, serial)),
+            0 => (engine::void(ledger, x.0, x.1, serial), peer::void(ledger, y.0, y.1, serial)),
             1 | 2 => {
                 let several = [peer::claim_all::<false>, peer::claim_all::<true>, peer::claim_all_by_passes][random.below(3) as usize];
-                (engine::claim_all(ledger, &mut orders, serial, &bundle), several(ledger, &mut copy, serial, &bundle))
+                (engine::claim_all(ledger, x.0, x.1, serial, (&bundle, &lines)), several(ledger, y.0, y.1, serial, (&bundle, &lines)))
             }
-            _ => (engine::claim(ledger, &mut orders, serial, order), peer::claim(ledger, &mut copy, serial, order)),
+            _ => (engine::claim(ledger, x.0, x.1, serial, order, item), peer::claim(ledger, y.0, y.1, serial, order, item)),
         };
-        assert_eq!((a, &orders), (b, &copy), "claim, void or claim of several {u:?} {r} {ledger:?} {serial} {order} {bundle:?}");
+        assert_eq!((a, &ours), (b, &theirs), "claim, void or claim of several {u:?} {r} {ledger:?} {serial} {order} {item} {bundle:?} {lines:?}");
+        if a.number == 0 {
+            columns = ours;
+        }
         ledger = a.ledger;
     }
 }

@@ -18,11 +18,31 @@ mod c {
         pub fn huz_inversions(u: Bounds, n: usize, r: u32, given: *const u8, len: usize, out: *mut u8, out_len: usize) -> Refusal;
         pub fn huz_major_permutation(u: Bounds, n: usize, r: u32, given: *const u8, len: usize, out: *mut u8, out_len: usize) -> Refusal;
         pub fn huz_major_code(u: Bounds, n: usize, r: u32, given: *const u8, len: usize, out: *mut u8, out_len: usize) -> Refusal;
-        pub fn huz_open(u: Bounds, n: usize, r: u32, orders: *const u32, len: usize) -> Opened;
-        pub fn huz_peek(ledger: Ledger, orders: *const u32, len: usize) -> Peeked;
-        pub fn huz_claim(ledger: Ledger, orders: *mut u32, len: usize, serial: u64, order: u32) -> Claimed;
-        pub fn huz_void(ledger: Ledger, orders: *mut u32, len: usize, serial: u64) -> Claimed;
-        pub fn huz_claim_all(ledger: Ledger, orders: *mut u32, len: usize, serial: u64, bundle: *const u32, count: usize) -> Claimed;
+        pub fn huz_open(u: Bounds, n: usize, r: u32, orders: *const u32, len: usize, items: *const u8, items_len: usize) -> Opened;
+        pub fn huz_peek(ledger: Ledger, orders: *const u32, len: usize, items: *const u8, items_len: usize) -> Peeked;
+        pub fn huz_claim(
+            ledger: Ledger,
+            orders: *mut u32,
+            len: usize,
+            items: *mut u8,
+            items_len: usize,
+            serial: u64,
+            order: u32,
+            item: u8,
+        ) -> Claimed;
+        pub fn huz_void(ledger: Ledger, orders: *mut u32, len: usize, items: *mut u8, items_len: usize, serial: u64) -> Claimed;
+        pub fn huz_claim_all(
+            ledger: Ledger,
+            orders: *mut u32,
+            len: usize,
+            items: *mut u8,
+            items_len: usize,
+            serial: u64,
+            bundle: *const u32,
+            count: usize,
+            bundle_items: *const u8,
+            bundle_items_len: usize,
+        ) -> Claimed;
     }
 }
 
@@ -66,22 +86,24 @@ pub fn major_code(upper: &[u8], total: u32, p: &[u8], out: &mut [u8]) -> Refusal
     unsafe { c::huz_major_code(upper.as_ptr(), upper.len(), total, p.as_ptr(), p.len(), out.as_mut_ptr(), out.len()) }
 }
 
-pub fn open(upper: &[u8], total: u32, orders: &[u32]) -> Opened {
-    unsafe { c::huz_open(upper.as_ptr(), upper.len(), total, orders.as_ptr(), orders.len()) }
+pub fn open(upper: &[u8], total: u32, orders: &[u32], items: &[u8]) -> Opened {
+    unsafe { c::huz_open(upper.as_ptr(), upper.len(), total, orders.as_ptr(), orders.len(), items.as_ptr(), items.len()) }
 }
 
-pub fn peek(ledger: Ledger, orders: &[u32]) -> Peeked {
-    unsafe { c::huz_peek(ledger, orders.as_ptr(), orders.len()) }
+pub fn peek(ledger: Ledger, orders: &[u32], items: &[u8]) -> Peeked {
+    unsafe { c::huz_peek(ledger, orders.as_ptr(), orders.len(), items.as_ptr(), items.len()) }
 }
 
-pub fn claim(ledger: Ledger, orders: &mut [u32], serial: u64, order: u32) -> Claimed {
-    unsafe { c::huz_claim(ledger, orders.as_mut_ptr(), orders.len(), serial, order) }
+pub fn claim(ledger: Ledger, orders: &mut [u32], items: &mut [u8], serial: u64, order: u32, item: u8) -> Claimed {
+    unsafe { c::huz_claim(ledger, orders.as_mut_ptr(), orders.len(), items.as_mut_ptr(), items.len(), serial, order, item) }
 }
 
-pub fn void(ledger: Ledger, orders: &mut [u32], serial: u64) -> Claimed {
-    unsafe { c::huz_void(ledger, orders.as_mut_ptr(), orders.len(), serial) }
+pub fn void(ledger: Ledger, orders: &mut [u32], items: &mut [u8], serial: u64) -> Claimed {
+    unsafe { c::huz_void(ledger, orders.as_mut_ptr(), orders.len(), items.as_mut_ptr(), items.len(), serial) }
 }
 
-pub fn claim_all(ledger: Ledger, orders: &mut [u32], serial: u64, bundle: &[u32]) -> Claimed {
-    unsafe { c::huz_claim_all(ledger, orders.as_mut_ptr(), orders.len(), serial, bundle.as_ptr(), bundle.len()) }
+pub fn claim_all(ledger: Ledger, orders: &mut [u32], items: &mut [u8], serial: u64, (bundle, lines): (&[u32], &[u8])) -> Claimed {
+    let (len, items_len) = (orders.len(), items.len());
+    let (orders, items) = (orders.as_mut_ptr(), items.as_mut_ptr());
+    unsafe { c::huz_claim_all(ledger, orders, len, items, items_len, serial, bundle.as_ptr(), bundle.len(), lines.as_ptr(), lines.len()) }
 }

@@ -336,6 +336,7 @@ fn main() {
     register::bundles(&mut table, &long, 1);
     listing(&mut table, ours, theirs, folder, &long);
     register::club(&million, &[1, 1_000, 999_000]);
+    register::second_column(&million, &[1, 1_000, 999_999]);
     sqlite::compare(&million, &[1, 1_000, 999_999], folder);
     println!("\n## Over 1.05\n");
     println!("{}", if table.over.is_empty() { "No row.".into() } else { format!("- {}", table.over.join("\n- ")) });

@@ -30,7 +30,9 @@ pub struct Beside {
 impl Beside {
     /// How many times the time of the first the second takes, and its quartiles.
     pub fn factor(&self) -> String {
-        format!("{:.1}, {:.1} to {:.1}", 1.0 / self.ratio.median, 1.0 / self.ratio.high, 1.0 / self.ratio.low)
+        let [median, low, high] = [self.ratio.median, self.ratio.high, self.ratio.low].map(|ratio| 1.0 / ratio);
+        let places = if median < 5.0 { 2 } else { 1 };
+        format!("{median:.places$}, {low:.places$} to {high:.places$}")
     }
 }
 

@@ -1,5 +1,5 @@
-//! A claim as an insert into SQLite: a table with the serial for its primary key and a unique order, one transaction a claim. The library is opened
-//! while running, so that nothing of it is needed to build.
+//! A claim as an insert into SQLite: a table with the serial for its primary key, and order and item line unique together, one transaction a claim.
+//! The library is opened while running, so that nothing of it is needed to build.
 use std::ffi::{CStr, CString, c_char, c_int, c_void};
 use std::hint::black_box;
 use std::time::{Duration, Instant};
@@ -67,8 +67,8 @@ impl Claims<'_> {
         let path = CString::new(path).unwrap();
         assert_eq!(unsafe { (sqlite.open)(path.as_ptr(), &mut db) }, 0);
         let mut table = Claims { sqlite, db, insert, entries };
-        table.exec("create table line(serial integer primary key, number integer not null unique)");
-        let text = c"insert into line values(?, ?)";
+        table.exec("create table line(serial integer primary key, number integer not null, item integer not null, unique(number, item))");
+        let text = c"insert into line values(?, ?, ?)";
         assert_eq!(unsafe { (sqlite.prepare)(db, text.as_ptr(), -1, &mut insert, std::ptr::null()) }, 0);
         table.insert = insert;
         table.exec("begin");
@@ -87,6 +87,7 @@ impl Claims<'_> {
             (self.sqlite.bind)(self.insert, 1, serial as i64);
             // an order number that no other line has, in no order
             (self.sqlite.bind)(self.insert, 2, (serial as u32).wrapping_mul(2_654_435_761) as i64);
+            (self.sqlite.bind)(self.insert, 3, 1);
             assert_eq!((self.sqlite.step)(self.insert), 101);
             (self.sqlite.reset)(self.insert);
         }
@@ -135,7 +136,7 @@ pub fn compare(e: &Edition, entries: &[u64], folder: &str) {
     let mut table = Table::new("SQLite in memory");
     for &entries in entries {
         let (mut ours, theirs) = (Opened::with(e, entries), Claims::with(&sqlite, ":memory:", entries));
-        let ours = run(clock::own, move |_| _ = black_box(ours.claim(NEW)));
+        let ours = run(clock::own, move |_| _ = black_box(ours.claim(NEW, 1)));
         table.row(&with("claim", entries), turns(ours, || theirs.run(clock::own, 50)));
     }
     on_disk(&sqlite, entries, folder);

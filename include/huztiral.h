@@ -20,7 +20,7 @@
 extern "C" {
 #endif
 
-#define HUZ_VERSION 1300 /* of this header, 0.13.0: major * 10000 + minor * 100 + patch */
+#define HUZ_VERSION 1400 /* of this header, 0.14.0: major * 10000 + minor * 100 + patch */
 #define HUZ_PARTS 24 /* the most kinds of an edition; the arrays in the structures have as many cells, and those past n are 0 */
 
 /* The numbers of answers: what each means, and its detail where that is not 0. */
@@ -40,16 +40,17 @@ enum huz_number {
     HUZ_INVERSIONS_NOT_TOTAL = 12,  /* the inversions of the sheet order given are not as many as the total */
     HUZ_OUTPUT_LENGTH = 13,         /* the memory lent for the answer is not exactly as long as the answer */
     HUZ_COUNT_ABOVE_MILLION = 14,   /* the edition has more than 1,000,000 mixes */
-    HUZ_COLUMN_TOO_SHORT = 15,      /* the column has fewer entries than the edition has mixes */
-    HUZ_LEDGER_INCONSISTENT = 16,   /* the record and the column do not belong together */
+    HUZ_COLUMN_TOO_SHORT = 15,      /* a column has fewer entries than the edition has mixes */
+    HUZ_LEDGER_INCONSISTENT = 16,   /* the record and the columns do not belong together */
     HUZ_NO_ORDER = 17,              /* the order number is 0 */
     HUZ_ALREADY_WRITTEN = 18,       /* the serial is already written; detail: the order number on its line, 0 if it is spoilt */
     HUZ_ABOVE_NEXT = 19,            /* the serial is above the next one; detail: the next serial */
-    HUZ_ORDER_STANDS_EARLIER = 20,  /* the order number stands earlier, on a line or in the bundle; detail: the lowest serial that it has there */
+    HUZ_ORDER_STANDS_EARLIER = 20,  /* the order number stands earlier with this item line, on a line or in the bundle; detail: the lowest such serial */
     HUZ_ALL_WRITTEN = 21,           /* every serial is written */
     HUZ_NOT_A_REQUEST = 22,         /* the slip does not have the form that the listing program reads */
     HUZ_MAJOR_INDEX_NOT_TOTAL = 23, /* the major index of the sheet order given is not the total */
-    HUZ_BUNDLE_LENGTH = 24          /* the bundle has no orders, or more than 40 */
+    HUZ_BUNDLE_LENGTH = 24,         /* the bundle has no orders, or more than 40, or not as many item lines as orders */
+    HUZ_ITEM_LINE = 25              /* the item line is 0 or over 99 */
 };
 
 /* An edition, as a record keeps it: the number of kinds n, their ceilings, the total. (bounds::Bounds) */
@@ -180,30 +181,39 @@ huz_done huz_major_permutation(const uint8_t *upper, size_t parts, uint32_t tota
 /* Sheet order to mix by major index, written to `out`, exactly n bytes. Refusals: 1 to 5, 10, 11, 23, 13. */
 huz_done huz_major_code(const uint8_t *upper, size_t parts, uint32_t total, const uint8_t *permutation, size_t len, uint8_t *out, size_t out_len);
 
-/* The register. The caller keeps its record and its column: `orders` and `len` are the column of order numbers, where
- * orders[s - 1] is the line of serial s. Calls on one register come one after another, each with the record that the call
- * before it answered or updated: threads and processes that share a register hold a lock of the caller's over each call. */
+/* The register. The caller keeps its record and its two columns, `len` order numbers and `items_len` item lines: the line of
+ * serial s is orders[s - 1] and items[s - 1]. An item line, 1 to 99, tells the copies on one order apart: of two copies in a
+ * basket one is sold on its order number and item line 1, the other on the same number and item line 2. A spoilt line has 0
+ * in both columns. Entries past the lines written are not looked at, whatever they are, and keep their values.
+ *
+ * Calls on one register come one after another, each with the record that the call before it answered or updated, and with
+ * the columns as it left them: threads and processes that share a register hold a lock of the caller's over each call.
+ *
+ * A register that was kept before there were item lines (until version 0.13.0) has an order column alone. Give it an item
+ * column with 1 beside each order number and 0 beside each 0; the record stays as it is. */
 
-/* Opens a register: a new record. The column needs N entries; none is written. Refusals: 1 to 5, 14, 15. */
-huz_opened huz_open(const uint8_t *upper, size_t parts, uint32_t total, const uint32_t *orders, size_t len);
+/* Opens a register: a new record. Each column needs N entries; none is written. Refusals: 1 to 5, 14, 15. */
+huz_opened huz_open(const uint8_t *upper, size_t parts, uint32_t total, const uint32_t *orders, size_t len, const uint8_t *items, size_t items_len);
 /* Look: the next serial, its mix and its pair. Refusals: 16, 21. */
-huz_peeked huz_peek(huz_ledger ledger, const uint32_t *orders, size_t len);
-/* Take: writes the order number into the line of the serial. Refusals: 16, 17, 6, 18, 19, 20. */
-huz_claimed huz_claim(huz_ledger ledger, uint32_t *orders, size_t len, uint64_t serial, uint32_t order);
-/* Spoil: writes 0 into the line of the serial. Refusals: 16, 6, 18, 19. */
-huz_claimed huz_void(huz_ledger ledger, uint32_t *orders, size_t len, uint64_t serial);
+huz_peeked huz_peek(huz_ledger ledger, const uint32_t *orders, size_t len, const uint8_t *items, size_t items_len);
+/* Take: writes the order number and the item line into the line of the serial. Refusals: 16, 17, 25, 6, 18, 19, 20. */
+huz_claimed huz_claim(huz_ledger ledger, uint32_t *orders, size_t len, uint8_t *items, size_t items_len, uint64_t serial, uint32_t order, uint8_t item);
+/* Spoil: writes 0 and 0 into the line of the serial. Refusals: 16, 6, 18, 19. */
+huz_claimed huz_void(huz_ledger ledger, uint32_t *orders, size_t len, uint8_t *items, size_t items_len, uint64_t serial);
 /* A bundle, for a club that wants consecutive serials or nothing: what takes of `serial`, `serial` + 1 and so on do, one for
- * each of the `count` order numbers in `bundle`, 1 to 40, if all of them would be accepted, each after those before it. Else
- * it answers the refusal of the first that would fail, and no line is written; so an order number that stands twice in the
- * bundle is 20, with the serial that the first of the two would have had. Refusals: 16, 24, 17, 6, 18, 19, 20. */
-huz_claimed huz_claim_all(huz_ledger ledger, uint32_t *orders, size_t len, uint64_t serial, const uint32_t *bundle, size_t count);
+ * each of the `count` order numbers in `bundle`, 1 to 40, with the item line at the same place in `bundle_items`, if all of
+ * them would be accepted, each after those before it. Else it answers the refusal of the first that would fail, and no line
+ * is written; so an order number that stands twice in the bundle with one item line is 20, with the serial that the first of
+ * the two would have had. `bundle_items_len` is `count`, else it is 24. Refusals: 16, 24, 17, 25, 6, 18, 19, 20. */
+huz_claimed huz_claim_all(huz_ledger ledger, uint32_t *orders, size_t len, uint8_t *items, size_t items_len, uint64_t serial,
+                          const uint32_t *bundle, size_t count, const uint8_t *bundle_items, size_t bundle_items_len);
 /* Take and spoil on a lent record: `ledger` points to it, and an accepted call updates it there (the bytes between two
  * fields may change as well); a refused call writes no byte, none between two fields either. They answer what
  * huz_claim and huz_void answer, and both forms may be used in turn on one register. */
-huz_answer huz_claim_in(huz_ledger *ledger, uint32_t *orders, size_t len, uint64_t serial, uint32_t order);
-huz_answer huz_void_in(huz_ledger *ledger, uint32_t *orders, size_t len, uint64_t serial);
-/* How many lines are written, from the first entry of the column on; 0 where refusal 16 would be given. */
-uint64_t huz_entries(huz_ledger ledger, const uint32_t *orders, size_t len);
+huz_answer huz_claim_in(huz_ledger *ledger, uint32_t *orders, size_t len, uint8_t *items, size_t items_len, uint64_t serial, uint32_t order, uint8_t item);
+huz_answer huz_void_in(huz_ledger *ledger, uint32_t *orders, size_t len, uint8_t *items, size_t items_len, uint64_t serial);
+/* How many lines are written, from the first entry of both columns on; 0 where refusal 16 would be given. */
+uint64_t huz_entries(huz_ledger ledger, const uint32_t *orders, size_t len, const uint8_t *items, size_t items_len);
 
 #ifdef __cplusplus
 }

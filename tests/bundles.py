@@ -7,45 +7,50 @@ from cases import compare, lend
 from lent import Lent, call, called, flat, ledger_of
 
 SIZES = 1, 2, 39, 40
-FAULTS = "17", "6", "20 of a line", "20 of the bundle"
+FAULTS = "17", "25", "6", "20 of a line", "20 of the bundle"
 EDITIONS = ((5, 4, 3, 3), 7), ((0, 5, 4, 0, 3, 3), 7)  # the second with kinds withdrawn
-came_up = Counter()  # by size, by one of the FAULTS, or another number, and by the place, from 0, of the take that fails
+came_up = Counter()  # by number of orders, by one of the FAULTS, or another number, and by the place, from 0, of the take that fails
+uneven = Counter()  # of 24 where orders are 1 to 40: whether there are no item lines, fewer than orders, or more
 met = Counter()  # in interleavings: what happened to a bundle
 
 
-def first_failing(record, column, serial, orders):
-    """the number of the first take that would fail, of 20 with where the order stands, and its place in the bundle"""
-    n, upper, r, lines = record[:4]
-    paper = ref.Paper(upper[:n], r, column[:lines])
-    for place, order in enumerate(orders):
-        number, detail, *_ = paper.take(serial + place, order)
+def first_failing(record, column, items, serial, lines):
+    """the number of the first take that would fail, of 20 with where the line stands, and its place in the bundle"""
+    n, upper, r, written = record[:4]
+    paper = ref.Paper(upper[:n], r, zip(column[:written], items[:written]))
+    for place, line in enumerate(lines):
+        number, detail, *_ = paper.take(serial + place, *line)
         if number:
             return str(number) + (" of a line" if detail < serial else " of the bundle") * (number == 20), place
     return "0", None
 
 
-def one_after_another(record, column, serial, orders):
-    """single takes of the engine: what a bundle has to answer, the record and the column afterwards"""
-    ledger, lent, answers = ledger_of(record), Lent(column, 4), []
-    for at, order in enumerate(orders, serial):
-        answer = called("huz_claim", ledger, lent, at & inputs.LARGEST, order)
+def one_after_another(record, column, items, serial, lines):
+    """single takes of the engine: what a bundle has to answer, the record and the columns afterwards"""
+    ledger, lent, answers = ledger_of(record), (Lent(column, 4), Lent(items)), []
+    for at, line in enumerate(lines, serial):
+        answer = called("huz_claim", ledger, *lent, at & inputs.LARGEST, *line)
         if answer.number:
-            return (answer.number, answer.detail, 0, ref.BLANK, *record), column
+            return (answer.number, answer.detail, 0, ref.BLANK, *record), column, items
         ledger, answers = answer.ledger, answers + [flat(answer)[:4]]
-    return (*answers[0], *flat(ledger)), [int(o) for o in lent.pointer[:len(column)]]
+    return (*answers[0], *flat(ledger)), *([int(v) for v in part.pointer[:part.count]] for part in lent)
 
 
-def sell(rng, record, column, serial, orders):
-    """one case, by the reference and by single takes"""
-    answer, record_after, column_after = ref.call(record, column, "bundle", (serial, orders))
-    lent, bundle = lend(rng, column, 4), lend(rng, orders, 4)
-    given, got = (record[1][:record[0]], record, column[:40], serial, orders), call("huz_claim_all", ledger_of(record), lent, serial, bundle)
-    compare("huz_claim_all", given, got, (*answer, *record_after), (lent, column_after), (bundle, orders))
+def sell(rng, record, column, items, serial, orders, lines):
+    """one case, by the reference and by single takes; lines are the item lines"""
+    answer, record_after, *after = ref.call(record, column, items, "bundle", (serial, orders, lines))
+    lent, bundle = (lend(rng, column, 4), lend(rng, items)), (lend(rng, orders, 4), lend(rng, lines))
+    given = record[1][:record[0]], record, column[:40], items[:40], serial, orders, lines
+    got = call("huz_claim_all", ledger_of(record), *lent, serial, *bundle)
+    compare("huz_claim_all", given, got, (*answer, *record_after), *zip((*lent, *bundle), (*after, orders, lines)))
     if answer[0] in (16, 24):
         came_up[len(orders), str(answer[0]), None] += 1
+        if answer[0] == 24 and 1 <= len(orders) <= ref.MOST_ORDERS:
+            uneven["none" if not lines else "fewer" if len(lines) < len(orders) else "more"] += 1
         return
-    came_up[len(orders), *first_failing(record, column, serial, orders)] += 1
-    compare("one after another", given, (got, column_after), one_after_another(record, column, serial, orders))
+    pairs = list(zip(orders, lines))
+    came_up[len(orders), *first_failing(record, column, items, serial, pairs)] += 1
+    compare("one after another", given, (got, *after), one_after_another(record, column, items, serial, pairs))
 
 
 def any_bundle(rng):
@@ -53,30 +58,37 @@ def any_bundle(rng):
 
 
 def register(rng, ms, r, written):
-    """the record, the column and the lines of a register with so many lines, of which some are spoilt and some have the order of an earlier one"""
-    lines = inputs.new_orders(rng, written)
+    """the record, the columns and the lines of a register with so many lines, of which some are spoilt and some are as an earlier one"""
+    lines = inputs.new_lines(rng, written)
     for at in range(1, written):
         if rng.random() < 0.3:
-            lines[at] = rng.choice((0, lines[0], lines[at - 1]))
-    return ref.record_of(ms, r, lines), lines + [rng.choice((0, 7, *lines[:2])) for _ in range(ref.number(ms, r) - written)], lines
+            lines[at] = rng.choice((ref.SPOILT, lines[0], lines[at - 1]))
+    rest = [rng.choice(((0, 0), (7, 0), (0, 255), *lines[:2])) for _ in range(ref.number(ms, r) - written)]
+    return ref.record_of(ms, r, lines), *inputs.apart(lines + rest), lines
+
+
+def wrong_items(rng):
+    return rng.choice((0, 100, 128, 255))
 
 
 def with_fault(rng, ms, r, size, fault, place):
     """a bundle whose first take that fails is that of the place; behind it, in one of two, another fault"""
     n = ref.number(ms, r)
-    record, column, lines = register(rng, ms, r, n - place if fault == "6" else rng.randint(1, n - size))
-    orders = inputs.new_orders(rng, size, lines)
+    *book, lines = register(rng, ms, r, n - place if fault == "6" else rng.randint(1, n - size))
+    bundle = inputs.new_lines(rng, size, lines)
     if fault == "17":
-        orders[place] = 0
+        bundle[place] = 0, rng.choice((1, 0, 100))
+    elif fault == "25":
+        bundle[place] = rng.choice((bundle[place], lines[0]))[0] or 1, wrong_items(rng)
     elif fault == "20 of a line":
-        orders[place] = rng.choice([o for o in lines if o])
+        bundle[place] = rng.choice([line for line in lines if line[0]])
     elif fault == "20 of the bundle":
-        orders[place] = orders[rng.randrange(place)]
-    elif rng.random() < 0.3:  # the order past the last mix stands already
-        orders[place] = rng.choice((lines[0], orders[0] if place else lines[0]))
+        bundle[place] = bundle[rng.randrange(place)]
+    elif rng.random() < 0.3:  # the line past the last mix stands already
+        bundle[place] = rng.choice((lines[0], bundle[0] if place else lines[0]))
     if place + 1 < size and rng.random() < 0.5:
-        orders[rng.randrange(place + 1, size)] = rng.choice((0, lines[0], orders[place] or lines[0], orders[0]))
-    sell(rng, record, column, len(lines) + 1, orders)
+        bundle[rng.randrange(place + 1, size)] = rng.choice(((0, 1), (5, 0), (5, 100), lines[0], bundle[place], bundle[0]))
+    sell(rng, *book, len(lines) + 1, *inputs.apart(bundle))
 
 
 def every_place(rng):
@@ -89,55 +101,66 @@ def every_place(rng):
 
 
 def edges(rng):
-    """bundles that are accepted, also up to the last mix; those that are too long, also with order 0 past the last mix; 18 and 19; 24, also where a
-    take would be refused; 16 before all of them"""
+    """bundles that are accepted, also up to the last mix; those that are too long, also with order 0 or a wrong item line past the last mix; 18, 19;
+    24, also where a take would be refused, and for another number of item lines; 16 before all of them"""
     for ms, r in EDITIONS:
         n = ref.number(ms, r)
         for size in (0, *SIZES, 41, 42, 1000):
             for left in 0, 1, max(0, size - 1), size, size + 1, n - 3:
-                record, column, lines = register(rng, ms, r, max(0, n - left))
-                orders, following = inputs.new_orders(rng, size, lines), len(lines) + 1
+                record, column, items, lines = register(rng, ms, r, max(0, n - left))
+                bundle, following = inputs.new_lines(rng, size, lines), len(lines) + 1
+                orders, given = inputs.apart(bundle)
                 for serial in following, following - 1, following + 1, 0, n, n + 1, inputs.LARGEST:
-                    sell(rng, record, column, serial, orders)
-                sell(rng, record, column[:-1], following, orders)
+                    sell(rng, record, column, items, serial, orders, given)
+                sell(rng, record, column[:-1], items, following, orders, given)
+                sell(rng, record, column, items[:-1], following, orders, given)
+                sell(rng, record, column, [], following, orders, given)
+                for other in given[:-1], given[1:], given + [1], [], given + [1] * 41, [0] * (size + 1):
+                    sell(rng, record, column, items, rng.choice((following, 0, n + 1)), orders, other)
+                    sell(rng, record, column, items, following, [0] * size, other)
                 if 0 < left < size:
-                    sell(rng, record, column, following, orders[:left] + [0] * (size - left))
+                    sell(rng, record, column, items, following, orders[:left] + [0] * (size - left), given)
+                    sell(rng, record, column, items, following, orders, given[:left] + [wrong_items(rng)] * (size - left))
                 if size:
-                    sell(rng, record, column, following, [0] * size)
-                sell(rng, *inputs.damaged(rng, record, column), following, orders)
+                    sell(rng, record, column, items, following, [0] * size, given)
+                    sell(rng, record, column, items, following, orders, [wrong_items(rng)] * size)
+                sell(rng, *inputs.damaged(rng, record, column, items), following, orders, given)
 
 
 def same_slots(rng):
-    """orders that differ from each other and from all lines in their highest bits alone"""
+    """orders that differ from each other and from all lines in their highest bits alone, or in their item line alone"""
     for ms, r in EDITIONS:
-        for bits in 8, 12, 13, 14, 16, 24:
+        for bits in 8, 12, 13, 14, 16, 24, 32:
             low, step = rng.randrange(1, 1 << bits), 1 << bits
-            orders = [(low + step * i) % (1 << 32) for i in range(min(60, 1 << 32 - bits))]
-            lines, bundle = orders[:20], orders[20:]
-            record, column = ref.record_of(ms, r, lines), lines + [low] * (ref.number(ms, r) - len(lines))
-            sell(rng, record, column, 21, bundle)
+            item = lambda i: i + 1 if bits == 32 else rng.choice((1, 2))
+            both = [((low + step * i) % (1 << 32), item(i)) for i in range(60)]
+            lines, bundle = both[:20], both[20:]
+            book = ref.record_of(ms, r, lines), *inputs.apart(lines + [(low, 1)] * (ref.number(ms, r) - len(lines)))
+            sell(rng, *book, 21, *inputs.apart(bundle))
             for at in range(len(bundle)):
-                sell(rng, record, column, 21, bundle[:at] + [rng.choice(lines)] + bundle[at + 1:])
-                sell(rng, record, column, 21, bundle[:at] + [rng.choice(bundle)] + bundle[at + 1:])
+                for line in rng.choice(lines), rng.choice(bundle), (rng.choice(lines)[0], 99), (rng.choice(bundle)[0], 98):
+                    sell(rng, *book, 21, *inputs.apart(bundle[:at] + [line] + bundle[at + 1:]))
 
 
 def in_large_register(rng, ms, r, n):
-    """bundles in a register near the largest, whose lines have an order twice: accepted, or too long; refused at the last order; and with several
-    orders that stand already, of which the first stands behind the others"""
+    """bundles in a register near the largest, whose lines have an order twice: accepted, or too long; refused at the last order; with several orders
+    that stand already, of which the first stands behind the others; and with orders that all stand already, with another item line"""
     for written in n - 40, n - 39, n // 2:
-        lines = list(range(1, written + 1))
-        lines[written // 2] = lines[-1] = 5_000_000
-        record, column = ref.record_of(ms, r, lines), lines + [6_000_000] * (n - written)
-        orders = list(range(6_000_000, 6_000_040))
-        for bundle in orders, orders[:39] + [5_000_000], orders[:9] + [written - 1] + orders[10:38] + [3, written - 5_000]:
-            sell(rng, record, column, written + 1, bundle)
+        lines = [(order, 1 + order % 3) for order in range(1, written + 1)]
+        lines[written // 2] = lines[-1] = 5_000_000, 99
+        book = ref.record_of(ms, r, lines), *inputs.apart(lines + [(6_000_000, 1)] * (n - written))
+        new, other = [(order, 1) for order in range(6_000_000, 6_000_040)], [(order, 4 + order % 3) for order in range(written - 50, written - 10)]
+        few = new[:9] + [lines[written - 2]] + new[10:38] + [lines[2], lines[written - 5_001]]
+        for bundle in (new, new[:39] + [(5_000_000, 99)], few, other, other[:39] + [lines[written - 7]])[:1 if written == n - 39 else 5]:
+            sell(rng, *book, written + 1, *inputs.apart(bundle))
 
 
-def watched(paper, before, serial, orders, answer):
+def watched(paper, before, serial, orders, items, answer):
     """notes what happened to a bundle among the calls of several workers; before is how many lines there were"""
     left = paper.n - before
     if answer[0] == 0:
         met["ends the edition" if len(orders) == left else "accepted"] += 1
+        met["copies on one order"] += len({*orders}) < len(orders) or any(order in orders for order, _ in paper.lines[:before])
     elif answer[0] == 6 and 1 <= left == len(orders) - 1 and serial == before + 1:
         met["one too long"] += 1
     elif answer[0] == 18:
@@ -146,7 +169,8 @@ def watched(paper, before, serial, orders, answer):
         met["an order stands already"] += 1
 
 
-MET = "accepted", "ends the edition", "one too long", "too late", "an order stands already"
+MET = "accepted", "ends the edition", "one too long", "too late", "an order stands already", "copies on one order"
+UNEVEN = "none", "fewer", "more"
 
 
 def missing():
@@ -158,6 +182,7 @@ def missing():
                 yield f"huz_claim_all of {size} orders has not answered {fault} at place {place}"
     for size in 0, 41:
         yield from (f"huz_claim_all of {size} orders has not answered {number}" for number in ("16", "24") if not came_up[size, number, None])
+    yield from (f"no bundle has had other item lines: {what}" for what in UNEVEN if not uneven[what])
     yield from (f"no bundle among workers: {what}" for what in MET if not met[what])
 
 
@@ -167,4 +192,5 @@ def report():
         for (orders, fault, _), times in came_up.items():
             answers[fault] += times * (orders == size)
         print(f"huz_claim_all of {size} orders: answered", ", ".join(f"{fault} {times} times" for fault, times in sorted(answers.items()) if times))
+    print("bundles with other item lines than orders:", ", ".join(f"{what} {uneven[what]} times" for what in UNEVEN))
     print("bundles among workers:", ", ".join(f"{what} {met[what]} times" for what in MET))

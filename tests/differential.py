@@ -6,12 +6,14 @@
 Every lent part has guard bytes around it and is compared whole after each call. After SECONDS no further round begins, but for the FLOOR that has to
 be run. The test fails on any difference, and where an answer that a function can give (reference.ANSWERS) has not come up, or has not with a kind
 withdrawn (reference.WITHDRAWN), or something that may be wrong with a sheet order has not come up alone and with each other (conversions.FAULTS), or
-with a bundle not at each of its places (bundles.FAULTS). The last line is `differential: N cases, 0 differences`.
+with a bundle not at each of its places (bundles.FAULTS), or no worker among several has sold a second copy on an order, or been refused it (MET). The
+last line is `differential: N cases, 0 differences`.
 """
 import argparse
 import random
 import sys
 import time
+from collections import Counter
 
 import bundles
 import conversions
@@ -19,7 +21,8 @@ import documents
 import inputs
 import reference as ref
 from cases import FILL, came_up, cases, compare, differences, lend
-from lent import Lent, LentRecord, call, called, flat, ledger_of
+from lent import Lent, LentRecord, call, called, flat
+from records import CALLS, any_call, each_line, lines_so_far, on_record, opening, places, put
 
 FLOOR = 150  # rounds
 
@@ -59,60 +62,20 @@ def batch(rng, ms, r, serial, copies, length):
 
 # ---- the register
 
-def opening(rng, ms, r, size):
-    values = [rng.getrandbits(32) for _ in range(min(size, 99))] + [7] * max(0, size - 99)
-    upper, column = lend(rng, ms), lend(rng, values, 4)
-    expected = ref.opening(ms, r, size)
-    answer = call("huz_open", upper, r, column)
-    compare("huz_open", (ms, r, size), answer, (*expected[:2], *expected[2]), (upper, ms), (column, values))
-
-
-CALLS = {"look": "huz_peek", "take": "huz_claim", "spoil": "huz_void", "bundle": "huz_claim_all"}
-
-
-def on_record(rng, record, column, name, *arguments):
-    """one call; a take or a spoil by value and on a lent record"""
-    lent = lend(rng, column, 4)
-    answer, record_after, column_after = ref.call(record, column, name, arguments)
-    given = (record[1][:record[0]], record, column[:40], arguments)
-    function = CALLS[name]
-    got = call(function, ledger_of(record), lent, *arguments)
-    compare(function, given, got, answer if name == "look" else (*answer, *record_after), (lent, column_after))
-    if name != "look":
-        lent, place = lend(rng, column, 4), LentRecord(ledger_of(record))
-        before = place.raw()
-        got = call(function + "_in", place, lent, *arguments)
-        compare(function + "_in", given, (*got, *flat(place.ledger)), (*answer, *record_after), (lent, column_after),
-                (place, before if answer[0] else None))
-
-
-def lines_so_far(rng, record, column):
-    lent = lend(rng, column, 4)
-    compare("huz_entries", (record, column[:40]), call("huz_entries", ledger_of(record), lent), (ref.entries(record, column),), (lent, column))
-
-
-def any_call(rng):
-    record, column, serial, order = inputs.call(rng)
-    on_record(rng, record, column, "look")
-    on_record(rng, record, column, "take", serial, order)
-    on_record(rng, record, column, "spoil", serial)
-    lines_so_far(rng, record, column)
-
-
 class Running:
-    """a register of the engine, with its record and its column kept from call to call; each take and spoil comes by value or on the lent record"""
+    """a register of the engine, with its record and its columns kept from call to call; each take and spoil comes by value or on the lent record"""
 
-    def __init__(self, rng, ms, r, values):
-        self.rng, self.column, self.values = rng, Lent(values, 4), values
-        answer = called("huz_open", Lent(ms), r, self.column)
+    def __init__(self, rng, ms, r, values, items):
+        self.rng, self.columns, self.values = rng, (Lent(values, 4), Lent(items)), (values, items)
+        answer = called("huz_open", Lent(ms), r, *self.columns)
         self.place = LentRecord(answer.ledger)
-        compare("huz_open", (ms, r, "a register"), flat(answer), (0, 0, *ref.record_of(ms, r, [])), (self.column, values))
+        compare("huz_open", (ms, r, "a register"), flat(answer), (0, 0, *ref.record_of(ms, r, [])), *zip(self.columns, self.values))
 
     def call(self, name, *arguments):
         """the answer, and the function that was called"""
         lent = name in ("take", "spoil") and self.rng.random() < 0.5
         function = CALLS[name] + ("_in" if lent else "")
-        answer = called(function, self.place.ledger, self.column, *arguments)
+        answer = called(function, self.place.ledger, *self.columns, *arguments)
         if name != "look" and not lent:
             self.place.write(answer.ledger, self.place.ledger)
         return flat(answer)[:6 if name == "look" else 4], function
@@ -121,31 +84,52 @@ class Running:
 def agree(running, paper, name, arguments, given):
     """one call on both, and the whole state afterwards; the answer"""
     expected, before = getattr(paper, name)(*arguments), running.place.raw()
-    lent = [lend(running.rng, a, 4) if isinstance(a, list) else a for a in arguments]
+    units = (0, 4, 1)  # a bundle's serial, orders and item lines
+    lent = [lend(running.rng, a, units[at]) if isinstance(a, list) else a for at, a in enumerate(arguments)]
     got, function = running.call(name, *lent)
     state = ref.record_of(paper.ms, paper.r, paper.lines)
     compare(function, (*given, len(paper.lines), arguments), (*got, *flat(running.place.ledger)), (*expected, *state),
-            (running.column, paper.lines + running.values[len(paper.lines):]), (running.place, before if expected[0] or name == "look" else None),
+            *zip(running.columns, paper.over(*running.values)), (running.place, before if expected[0] or name == "look" else None),
             *((part, values) for part, values in zip(lent, arguments) if isinstance(values, list)))
     return expected
 
 
 def club(rng, paper):
-    """the orders of a bundle: mostly new ones, and mostly some that are left, all of them, or one too many"""
+    """the orders and item lines of a bundle: mostly new ones, and mostly some that are left, all of them, or one too many"""
     left = paper.n - len(paper.lines)
     size = rng.choice((1, 2, 3, rng.randint(1, 40), left, left + 1) if left <= 40 else (1, 2, 3, rng.randint(1, 40), 40))
-    orders = inputs.new_orders(rng, rng.choice((size,) * 9 + (0, 41)), paper.lines)
-    if orders and rng.random() < 0.3:
-        orders[rng.randrange(len(orders))] = rng.choice((0, orders[0], *paper.lines[-2:]))
-    return orders
+    lines = inputs.new_lines(rng, rng.choice((size,) * 9 + (0, 41)), paper.lines)
+    if lines and rng.random() < 0.3:
+        at = rng.randrange(len(lines))
+        lines[at] = rng.choice(((0, 1), (lines[at][0], inputs.any_item(rng)), lines[0], *paper.lines[-2:]))
+    return inputs.uneven(rng, *inputs.apart(lines), 0.05)
+
+
+def basket(rng, paper):
+    """an order number and an item line: new ones, any, or the next copy on the order that stands last"""
+    order, item = paper.lines[-1] if paper.lines else (1007, 0)
+    return rng.choice(((inputs.new_order(rng), 1), (rng.randint(0, 30), inputs.any_item(rng)), (order, item), (order or 1007, item + 1),
+                       (1007, rng.randint(1, 99))))
+
+
+met = Counter()  # in interleavings: what came of a take on an order that stands
+
+
+MET = "accepted with another item line", "refused 20"
+
+
+def copies_on_one_order(before, order, item, answer):
+    standing = {i for o, i in before if o == order}
+    if order and standing and answer[0] in (0, 20):
+        met["accepted with another item line" if answer[0] == 0 else "refused 20"] += 1
 
 
 def singles(name, arguments, answer):
     """an accepted call as what it is counted as: a bundle as its takes, the first with its answer, the others with any that is accepted"""
     if name != "bundle":
         return [(name, arguments, answer)]
-    serial, orders = arguments
-    return [("take", (at, order), answer if at == serial else None) for at, order in enumerate(orders, serial)]
+    serial, *lines = arguments
+    return [("take", (at, *line), answer if at == serial else None) for at, line in enumerate(zip(*lines), serial)]
 
 
 def interleaving(rng):
@@ -154,7 +138,8 @@ def interleaving(rng):
     ms, r = inputs.sound(rng, small=True)
     n = ref.number(ms, r)
     values = [rng.getrandbits(32) if rng.random() < 0.7 else rng.randint(0, 30) for _ in range(n + rng.randint(0, 3))]
-    running, paper = Running(rng, ms, r, values), ref.Paper(ms, r)
+    items = [rng.choice((0, 1, 2, rng.randrange(256))) for _ in range(n + rng.randint(0, 3))]
+    running, paper = Running(rng, ms, r, values, items), ref.Paper(ms, r)
     workers = [rng.randint(0, 2) for _ in range(rng.randint(2, 5))]
     done = []
     for turn in range(min(3 * n + 20, 400)):
@@ -164,9 +149,9 @@ def interleaving(rng):
         if act < 0.3:
             name, arguments = "look", ()
         elif act < 0.7:
-            name, arguments = "take", (serial, rng.choice((rng.getrandbits(32), rng.getrandbits(32), rng.randint(0, 30))))
+            name, arguments = "take", (serial, *basket(rng, paper))
         elif act < 0.85:
-            name, arguments = "bundle", (serial, club(rng, paper))
+            name, arguments = "bundle", (serial, *club(rng, paper))
         else:
             name, arguments = "spoil", (serial,)
         before = len(paper.lines)
@@ -177,12 +162,14 @@ def interleaving(rng):
             done += singles(name, arguments, answer)
         if name == "bundle":
             bundles.watched(paper, before, *arguments, answer)
-    again = Running(rng, ms, r, values)
+        elif name == "take":
+            copies_on_one_order(paper.lines[:before], *arguments[1:], answer)
+    again = Running(rng, ms, r, values, items)
     for name, arguments, answer in done:
         compare("second list", (ms, r), again.call("look")[0][2], arguments[0])
         got, expected = again.call(name, *arguments)[0], answer or (0, 0, arguments[0], ref.cells(ref.mix_at(ms, r, arguments[0])))
         compare("second list", (ms, r), got, expected)
-    compare("second list", (ms, r), flat(again.place.ledger), flat(running.place.ledger), (again.column, paper.lines + values[len(paper.lines):]),
+    compare("second list", (ms, r), flat(again.place.ledger), flat(running.place.ledger), *zip(again.columns, paper.over(values, items)),
             (again.place, None))
 
 
@@ -190,22 +177,25 @@ def large_register(rng):
     """registers near the largest"""
     for ms, r in ((5, 4, 11, 6, 13, 2, 20, 18), 29), ((11, 11, 12, 3, 17, 2, 8, 7), 29):  # N is 1,000,000, and one more
         n = ref.number(ms, r)
-        opening(rng, ms, r, n)
-        opening(rng, ms, r, n - 1)
+        opening(rng, ms, r, n, n)
+        opening(rng, ms, r, n - 1, n)
+        opening(rng, ms, r, n, n - 1)
         if n > ref.MOST_LINES:
             record = (len(ms), ref.cells(ms), r, 0, 0, 0, ref.cells(ref.mix_at(ms, r, 1)))
-            on_record(rng, record, [0] * n, "look")
+            on_record(rng, record, [0] * n, [0] * n, "look")
             continue
         for written in n, n - 1, n // 2:
-            lines = list(range(1, written + 1))
-            lines[written // 3] = 0
-            lines[written // 2] = lines[written // 2 + 1] = 5_000_000
-            record, column = ref.record_of(ms, r, lines), lines + [6_000_000] * (n - written)
-            for order in 6_000_000, 5_000_000, written:
-                on_record(rng, record, column, "take", written + 1, order)
-            on_record(rng, record, column, "spoil", written // 2 + 1)
-            on_record(rng, record, column, "look")
-            lines_so_far(rng, record, column)
+            lines = [(order, 1 + order % 3) for order in range(1, written + 1)]
+            lines[written // 3] = ref.SPOILT
+            lines[written // 2] = lines[written // 2 + 1] = 5_000_000, 99
+            record, (column, items) = ref.record_of(ms, r, lines), inputs.apart(lines + [(6_000_000, 1)] * (n - written))
+            for line in (6_000_000, 1), (5_000_000, 99), (5_000_000, 98), lines[-1]:
+                on_record(rng, record, column, items, "take", written + 1, *line)
+            on_record(rng, record, column, items, "spoil", written // 2 + 1)
+            on_record(rng, record, column, items, "look")
+            for at, item in (written // 3, 1), (written - 1, 100), (written - 2, 0):  # a line with a wrong item line, far from the others
+                on_record(rng, record, column, put(items, at, item), "look")
+            lines_so_far(rng, record, column, items)
         bundles.in_large_register(rng, ms, r, n)
 
 
@@ -225,7 +215,8 @@ def edges(rng):
             mix = inputs.any_mix(rng, ms, r)
             rank(rng, ms, r, mix)
             step(rng, ms, r, mix)
-        opening(rng, ms, r, min(n, 1000))
+        for size, items_size in (min(n, 1000), min(n, 1000)), (min(n, 1000), max(0, min(n, 1000) - 1)), (max(0, min(n, 1000) - 1), min(n, 1000)):
+            opening(rng, ms, r, size, items_size)
         for copies in 1 << 60, 1 << 61, 1 << 62:  # their bytes are few in 64 bits only
             for more in 0, 1, 3:
                 batch(rng, ms, r, 1, copies + more, (copies + more) * len(ms) % (1 << 64) % 600)
@@ -295,6 +286,7 @@ def missing():
         for name, numbers in answers.items():
             yield from (f"{name} has not answered {number}{WORDS[where]}" for number in numbers if not came_up[name, number, where])
     yield from (f"{name} is not expected to answer {number}{WORDS[where]}" for name, number, where in came_up if number not in KINDS[where][name])
+    yield from (f"no take on an order that stands, among workers: {what}" for what in MET if not met[what])
     yield from conversions.missing()
     yield from bundles.missing()
 
@@ -306,6 +298,7 @@ def report(rounds):
             print(f"{name}{WORDS[where]}: answered", ", ".join(f"{number} {came_up[name, number, where]} times" for number in answers[name]))
     conversions.report()
     bundles.report()
+    print("takes on an order that stands, among workers:", ", ".join(f"{what} {met[what]} times" for what in MET))
 
 
 def main():
@@ -322,6 +315,8 @@ def main():
     bundles.edges(rng)
     bundles.every_place(rng)
     bundles.same_slots(rng)
+    each_line(rng)
+    places(rng)
     large_register(rng)
     long_trays(rng)
     rounds = 0

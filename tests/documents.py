@@ -24,11 +24,11 @@ def copies_of_the_document():
             (mixes, orders, mixes))
     compare("document", "H", [edition([2, 1], 1).permutation(edition([2, 1], 1).unrank(s)) for s in (1, 2)], [[2, 1, 3], [1, 3, 2]])
     register = edition([1, 1], 1).open()
-    compare("document", "I", (register.peek(), register.peek(), register.claim(1, 1007), refused(register.claim, 1, 1014), register.peek(),
-                              register.claim(2, 1014), refused(register.peek), register.entries()),
-            ((1, [1, 0], 0, 0), (1, [1, 0], 0, 0), (1, [1, 0]), (18, 1007), (2, [0, 1], 2, 1), (2, [0, 1]), (21, 0), [1007, 1014]))
+    compare("document", "I", (register.peek(), register.peek(), register.claim(1, 1007, 1), refused(register.claim, 1, 1014, 1), register.peek(),
+                              register.claim(2, 1014, 1), refused(register.peek), register.entries()),
+            ((1, [1, 0], 0, 0), (1, [1, 0], 0, 0), (1, [1, 0]), (18, 1007), (2, [0, 1], 2, 1), (2, [0, 1]), (21, 0), [(1007, 1), (1014, 1)]))
     register = edition([1, 1], 1).open()
-    compare("document", "J", (register.void(1), refused(register.claim, 1, 1007)), ((1, [1, 0]), (18, 0)))
+    compare("document", "J", (register.void(1), refused(register.claim, 1, 1007, 1), register.entries()), ((1, [1, 0]), (18, 0), [(0, 0)]))
     compare("document", "N", (edition(range(11, 0, -1), 33).count, edition([10] * 24, 239).count), (25598186, 24))
 
 
@@ -43,8 +43,8 @@ def a_tile_withdrawn():
         none, register = edition(zeros, 0), edition(zeros, 0).open()
         compare("document", zeros, (none.count, none.unrank(1), none.rank(zeros), refused(none.successor, zeros), refused(none.predecessor, zeros)),
                 (1, zeros, 1, (9, 0), (9, 0)))
-        compare("document", zeros, (register.peek(), register.claim(1, 1007), refused(register.peek), register.entries(), refused(edition, zeros, 1)),
-                ((1, zeros, 0, 0), (1, zeros), (21, 0), [1007], (4, 0)))
+        sold = register.peek(), register.claim(1, 1007, 1), refused(register.peek), register.entries(), refused(edition, zeros, 1)
+        compare("document", zeros, sold, ((1, zeros, 0, 0), (1, zeros), (21, 0), [(1007, 1)], (4, 0)))
     for ms, r, refusal in ([0, 61], 1, (2, 2)), ([1, 0, 61], 256, (2, 3)), ([1] * 24 + [0], 3, (1, 0)), ([0] * 25, 0, (1, 0)):
         compare("document", (ms, r), refused(edition, ms, r), refusal)
     for ms in [2, 1, 0], [2, 0, 1], [0, 2, 1], [0]:
@@ -54,8 +54,9 @@ def a_tile_withdrawn():
         compare("document", ms, [refused(f, p) for f in functions for p in orders], [(10, 0)] * 12)
     # a record in which n was damaged upwards, over cells that are 0, is that of the edition with kinds withdrawn behind
     for n, number in (3, 0), (4, 0), (24, 0), (2, 16), (25, 16), (0, 16):
-        record = (n, *ref.record_of((2, 2, 2), 3, [1007, 0])[1:])
-        compare("document", (n, "kinds"), call("huz_peek", ledger_of(record), Lent([1007, 0] + [7] * 5, 4))[0], number)
+        record = (n, *ref.record_of((2, 2, 2), 3, [(1007, 1), (0, 0)])[1:])
+        columns = Lent([1007, 0] + [7] * 5, 4), Lent([1, 0] + [100] * 5)
+        compare("document", (n, "kinds"), call("huz_peek", ledger_of(record), *columns)[0], number)
 
 
 def by_major_index(total, *both):
@@ -90,30 +91,68 @@ def puzzle_books():
                 (mix, (23, 0), code, (12, 0)))
 
 
+def first(orders):
+    """order numbers, and item line 1 for each"""
+    return list(orders), [1] * len(orders)
+
+
 def a_club_order():
     """request (v), on the three copies of 1 1 1 with total 1 and on the seven of 2 2 2 with total 3"""
     three = huztiral.Edition([1, 1, 1], 1).open()
-    compare("document", "all three", (three.claim_all(1, [1007, 1014, 1021]), refused(three.peek), three.entries()),
-            ((1, [1, 0, 0]), (21, 0), [1007, 1014, 1021]))
+    compare("document", "all three", (three.claim_all(1, *first([1007, 1014, 1021])), refused(three.peek), three.entries()),
+            ((1, [1, 0, 0]), (21, 0), [(1007, 1), (1014, 1), (1021, 1)]))
     three = huztiral.Edition([1, 1, 1], 1).open()
-    compare("document", "none, with serial 0", refused(three.claim_all, 0, []), (24, 0))
+    compare("document", "none, with serial 0", refused(three.claim_all, 0, [], []), (24, 0))
     compare("document", "a void", three.void(1), (1, [1, 0, 0]))
     for serial, orders, refusal in ((2, [1007, 1007], (20, 2)), (2, [1007, 1014, 1021], (6, 0)), (2, [1007, 1014, 0], (17, 0)),
                                     (2, [1007, 0, 1021], (17, 0)), (1, [1007, 1014], (18, 0)), (3, [1007], (19, 2)), (4, [1007, 1014], (6, 0)),
                                     (2, [], (24, 0)), (2, [0] * 41, (24, 0))):
-        compare("document", (serial, orders), (refused(three.claim_all, serial, orders), three.entries(), three.peek()),
-                (refusal, [0], (2, [0, 1, 0], 2, 1)))
-    compare("document", "the two that are left", (three.claim_all(2, [1007, 1014]), three.entries()), ((2, [0, 1, 0]), [0, 1007, 1014]))
+        compare("document", (serial, orders), (refused(three.claim_all, serial, *first(orders)), three.entries(), three.peek()),
+                (refusal, [(0, 0)], (2, [0, 1, 0], 2, 1)))
+    compare("document", "the two that are left", (three.claim_all(2, *first([1007, 1014])), three.entries()),
+            ((2, [0, 1, 0]), [(0, 0), (1007, 1), (1014, 1)]))
     seven = huztiral.Edition([2, 2, 2], 3).open()
-    compare("document", "between single takes", (seven.claim(1, 5), seven.claim_all(2, [6, 7, 8]), refused(seven.claim, 4, 9),
-                                                 refused(seven.claim_all, 5, [9, 7]), seven.peek(), seven.claim_all(5, [9]), seven.void(6)),
+    between = (seven.claim(1, 5, 1), seven.claim_all(2, *first([6, 7, 8])), refused(seven.claim, 4, 9, 1),
+               refused(seven.claim_all, 5, *first([9, 7])), seven.peek(), seven.claim_all(5, [9], [1]), seven.void(6))
+    compare("document", "between single takes", between,
             ((1, [2, 1, 0]), (2, [1, 2, 0]), (18, 8), (20, 3), (5, [2, 0, 1], 1, 2), (5, [2, 0, 1]), (6, [1, 0, 2])))
-    compare("document", "and the lines", seven.entries(), [5, 6, 7, 8, 9, 0])
+    compare("document", "and the lines", seven.entries(), [(5, 1), (6, 1), (7, 1), (8, 1), (9, 1), (0, 0)])
     forty = huztiral.Edition([4, 3, 3, 2], 6)
     register = forty.open()
-    compare("document", "an edition of 40", (forty.count, refused(register.claim_all, 1, range(1, 42)), register.claim_all(1, range(1, 41))),
-            (40, (24, 0), (1, forty.unrank(1))))
-    compare("document", "all of it", register.entries(), list(range(1, 41)))
+    compare("document", "an edition of 40", (forty.count, refused(register.claim_all, 1, *first(range(1, 42)))), (40, (24, 0)))
+    compare("document", "40 orders", register.claim_all(1, *first(range(1, 41))), (1, forty.unrank(1)))
+    compare("document", "all of it", register.entries(), [(order, 1) for order in range(1, 41)])
+
+
+def two_copies_on_one_order():
+    """request (vi)"""
+    seven = huztiral.Edition([2, 2, 2], 3).open()
+    compare("document", "two copies in a basket", (seven.claim(1, 1007, 1), seven.claim(2, 1007, 2), seven.entries()),
+            ((1, [2, 1, 0]), (2, [1, 2, 0]), [(1007, 1), (1007, 2)]))
+    compare("document", "both stand already", (refused(seven.claim, 3, 1007, 1), refused(seven.claim, 3, 1007, 2)), ((20, 1), (20, 2)))
+    compare("document", "25 after 17, before 6, 18, 19 and 20", [refused(seven.claim, serial, order, item) for item in (0, 100, 255)
+                                                               for serial in (0, 1, 3, 4, 8) for order in (0, 1007)], [(17, 0), (25, 0)] * 15)
+    compare("document", "18 has the order number", (refused(seven.claim, 2, 1014, 1), refused(seven.void, 1)), ((18, 1007), (18, 1007)))
+    for items in [], [1], [1, 2, 3], [0] * 40:
+        compare("document", ("another number of item lines", items), refused(seven.claim_all, 0, [0, 1007], items), (24, 0))
+    for lines, refusal in ([(1014, 1), (1007, 2)], (20, 2)), ([(1014, 1), (1014, 1)], (20, 3)), ([(1014, 1), (1014, 0)], (25, 0)), \
+            ([(1014, 1), (0, 0)], (17, 0)), ([(1014, 100), (0, 1)], (25, 0)):
+        compare("document", lines, (refused(seven.claim_all, 3, *map(list, zip(*lines))), seven.entries()), (refusal, [(1007, 1), (1007, 2)]))
+    compare("document", "a bundle on two orders", (seven.claim_all(3, [1014, 1007, 1014], [1, 99, 2]), seven.void(6), seven.claim(7, 1007, 3)),
+            ((3, [0, 2, 1]), (6, [1, 0, 2]), (7, [0, 1, 2])))
+    compare("document", "its lines", seven.entries(), [(1007, 1), (1007, 2), (1014, 1), (1007, 99), (1014, 2), (0, 0), (1007, 3)])
+    sales_made_earlier()
+
+
+def sales_made_earlier():
+    """a register without item lines: 16, until 1 is written beside each order and 0 beside the spoilt lines"""
+    orders = [1007, 0, 1014] + [5] * 4
+    record = ref.record_of((2, 2, 2), 3, [(1007, 1), (0, 0), (1014, 1)])
+    for items, number in ([0] * 7, 16), ([1] * 7, 16), ([1, 0, 0] + [0] * 4, 16), ([1, 0, 1] + [0] * 4, 0), ([1, 0, 1] + [0] * 3, 16), ([], 16), \
+            ([1, 0, 1] + [255] * 4, 0), ([1, 0, 100] + [1] * 4, 16), ([99, 0, 1] + [1] * 9, 0), ([1, 1, 1] + [1] * 4, 16):
+        columns = Lent(orders, 4), Lent(items)
+        compare("document", ("earlier", items), (call("huz_peek", ledger_of(record), *columns)[0], call("huz_entries", ledger_of(record), *columns)),
+                (number, (0 if number else 3,)))
 
 
 def the_reference():
@@ -131,4 +170,5 @@ def compared():
     a_tile_withdrawn()
     puzzle_books()
     a_club_order()
+    two_copies_on_one_order()
     the_reference()

@@ -155,10 +155,21 @@ def any_length(rng, wanted):
     return rng.choice((wanted,) * 9 + (max(0, wanted - 1), wanted + 1, 0, 1, 24, 25, 2 * wanted))
 
 
-def any_order(rng, lines):
-    written = [o for o in lines if o] or [7]
-    return rng.choice((0, 1, 1007, (1 << 32) - 1, rng.getrandbits(32), rng.randint(1, 9), written[0], written[-1], rng.choice(written),
-                       rng.choice(written)))
+def any_item(rng):
+    """an item line: mostly a low one, at times any of 1 to 99, or one next to these"""
+    return rng.choice((1, 1, 1, 2, 2, 3, rng.randint(1, 99), rng.randint(1, 99), 99, rng.choice((0, 100, 128, 255))))
+
+
+def new_order(rng):
+    return rng.randint(1, (1 << 32) - 1)
+
+
+def any_line(rng, lines):
+    """an order number and an item line: any, those of a line, or one of the two that of a line"""
+    written = [line for line in lines if line[0]] or [(7, 1)]
+    order, item = rng.choice((written[0], written[-1], rng.choice(written), rng.choice(written)))
+    other = rng.choice((0, 1, 1007, (1 << 32) - 1, new_order(rng), rng.randint(1, 9)))
+    return rng.choice(((order, item), (order, item), (order, any_item(rng)), (other, item), (other, any_item(rng)), (new_order(rng), any_item(rng))))
 
 
 # what makes a mix a sheet order: by inversions, and by major index
@@ -218,29 +229,34 @@ def puzzle(rng):
 
 
 def opening(rng, most=5000):
-    """an edition, and the entries of a column for it"""
+    """an edition, and the entries of an order column and an item column for it"""
     ms, r = any_edition(rng) if rng.random() < 0.5 else sound(rng, small=True)
     n = min(ref.number(ms, r), most) if accepted(ms, r) else 3
-    return ms, r, rng.choice((n, n, n + 1, max(0, n - 1), 0, n + 9))
+    sizes = n, n, n + 1, n + 9, max(0, n - 1), 0
+    return ms, r, rng.choice(sizes), rng.choice(sizes)
 
 
 def register(rng):
-    """a small edition, lines with zeros and repetitions, and a column with garbage after them"""
+    """a small edition, lines with spoilt ones and repetitions, and columns with garbage after them, each as long as it likes"""
     ms, r = sound(rng, small=True)
     n = ref.number(ms, r)
     size = rng.choice((0, n, n - 1, rng.randint(0, n), rng.randint(0, min(n, 9))))
-    lines = [rng.choice((0, rng.randint(1, 9), rng.getrandbits(32))) for _ in range(size)]
-    rest = [rng.choice((0, 1, 1007, rng.getrandbits(32), *lines[:2])) for _ in range(n - len(lines) + rng.choice((0, 0, 1, 7)))]
-    return ref.record_of(ms, r, lines), lines + rest
+    lines = [rng.choice((ref.SPOILT, (rng.randint(1, 9), rng.randint(1, 3)), (new_order(rng), rng.randint(1, rng.choice((3, 99))))))
+             for _ in range(size)]
+    column, items = [o for o, _ in lines], [i for _, i in lines]
+    more = [n - size + rng.choice((0, 0, 1, 7)) for _ in range(2)]
+    return (ref.record_of(ms, r, lines), column + [rng.choice((0, 1, 1007, rng.getrandbits(32), *column[:2])) for _ in range(more[0])],
+            items + [rng.choice((0, 1, 2, 100, rng.randrange(256), *items[:2])) for _ in range(more[1])])
 
 
-def damaged(rng, record, column):
-    """the same with something changed in the record or the column. With another n it may be the record of another edition: a cell past n is 0, and so
+def damaged(rng, record, column, items):
+    """the same with something changed in the record or a column. With another n it may be the record of another edition: a cell past n is 0, and so
     is a withdrawn kind's."""
     n, upper, r, lines, sold, spoilt, mix = record
-    upper, mix, column = list(upper), list(mix), list(column)
+    upper, mix, column, items = list(upper), list(mix), list(column), list(items)
     near = lambda x: rng.choice((x + 1, x - 1 if x else LARGEST, 0, LARGEST, x + (1 << 32), 1 << 63))
-    field = rng.randrange(14)
+    short = lambda: rng.choice((0, len(column) - 1, len(items) - 1, ref.number(upper[:n], r) - 1, ref.number(upper[:n], r)))
+    field = rng.randrange(17)
     if field == 0:
         n = rng.choice((0, n - 1, n + 1, n + 2, rng.randint(n, 24), 24, 25, 26, 1 << 32, LARGEST, n + (1 << 32)))
     elif field == 1:
@@ -268,48 +284,87 @@ def damaged(rng, record, column):
     elif field == 11:
         mix[rng.randrange(n, 24) if n < 24 else 0] ^= rng.choice((1, 128))
     elif field == 12:
-        column = column[:rng.choice((0, len(column) - 1, ref.number(upper[:n], r) - 1, ref.number(upper[:n], r)))]
+        column = column[:short()]
+    elif field == 13:
+        items = items[:short()]
     elif lines:
-        at = rng.randrange(lines)
+        damage_line(rng, column, items, rng.randrange(lines))
+    return (n, tuple(upper), r, lines, sold, spoilt, tuple(mix)), column, items
+
+
+def damage_line(rng, column, items, at):
+    """an order that is there or not, with its item line or without, or an item line that cannot stand there, at one of the bounds of what can"""
+    damage = rng.randrange(4)
+    if damage == 0:
         column[at] = 0 if column[at] else 1
-    return (n, tuple(upper), r, lines, sold, spoilt, tuple(mix)), column
+    elif damage == 1:
+        column[at], items[at] = (0, 0) if column[at] else (1, 1)
+    elif damage == 2:
+        items[at] = rng.choice((100, 101, 127, 128, 255))
+    else:
+        items[at] = 0 if column[at] else rng.choice((1, 2, 99))
+
+
+def lines_of(record, column, items):
+    return list(zip(column, items))[:min(record[3], 2000)]
+
+
+def after_lines(column, items, lines):
+    """what stands in the columns directly past the lines"""
+    return (column + [3] * 2000)[len(lines)], (items + [1] * 2000)[len(lines)]
 
 
 def call(rng):
-    """a record and a column, sound or damaged, a serial and an order, which may stand among the lines or past them"""
-    record, column = register(rng)
+    """a record and columns, sound or damaged, a serial, an order and an item line, which may stand among the lines or past them"""
+    record, column, items = register(rng)
     if rng.random() < 0.4:
-        record, column = damaged(rng, record, column)
-    lines = column[:min(record[3], 2000)]
+        record, column, items = damaged(rng, record, column, items)
+    lines = lines_of(record, column, items)
     following = len(lines) + 1
     serial = rng.choice((following, following, following, following - 1, 0, following + 1, any_serial(rng, len(column)), rng.randint(1, 9)))
-    order = rng.choice((any_order(rng, lines), any_order(rng, lines), rng.getrandbits(32), (column + [3] * 2000)[len(lines)]))
-    return record, column, serial, order
+    line = rng.choice((any_line(rng, lines), any_line(rng, lines), any_line(rng, lines), after_lines(column, items, lines)))
+    return record, column, items, serial, *line
 
 
-def new_orders(rng, size, lines=()):
-    """orders for a bundle that differ and stand in none of the lines; some of them differ in one bit from each other or from a line"""
-    taken, orders = {0, *lines}, []
-    while len(orders) < size:
-        near = rng.choice((*orders[-3:], *lines[:3], 1)) ^ 1 << rng.randrange(32)
-        order = rng.choice((rng.getrandbits(32), rng.getrandbits(32), near))
-        if order not in taken:
-            taken.add(order)
-            orders.append(order)
-    return orders
+def new_lines(rng, size, lines=()):
+    """lines for a bundle that differ and stand not among those lines; some differ in one bit of the number, in the number alone or in the item line
+    alone from each other or from a line"""
+    taken, found, few = {*lines}, [], [line for line in lines[:9] if line[0]][:3]
+    while len(found) < size:
+        order, item = rng.choice((*found[-3:], *few, (1, 1)))
+        line = rng.choice(((new_order(rng), 1), (new_order(rng), rng.randint(1, 99)), (new_order(rng), item), (order ^ 1 << rng.randrange(32), item),
+                           (order, rng.randint(1, 99)), (order, item % 99 + 1)))
+        if line[0] and line not in taken:
+            taken.add(line)
+            found.append(line)
+    return found
+
+
+def apart(lines):
+    """the order numbers and the item lines of lines"""
+    return [o for o, _ in lines], [i for _, i in lines]
 
 
 def bundle(rng):
-    """a record and a column, sound or damaged, a first serial and the orders of a bundle, of which up to two are 0, stand already or stand twice"""
-    record, column = register(rng)
+    """a record and columns, sound or damaged, a first serial and the lines of a bundle, of which up to two have a fault, stand already or twice; one
+    bundle in ten has another number of item lines than of orders"""
+    record, column, items = register(rng)
     if rng.random() < 0.3:
-        record, column = damaged(rng, record, column)
-    lines = column[:min(record[3], 2000)]
+        record, column, items = damaged(rng, record, column, items)
+    lines = lines_of(record, column, items)
     following, left = len(lines) + 1, len(column) - len(lines)
     serial = rng.choice((following,) * 8 + (following - 1, 0, following + 1, any_serial(rng, len(column)), rng.randint(1, 9)))
     size = rng.choice((0, 1, 2, 39, 40, 41, left, left + 1, rng.randint(1, 40), rng.randint(1, 5), rng.randint(41, 300)))
-    orders = new_orders(rng, min(size, 300), lines)
-    for _ in range(rng.choice((0, 0, 1, 2)) if orders else 0):
-        at = rng.randrange(len(orders))
-        orders[at] = rng.choice((any_order(rng, lines), orders[rng.randint(0, at)], orders[rng.randint(0, at)], (column + [3] * 2000)[len(lines)]))
-    return record, column, serial, orders
+    bundled = new_lines(rng, min(size, 300), lines)
+    for _ in range(rng.choice((0, 0, 1, 2)) if bundled else 0):
+        at = rng.randrange(len(bundled))
+        bundled[at] = rng.choice((any_line(rng, lines), bundled[rng.randint(0, at)], bundled[rng.randint(0, at)], after_lines(column, items, lines),
+                                  (bundled[at][0], any_item(rng))))
+    return record, column, items, serial, *uneven(rng, *apart(bundled), 0.1)
+
+
+def uneven(rng, orders, items, chance):
+    """by chance one item line fewer or more than orders, none, or many more"""
+    if rng.random() < chance:
+        items = rng.choice((items[:-1], items[1:], items + [1], [], items[:1], items + [1] * 39, items + items))
+    return orders, items

@@ -1,25 +1,29 @@
 """Lists of ledger calls for crates/vectors, as several workers make them in turn.
 
-The lists are document 01's copies I and J, bundles with a fault at each place, editions with kinds withdrawn, openings that are refused, scripts,
-pools and buffers that do not fit, orders that stand in the column past the lines, the Saturday of copy 212, and interleavings of several workers, each
-of whom peeks and then claims, for one order or several, or voids what it saw, at times too late, with an order that stands already, with no order, with
-more orders than are left, or with a serial out of nowhere. A list is (ceilings, total, column before, script, pool of orders, length of the buffer for
-the answers). A call is (which, serial, order), of a bundle (which, serial, orders).
+The lists are document 01's copies I and J, two copies on one order, bundles with a fault at each place, bundles with another number of item lines
+than of orders, editions with kinds withdrawn, openings that are refused, scripts, pools and buffers that do not fit, lines that stand in the columns
+past the lines written, the Saturday of copy 212, and interleavings of several workers, each of whom peeks and then claims, for one order or several,
+or voids what it saw, at times too late, with an order and item line that stand already, for the next copy on an order that stands, with no order,
+with an item line out of range, with an item line too few or too many, with more orders than are left, or with a serial out of nowhere. A list is
+(ceilings, total, order column and item column before, script, pool of orders, pool of item lines, length of the buffer for the answers). A call is
+(which, serial, line), of a bundle (which, serial, (orders, items)); a line is an order and its item line.
 """
 import random
 
 import reference as ref
 
 PEEK, CLAIM, VOID, BUNDLE = 0, 1, 2, 3
+NONE = 0, 0  # what a call names that names no line
 WORDS = "look", "take", "spoil", "bundle"
-CALL = 3  # numbers of a call in the script: which, serial, and of a bundle how many orders it names
+CALL = 4  # numbers of a call in the script: which, serial, and of a bundle how many orders it names and how many item lines
 ROW = 29  # numbers of an answer: number, detail, serial, 24 cells, and the pair
 
 
 def answer(paper, call):
     """what the paper register answers to a call, with 0 and 0 where the call answers no pair"""
-    which, serial, orders = call
-    said = getattr(paper, WORDS[which])(*((), (serial, orders), (serial,), (serial, orders))[which])
+    which, serial, named = call
+    arguments = (), (serial, *named), (serial,), (serial, *named)
+    said = getattr(paper, WORDS[which])(*arguments[which])
     return said if which == PEEK else (*said, *ref.NO_PAIR)
 
 
@@ -31,21 +35,24 @@ def interleaving(ms, r, rng, workers=5):
         if paper.next() > paper.n:
             after -= 1
         w, dice = rng.randrange(workers), rng.random()
-        call = (PEEK, 0, 0)
-        if dice < 0.45:
+        standing = rng.choice(paper.lines or [(1, 1)])
+        call = (PEEK, 0, NONE)
+        if dice < 0.38:
             order += rng.randrange(1, 4)
-            call = (CLAIM, seen[w], order)
+            call = (CLAIM, seen[w], (order, rng.choice([1, 1, 1, 2, 99])))
+        elif dice < 0.45:  # the next copy on an order that stands
+            call = (CLAIM, seen[w], (standing[0] or order, standing[1] + 1))
         elif dice < 0.52:
-            call = (BUNDLE, seen[w], club(paper, order, rng))
+            call = (BUNDLE, seen[w], miscounted(apart(club(paper, order, rng)), rng))
             order += 200
         elif dice < 0.58:
-            call = (CLAIM, seen[w], rng.choice(paper.lines or [1]))
+            call = (CLAIM, seen[w], standing)
         elif dice < 0.60:
-            call = (CLAIM, seen[w], 0)
+            call = (CLAIM, seen[w], rng.choice([(0, 1), (order, 0), (order, 100), (0, 0)]))
         elif dice < 0.66:
-            call = (VOID, seen[w], 0)
+            call = (VOID, seen[w], NONE)
         elif dice < 0.69:
-            call = (rng.choice([CLAIM, VOID]), rng.choice([0, paper.next() + 1, paper.n, paper.n + 1, 2 ** 64 - 1]), 1)
+            call = (rng.choice([CLAIM, VOID]), rng.choice([0, paper.next() + 1, paper.n, paper.n + 1, 2 ** 64 - 1]), (1, 1))
         got = answer(paper, call)
         if call[0] == PEEK and got[0] == 0:
             seen[w] = got[2]
@@ -53,122 +60,263 @@ def interleaving(ms, r, rng, workers=5):
 
 
 def club(paper, order, rng):
-    """the orders of a bundle after an order: some that are left, all of them or one more, at times none or 41; one of them may be 0 or stand already"""
+    """the lines of a bundle after an order: some that are left, all of them or one more, at times none or 41, on an order each or on a few; one may
+    have a fault or stand already"""
     left = paper.n + 1 - paper.next()
     size = rng.choice([1, 2, 3, 5, min(left, 40), min(left + 1, 40), rng.choice([0, 1, 40, 41])])
-    orders = [order + 4 * k for k in range(1, size + 1)]
-    if orders and rng.random() < 0.3:
-        orders[rng.randrange(size)] = rng.choice([0, orders[0], *paper.lines[-2:]])
-    return orders
+    each = rng.choice([1, 1, 2, 41])
+    lines = [(order + 4 * (k // each + 1), k % each + 1) for k in range(size)]
+    if lines and rng.random() < 0.3:
+        at = rng.randrange(size)
+        lines[at] = rng.choice([NONE, (lines[at][0], 0), (lines[at][0], 100), lines[0], *paper.lines[-2:]])
+    return lines
+
+
+def apart(lines):
+    """the orders of some lines, and their item lines"""
+    return [order for order, _ in lines], [item for _, item in lines]
+
+
+def miscounted(named, rng):
+    """what a bundle names, at times with an item line or an order too few or too many, or with no item line"""
+    orders, items = named
+    if rng.random() < 0.8:
+        return named
+    return rng.choice([(orders, items + [1]), (orders, items[:-1]), (orders, []), (orders + [1], items), (orders[:-1], items)])
+
+
+def is_uneven(call):
+    """whether it is a bundle with another number of item lines than of orders"""
+    which, _, named = call
+    return which == BUNDLE and len(named[0]) != len(named[1])
 
 
 def written(calls):
-    """the script and the pool of such calls; of other calls than bundles the last number of a row is not looked at"""
-    script = [n for which, serial, orders in calls for n in (which, serial, len(orders) if which == BUNDLE else 9)]
-    return script, [o for which, _, orders in calls for o in ([orders] if which == CLAIM else orders if which == BUNDLE else [])]
+    """the script and the pools of such calls; of other calls than bundles the last two numbers of a row are not looked at"""
+    script, orders, items = [], [], []
+    for which, serial, named in calls:
+        script += [which, serial, *(map(len, named) if which == BUNDLE else (9, 9))]
+        if which in (CLAIM, BUNDLE):
+            of_call = named if which == BUNDLE else apart([named])
+            orders += of_call[0]
+            items += of_call[1]
+    return script, orders, items
 
 
-def named(which, count):
-    """how many orders a row names"""
+def uses(which, count):
+    """how many of a pool a row names"""
     return 1 if which == CLAIM else count if which == BUNDLE else 0
 
 
 def rows_of(script):
-    return list(zip(script[::CALL], script[1::CALL], script[2::CALL]))
+    return list(zip(*(script[k::CALL] for k in range(CALL))))
 
 
-def calls_of(script, pool):
-    """the calls of a script; each uses up the orders that it names. None where the pool does not have just those."""
-    calls, at = [], 0
-    for which, serial, count in rows_of(script):
-        orders = list(pool[at:at + named(which, count)])
-        at += named(which, count)
-        calls.append((which, serial, orders) if which == BUNDLE else (which, serial, *orders) if which == CLAIM else (min(which, VOID), serial, 0))
-    return calls if at == len(pool) else None
+def calls_of(script, orders, items):
+    """the calls of a script; each uses up the orders and the item lines that it names. None where a pool does not have just those."""
+    calls, at, at_item = [], 0, 0
+    for which, serial, count, items_count in rows_of(script):
+        end, end_item = at + uses(which, count), at_item + uses(which, items_count)
+        if end > len(orders) or end_item > len(items):
+            return None
+        named = list(orders[at:end]), list(items[at_item:end_item])
+        at, at_item = end, end_item
+        calls.append((which, serial, named) if which == BUNDLE else (CLAIM, serial, (named[0][0], named[1][0])) if which == CLAIM
+                     else (min(which, VOID), serial, NONE))
+    return calls if (at, at_item) == (len(orders), len(items)) else None
 
 
-def lists(seed=212):
-    rng = random.Random(seed)
-    small, peek = ((1, 1), 1), (PEEK, 0, 0)
-    large = (4, 4, 3, 3, 3), 8
-    n = ref.number(*large)
+def first(orders):
+    """lines with item line 1"""
+    return [(order, 1) for order in orders]
+
+
+SMALL, THREE = ((1, 1), 1), ((1, 1, 1), 1)
+LOOK = PEEK, 0, NONE
+
+
+def claim(serial, order, item=1):
+    return CLAIM, serial, (order, item)
+
+
+def bundle(serial, orders, items=None):
+    return BUNDLE, serial, (list(orders), [1] * len(orders) if items is None else list(items))
+
+
+def void(serial):
+    return VOID, serial, NONE
+
+
+def fitting(edition, column, calls, items=None, orders_pool=None, items_pool=None):
+    """a list whose pools and buffer fit, but for a pool that is given; the item column is as long as the order column, but where it is given"""
+    script, orders, lines = written(calls)
+    items = [9] * len(column) if items is None else items
+    return (*edition, column, items, script, orders if orders_pool is None else orders_pool, lines if items_pool is None else items_pool,
+            ROW * len(calls))
+
+
+def two_copies():
+    """request (vi): several copies on one order, told apart by their item lines"""
     after = [7, 7, 7]
+    two = [claim(1, 1007), claim(2, 1007), claim(2, 1007, 2), LOOK]
+    yield fitting(SMALL, after, two)
+    # two workers look; the one too late sells the same order's second copy next
+    yield fitting(THREE, after, [LOOK, LOOK, claim(1, 1007), claim(1, 1007, 2), LOOK, claim(2, 1007, 2), claim(3, 1007, 2), claim(3, 1014, 2), LOOK])
+    # 25 after 17, before 6, 18, 19 and 20
+    faults = [claim(serial, order, item) for serial in (0, 1, 2, 3, 4) for order in (0, 1007) for item in (0, 1, 99, 100, 255)]
+    yield fitting(THREE, after, [claim(1, 1007), *faults, LOOK])
+    yield fitting(THREE, after, [claim(1, 1007, 99), claim(2, 1007, 98), void(3), claim(3, 1007, 0), LOOK])
+    # what stands past the lines is looked at by nobody and kept, be it unsound or the line that is claimed
+    for items in [0, 0, 0], [1, 1, 1], [100, 255, 0], [255] * 5, [1, 1, 1, 0]:
+        yield fitting(THREE, [1007, 0, 1007, 1007], [claim(1, 1007), claim(2, 1014), LOOK], items)
+        yield fitting(THREE, [1007, 0, 1007, 1007], [void(1), bundle(2, [1007, 1007], [1, 2]), LOOK], items)
+    # item columns that are too short: refused as the order column is
+    for size in 0, 1, 2, 3, 4:
+        yield fitting(THREE, [7] * 3, [LOOK], [9] * size)
+        yield fitting(THREE, [7] * size, [LOOK], [9] * 3)
+        yield fitting(((0, 1, 0, 1, 1), 1), [7] * 4, [LOOK, claim(1, 1007)], [9] * size)
+    # bundles on one order, on two, with a line twice, with an item line out of range at each place, before and behind another fault
+    yield fitting(((2, 2, 2), 3), [7] * 7, [bundle(1, [1007] * 3, [1, 2, 3]), bundle(4, [1007] * 2, [4, 1]), bundle(4, [1014, 1007], [1, 4]),
+                                           bundle(6, [1014, 1014], [2, 2]), bundle(6, [1014, 1014, 1021], [2, 3, 0]), LOOK])
+    calls = [claim(1, 1000), void(2)]
+    for at in range(5):
+        for wrong in (1005, 0), (1005, 100), (0, 0), (1000, 255), (1000, 1):
+            lines = first([1001, 1002, 1003, 1004, 1006])
+            lines[at] = wrong
+            calls += [bundle(3, *apart(lines)), bundle(3, *apart(lines[:4] + [(0, 1)])), bundle(9, *apart(lines))]
+    yield fitting(((1, 2, 3, 2), 4), [7] * 40, calls + [LOOK, bundle(3, [1000] * 5, range(2, 7)), LOOK])
+    forty = list(range(1, 41))
+    yield fitting(((8, 8, 8), 8), [7] * 45, [bundle(1, [2000] * 40, forty), bundle(41, [2000, 2000], [41, 40]),
+                                             bundle(41, [2000] * 5, range(95, 100)), LOOK])
+    # pools: with an item line too few or too many, also where the orders are as many as the calls name, all is 13
+    for calls in two, [bundle(1, [1007, 1014]), LOOK], [LOOK]:
+        orders, items = written(calls)[1:]
+        yield fitting(SMALL, after, calls, items_pool=items + [1])
+        yield fitting(SMALL, after, calls, orders_pool=orders + [1021], items_pool=items + [1])
+        if items:
+            yield fitting(SMALL, after, calls, items_pool=items[:-1])
+            yield fitting(SMALL, after, calls, items_pool=[])
+            yield fitting(SMALL, after, calls, orders_pool=orders[:-1], items_pool=items[:-1])
 
-    def fitting(edition, column, calls, pool=None):
-        script, orders = written(calls)
-        return *edition, column, script, orders if pool is None else pool, ROW * len(calls)
 
-    yield fitting(small, after, [peek, peek, (CLAIM, 1, 1007), (CLAIM, 1, 1014), (CLAIM, 2, 1014), peek])
-    yield fitting(small, after, [(VOID, 1, 0), (CLAIM, 1, 1007)])
-    yield fitting(small, after, [])
-    # an order that stands past the lines is free; once it stands among them, it is not
-    yield fitting(small, [5, 1007, 1007], [(CLAIM, 1, 1007), (CLAIM, 2, 1007), peek, (CLAIM, 2, 5), peek])
-    yield fitting(small, [1014, 1014], [(CLAIM, 1, 1014), (VOID, 2, 0), (CLAIM, 2, 1014)])
-    yield fitting(small, [0, 0, 0], [(VOID, 1, 0), (CLAIM, 2, 9)])
-    # pools: peeks and voids use up nothing, a refused claim its order, a bundle as many as its row says; with an order too few or too many, also where
-    # nothing is claimed, all is 13, as it is where a row names more than any pool has
-    yield fitting(small, after, [peek, (VOID, 1, 0), (CLAIM, 2, 1007), peek])
-    yield fitting(small, after, [(CLAIM, 9, 1007), (CLAIM, 1, 1014), (CLAIM, 2, 0), (CLAIM, 2, 1021)])
-    yield fitting(small, after, [(CLAIM, 1, 1007), (BUNDLE, 2, [1007]), (BUNDLE, 2, [1014]), peek])
-    for calls in [(CLAIM, 1, 1007), (CLAIM, 2, 0)], [(BUNDLE, 1, [1007, 1014]), peek], [peek], []:
-        orders = written(calls)[1]
-        yield fitting(small, after, calls, orders + [1021])
-        if orders:
-            yield fitting(small, after, calls, orders[:-1])
-            yield fitting(small, after, calls, [])
-    for counts in [2 ** 64 - 1], [2 ** 63, 2 ** 63], [2, 2 ** 64 - 1], [2 ** 64 - 1, 2 ** 64 - 1, 2]:
-        yield *small, after, [n for count in counts for n in (BUNDLE, 1, count)], [1007, 1014], ROW * len(counts)
-    # any other number is a void
-    yield fitting(small, after, [(4, 1, 0), (2 ** 64 - 1, 2, 0), (256, 2, 0)])
-    # bundles: none and 41, before everything but 16; at the edition's end, one too long, with order 0 there; too early, too late; a fault at each place,
-    # after which nothing is written; an order that stands past the lines is free
-    three, five = ((1, 1, 1), 1), [1007, 1014, 1021, 1028, 1035]
-    yield fitting(three, after, [(BUNDLE, 0, []), (BUNDLE, 1, list(range(1, 42))), (BUNDLE, 9, []), peek, (BUNDLE, 1, five[:3]), peek, (BUNDLE, 3, [1])])
-    yield fitting(three, after, [(BUNDLE, 1, five[:4]), (BUNDLE, 1, five[:3] + [0]), (BUNDLE, 1, five), peek, (BUNDLE, 2, five[:2]), (BUNDLE, 0, five[:1])])
-    yield fitting(three, [1014, 1014, 1014], [(BUNDLE, 1, [1007, 1014]), (BUNDLE, 2, [1021]), (BUNDLE, 3, [1021, 1028]), (BUNDLE, 3, [1007]), peek])
-    calls = [(CLAIM, 1, 1000), (VOID, 2, 0)]
+def bundles():
+    """request (v): none and 41, before everything but 16; at the edition's end, one too long, with order 0 there; too early, too late; a fault at
+    each place, after which nothing is written; a line that stands past the lines is free"""
+    after, five = [7, 7, 7], [1007, 1014, 1021, 1028, 1035]
+    yield fitting(THREE, after, [bundle(0, []), bundle(1, range(1, 42)), bundle(9, []), LOOK, bundle(1, five[:3]), LOOK, bundle(3, [1])])
+    yield fitting(THREE, after, [bundle(1, five[:4]), bundle(1, five[:3] + [0]), bundle(1, five), LOOK, bundle(2, five[:2]), bundle(0, five[:1])])
+    yield fitting(THREE, [1014] * 3, [bundle(1, [1007, 1014]), bundle(2, [1021]), bundle(3, [1021, 1028]), bundle(3, [1007]), LOOK], [1] * 3)
+    calls = [claim(1, 1000), void(2)]
     for at in range(5):
         wrong = [0, 1000] + [five[0]] * (at > 0) + [five[4]] * (at < 4)
-        calls += [(BUNDLE, 3, five[:at] + [order] + five[at + 1:]) for order in wrong] + [peek]
-    yield fitting(((2, 2, 2), 3), [7] * 9, calls + [(BUNDLE, 3, five), peek])
+        calls += [bundle(3, five[:at] + [order] + five[at + 1:]) for order in wrong] + [LOOK]
+    yield fitting(((2, 2, 2), 3), [7] * 9, calls + [bundle(3, five), LOOK])
     forty = [2000 + k for k in range(40)]
-    yield fitting(((8, 8, 8), 8), [7] * 45, [(BUNDLE, 1, forty[:39] + [2000]), (BUNDLE, 1, forty), peek, (BUNDLE, 41, [9] + forty[:5]), (BUNDLE, 41, five), peek])
-    # kinds withdrawn: in front, between, behind; all of them, with a register of one line
-    for edition in ((0, 1, 0, 1, 0), 1), ((0, 0, 1, 1), 1), ((1, 1, 0), 1):
-        yield fitting(edition, after, [peek, (CLAIM, 1, 1007), peek, (CLAIM, 1, 1014), (CLAIM, 2, 1007), (VOID, 2, 0), peek])
-    for zeros in (0,), (0,) * 24:
-        yield fitting((zeros, 0), after, [peek, (CLAIM, 2, 1007), (CLAIM, 1, 1007), peek, (VOID, 1, 0), (CLAIM, 1, 1014)])
-    # openings that are refused
-    yield fitting(small, [7], [peek])
-    yield fitting(((1, 0, 1), 1), [7], [peek])
-    for edition in ((1, 1), 3), ((1, 61), 1), ((9,) * 8, 36), ((), 0), ((1, 1), 256), ((60,) * 24, 255), \
-            ((0, 0), 1), ((0, 61), 1), ((0,) + (9,) * 8, 36), ((0,) * 25, 0), ((0,), 256), ((0,) + (60,) * 23, 255):
-        yield fitting(edition, after, [peek])
-    # a script with part of a row, and buffers by one number or one row longer or shorter, or empty; an opening is refused before them
-    script, orders = written([peek, (CLAIM, 1, 1007), (CLAIM, 1, 1014)])
+    yield fitting(((8, 8, 8), 8), [7] * 45, [bundle(1, forty[:39] + [2000]), bundle(1, forty), LOOK, bundle(41, [9] + forty[:5]),
+                                             bundle(41, five), LOOK])
+
+
+def pools():
+    """peeks and voids use up nothing, a refused claim its line, a bundle as many as its row says; with an order too few or too many, also where
+    nothing is claimed, all is 13, as it is where a row names more than any pool has"""
+    after = [7, 7, 7]
+    yield fitting(SMALL, after, [LOOK, void(1), claim(2, 1007), LOOK])
+    yield fitting(SMALL, after, [claim(9, 1007), claim(1, 1014), claim(2, 0), claim(2, 1021)])
+    yield fitting(SMALL, after, [claim(1, 1007), bundle(2, [1007]), bundle(2, [1014]), LOOK])
+    for calls in [claim(1, 1007), claim(2, 0)], [bundle(1, [1007, 1014]), LOOK], [LOOK], []:
+        orders = written(calls)[1]
+        yield fitting(SMALL, after, calls, orders_pool=orders + [1021])
+        if orders:
+            yield fitting(SMALL, after, calls, orders_pool=orders[:-1])
+            yield fitting(SMALL, after, calls, orders_pool=[])
+    for counts in [2 ** 64 - 1], [2 ** 63, 2 ** 63], [2, 2 ** 64 - 1], [2 ** 64 - 1, 2 ** 64 - 1, 2]:
+        fit = [2] + [0] * (len(counts) - 1)
+        for both in (counts, counts), (counts, fit), (fit, counts):
+            script = [n for pair in zip(*both) for n in (BUNDLE, 1, *pair)]
+            yield *SMALL, after, after, script, [1007, 1014], [1, 1], ROW * len(counts)
+
+
+def uneven():
+    """request (vi): a bundle with another number of item lines than of orders is 24, also where the serial or a line has a fault, and uses up what
+    it names of either pool; pools of one length are then 13"""
+    after = [7, 7, 7]
+    for orders, items in ([1007, 1014], [1]), ([1007], [1, 2]), ([], [1]), ([1007], []), ([1007] * 41, range(1, 41)), ([1007] * 40, range(1, 42)), \
+            ([0, 1007], [100]), ([1021], [2, 0, 1]):
+        wrong = bundle(1, orders, items), bundle(9, orders, items)
+        calls = [LOOK, *wrong, claim(1, 1021, 2), bundle(2, orders, items), bundle(2, [1028, 1028], [3, 4]), *wrong, LOOK]
+        yield fitting(THREE, after, calls)
+        pool, item_pool = written(calls)[1:]
+        yield fitting(THREE, after, calls, orders_pool=(pool + [7] * len(item_pool))[:len(item_pool)])
+        yield fitting(THREE, after, calls, items_pool=(item_pool + [1] * len(pool))[:len(pool)])
+
+
+def buffers():
+    """a script with part of a row, and buffers by one number or one row longer or shorter, or empty; an opening is refused before them"""
+    after = [7, 7, 7]
+    script, *pool = written([LOOK, claim(1, 1007), claim(1, 1014)])
     for size in 3 * ROW, 2 * ROW, 4 * ROW:
-        yield *small, after, script[:-1], orders, size
-        yield *small, after, script + [0], orders, size
+        yield *SMALL, after, after, script[:-1], *pool, size
+        yield *SMALL, after, after, script + [0], *pool, size
     for size in 3 * ROW + 1, 3 * ROW - 1, 4 * ROW, 2 * ROW, 0, 1, 3 * 24, 2 * 3 * ROW:
-        yield *small, after, script, orders, size
+        yield *SMALL, after, after, script, *pool, size
     for size in 0, 1, ROW:
-        yield *small, after, [1, 1], orders, size
-    yield *small, after, [], [], 1
-    yield *small, after, [], [], ROW
-    for part in [1], [3, 1], [3, 1, 1, 0, 0]:
-        yield *small, after, part, [1007], 0
-    yield (1, 1), 3, after, script[:-1], orders, 0
-    saturday = [(CLAIM, s, 2000 + s) for s in range(1, 212)] + [peek, peek, (CLAIM, 212, 1007), (CLAIM, 212, 1014)]
-    yield fitting(large, [0] * n, saturday)
-    # half of the orders that will be accepted stand in the column before, past the line that they are to get
+        yield *SMALL, after, after, [1, 1], *pool, size
+    yield *SMALL, after, after, [], [], [], 1
+    yield *SMALL, after, after, [], [], [], ROW
+    for part in [1], [3, 1], [3, 1, 1], [3, 1, 1, 1, 0, 0], [3, 1, 1, 1, 0, 0, 0]:
+        yield *SMALL, after, after, part, [1007], [1], 0
+    yield (1, 1), 3, after, after, script[:-1], *pool, 0
+
+
+def workers(rng):
+    """the Saturday of copy 212, and interleavings of five workers and of three"""
+    large = (4, 4, 3, 3, 3), 8
+    n = ref.number(*large)
+    saturday = [claim(s, 2000 + s) for s in range(1, 212)] + [LOOK, LOOK, claim(212, 1007), claim(212, 1014)]
+    yield fitting(large, [0] * n, saturday, [0] * n)
+    # half of the lines that will be accepted stand in the columns before, past the line that they are to get
     calls, paper = list(interleaving(*large, rng)), ref.Paper(*large)
     for call in calls:
         answer(paper, call)
-    column = [rng.getrandbits(32) for _ in range(n + 3)]
-    for line, order in enumerate(paper.lines):
+    column, items = [rng.getrandbits(32) for _ in range(n + 3)], [rng.randrange(256) for _ in range(n + 3)]
+    for line, (order, item) in enumerate(paper.lines):
         if order and rng.random() < 0.5:
-            column[min(line + rng.randrange(1, 9), n + 2)] = order
-    yield fitting(large, column, calls)
+            at = min(line + rng.randrange(1, 9), n + 2)
+            column[at], items[at] = order, item
+    yield fitting(large, column, calls, items)
     # three workers, the second time with kinds withdrawn
     for middle in ((3, 3, 2), 4), ((0, 3, 0, 0, 3, 2, 0), 4):
-        yield fitting(middle, [rng.getrandbits(32) for _ in range(ref.number(*middle))], list(interleaving(*middle, rng, workers=3)))
+        size = ref.number(*middle)
+        column, items = [rng.getrandbits(32) for _ in range(size)], [rng.randrange(256) for _ in range(size + 2)]
+        yield fitting(middle, column, list(interleaving(*middle, rng, workers=3)), items)
+
+
+def lists(seed=212):
+    after = [7, 7, 7]
+    yield fitting(SMALL, after, [LOOK, LOOK, claim(1, 1007), claim(1, 1014), claim(2, 1014), LOOK])
+    yield fitting(SMALL, after, [void(1), claim(1, 1007)])
+    yield fitting(SMALL, after, [])
+    # a line that stands past the lines is free; once it stands among them, it is not
+    yield fitting(SMALL, [5, 1007, 1007], [claim(1, 1007), claim(2, 1007), LOOK, claim(2, 5), LOOK], [1] * 3)
+    yield fitting(SMALL, [1014, 1014], [claim(1, 1014), void(2), claim(2, 1014)], [1, 1])
+    yield fitting(SMALL, [0, 0, 0], [void(1), claim(2, 9)], [0, 0, 0])
+    yield from pools()
+    # any other number is a void
+    yield fitting(SMALL, after, [(4, 1, NONE), (2 ** 64 - 1, 2, NONE), (256, 2, NONE)])
+    yield from bundles()
+    yield from two_copies()
+    yield from uneven()
+    # kinds withdrawn: in front, between, behind; all of them, with a register of one line
+    for edition in ((0, 1, 0, 1, 0), 1), ((0, 0, 1, 1), 1), ((1, 1, 0), 1):
+        yield fitting(edition, after, [LOOK, claim(1, 1007), LOOK, claim(1, 1014), claim(2, 1007), claim(2, 1007, 0), void(2), LOOK])
+        yield fitting(edition, after, [claim(1, 1007), LOOK, claim(2, 1007), claim(2, 1007, 2), LOOK])
+    for zeros in (0,), (0,) * 24:
+        yield fitting((zeros, 0), after, [LOOK, claim(2, 1007), claim(1, 1007), LOOK, void(1), claim(1, 1014)])
+    # openings that are refused
+    yield fitting(SMALL, [7], [LOOK])
+    yield fitting(((1, 0, 1), 1), [7], [LOOK])
+    for edition in ((1, 1), 3), ((1, 61), 1), ((9,) * 8, 36), ((), 0), ((1, 1), 256), ((60,) * 24, 255), \
+            ((0, 0), 1), ((0, 61), 1), ((0,) + (9,) * 8, 36), ((0,) * 25, 0), ((0,), 256), ((0,) + (60,) * 23, 255):
+        yield fitting(edition, after, [LOOK])
+    yield from buffers()
+    yield from workers(random.Random(seed))

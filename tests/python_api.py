@@ -1,16 +1,14 @@
 #!/usr/bin/env python3
-"""The Python package from a user's side: what it refuses and how it says so, its own errors, threads, processes, and the library that it loads."""
+"""The Python package from a user's side: what it refuses and how it says so, its own errors, processes, and the library that it loads. What it sells
+and to whom is in tests/python_register.py."""
 import concurrent.futures
-import contextlib
 import copy
 import inspect
-import itertools
 import os
 import pickle
 import subprocess
 import sys
 import tempfile
-import threading
 import typing
 import unittest
 from array import array
@@ -28,8 +26,8 @@ VAST = Edition([20] * 16, 120)  # some 10^18 mixes
 def claimed_twice(edition):
     """for another process: the second claim is refused"""
     register = edition.open()
-    register.claim(1, 1007)
-    register.claim(1, 1014)
+    register.claim(1, 1007, 1)
+    register.claim(1, 1014, 1)
 
 
 class Sentences(unittest.TestCase):
@@ -68,34 +66,43 @@ class Sentences(unittest.TestCase):
     def test_register(self):
         self.refused(14, 0, "the edition has 92561040 mixes, and a register has at most 1000000", Edition([60] * 24, 10).open)
         register = SEVEN.open()
-        register.claim(1, 1007)
+        register.claim(1, 1007, 1)
         register.void(2)
-        self.refused(17, 0, "an order number is not 0", register.claim, 3, 0)
-        self.refused(6, 0, "there is no serial 8: the edition has 1 to 7", register.claim, 8, 5)
-        self.refused(18, 1007, "serial 1 is already written, for order 1007", register.claim, 1, 1014)
+        self.refused(17, 0, "an order number is not 0", register.claim, 3, 0, 1)
+        self.refused(25, 0, "an item line is 1 to 99, and this one is 0", register.claim, 3, 1007, 0)
+        self.refused(25, 0, "an item line is 1 to 99, and this one is 255", register.claim, 8, 1007, 255)
+        self.refused(6, 0, "there is no serial 8: the edition has 1 to 7", register.claim, 8, 5, 1)
+        self.refused(18, 1007, "serial 1 is already written, for order 1007", register.claim, 1, 1014, 1)
         self.refused(18, 0, "serial 2 is already written, as spoilt", register.void, 2)
         self.refused(19, 3, "serial 5 is above the next serial, 3", register.void, 5)
-        self.refused(20, 1, "order 1007 already has serial 1", register.claim, 3, 1007)
+        self.refused(20, 1, "order 1007, item line 1, already has serial 1", register.claim, 3, 1007, 1)
         for serial in range(3, 8):
             register.void(serial)
         self.refused(21, 0, "every serial is written", register.peek)
-        self.assertEqual(register.entries(), [1007, 0, 0, 0, 0, 0, 0])
+        self.assertEqual(register.entries(), [(1007, 1)] + [(0, 0)] * 6)
 
     def test_bundles(self):
         register = SEVEN.open()
-        register.claim(1, 1007)
+        register.claim(1, 1007, 1)
         register.void(2)
-        self.refused(24, 0, "a bundle has 1 to 40 orders, and this one has none", register.claim_all, 3, [])
-        self.refused(24, 0, "a bundle has 1 to 40 orders, and this one has more", register.claim_all, 0, range(41))
-        self.refused(17, 0, "an order number is not 0", register.claim_all, 3, [1014, 0])
-        self.refused(6, 0, "there is no serial 8: the edition has 1 to 7", register.claim_all, 8, [1014, 1021])
-        self.refused(6, 0, "6 copies from serial 3 on run past the last serial, 7", register.claim_all, 3, range(1, 7))
-        self.refused(18, 1007, "serial 1 is already written, for order 1007", register.claim_all, 1, [1014, 1021])
-        self.refused(18, 0, "serial 2 is already written, as spoilt", register.claim_all, 2, [1014, 1021])
-        self.refused(19, 3, "serial 5 is above the next serial, 3", register.claim_all, 5, [1014, 1021])
-        self.refused(20, 1, "order 1007 already has serial 1", register.claim_all, 3, [1014, 1021, 1007])
-        self.refused(20, 4, "order 1021 stands twice in the bundle, first for serial 4", register.claim_all, 3, [1014, 1021, 1028, 1021])
-        self.assertEqual((register.entries(), register.peek()), ([1007, 0], (3, [0, 2, 1], 3, 1)))
+        self.refused(24, 0, "a bundle has 1 to 40 orders, and this one has none", register.claim_all, 3, [], [])
+        self.refused(24, 0, "a bundle has 1 to 40 orders, and this one has none", register.claim_all, 3, [], [1])
+        self.refused(24, 0, "a bundle has 1 to 40 orders, and this one has more", register.claim_all, 0, range(41), [1] * 41)
+        self.refused(24, 0, "a bundle has 1 to 40 orders, and this one has more", register.claim_all, 0, range(41), [])
+        self.refused(24, 0, "a bundle has an item line for each order, and this one has fewer", register.claim_all, 0, [1014, 0], [1])
+        self.refused(24, 0, "a bundle has an item line for each order, and this one has fewer", register.claim_all, 3, [1014], [])
+        self.refused(24, 0, "a bundle has an item line for each order, and this one has more", register.claim_all, 3, [1014, 1021], [1, 1, 1])
+        self.refused(17, 0, "an order number is not 0", register.claim_all, 3, [1014, 0], [1, 0])
+        self.refused(25, 0, "an item line is 1 to 99, and this one is 100", register.claim_all, 3, [1014, 1014, 1014], [1, 100, 0])
+        self.refused(6, 0, "there is no serial 8: the edition has 1 to 7", register.claim_all, 8, [1014, 1021], [1, 1])
+        self.refused(6, 0, "6 copies from serial 3 on run past the last serial, 7", register.claim_all, 3, range(1, 7), [1] * 6)
+        self.refused(18, 1007, "serial 1 is already written, for order 1007", register.claim_all, 1, [1014, 1021], [1, 1])
+        self.refused(18, 0, "serial 2 is already written, as spoilt", register.claim_all, 2, [1014, 1021], [1, 1])
+        self.refused(19, 3, "serial 5 is above the next serial, 3", register.claim_all, 5, [1014, 1021], [1, 1])
+        self.refused(20, 1, "order 1007, item line 1, already has serial 1", register.claim_all, 3, [1014, 1007, 1007], [1, 2, 1])
+        twice = [1014, 1021, 1028, 1021], [1, 3, 1, 3]
+        self.refused(20, 4, "order 1021, item line 3, stands twice in the bundle, first for serial 4", register.claim_all, 3, *twice)
+        self.assertEqual((register.entries(), register.peek()), ([(1007, 1), (0, 0)], (3, [0, 2, 1], 3, 1)))
 
     def test_without_a_call(self):
         self.assertEqual(str(Refused(18, 7)), "the serial is already written (the order number on its line, 0 if it is spoilt: 7)")
@@ -137,8 +144,8 @@ class Withdrawn(unittest.TestCase):
         self.assertEqual(GAP.successor([2, 0, 0, 1]), ([1, 0, 0, 2], 4, 1))
         self.assertEqual(GAP.predecessor([1, 0, 0, 2]), ([2, 0, 0, 1], 1, 4))
         register = GAP.open()
-        register.claim(1, 1007)
-        self.assertEqual((register.peek(), register.entries()), ((2, [1, 0, 2, 0], 3, 1), [1007]))
+        register.claim(1, 1007, 1)
+        self.assertEqual((register.peek(), register.entries()), ((2, [1, 0, 2, 0], 3, 1), [(1007, 1)]))
 
     def test_all_kinds(self):
         none = Edition([0, 0], 0)
@@ -148,7 +155,7 @@ class Withdrawn(unittest.TestCase):
                 step([0, 0])
             self.assertEqual(caught.exception.number, Number.NO_NEIGHBOUR)
         register = none.open()
-        self.assertEqual((register.peek(), register.void(1), register.entries()), ((1, [0, 0], 0, 0), (1, [0, 0]), [0]))
+        self.assertEqual((register.peek(), register.void(1), register.entries()), ((1, [0, 0], 0, 0), (1, [0, 0]), [(0, 0)]))
         with self.assertRaises(Refused) as caught:
             register.peek()
         self.assertEqual(caught.exception.number, Number.ALL_WRITTEN)
@@ -179,69 +186,6 @@ class SheetOrders(unittest.TestCase):
                 self.assertEqual((edition.major_permutation(edition.unrank(1)), edition.major_code(order)), (order, edition.unrank(1)))
 
 
-class Clubs(unittest.TestCase):
-    """club orders: consecutive serials or nothing"""
-
-    def test_all_or_nothing(self):
-        register, single = SEVEN.open(), SEVEN.open()
-        self.assertEqual(register.claim_all(1, [1007, 1014, 1021]), (1, [2, 1, 0]))
-        self.assertEqual([single.claim(s, o) for s, o in ((1, 1007), (2, 1014), (3, 1021))][0], (1, [2, 1, 0]))
-        self.assertEqual((register.entries(), register.peek()), (single.entries(), single.peek()))
-        with self.assertRaises(Refused):
-            register.claim_all(4, [1028, 1035, 1014])
-        self.assertEqual((register.entries(), register.peek()), (single.entries(), single.peek()))
-        self.assertEqual((register.claim(4, 1028), register.void(5)), ((4, [1, 1, 1]), (5, [2, 0, 1])))
-        self.assertEqual(register.claim_all(6, [1035, 1042]), (6, [1, 0, 2]))
-        self.assertEqual(register.entries(), [1007, 1014, 1021, 1028, 0, 1035, 1042])
-        with self.assertRaises(Refused) as caught:
-            register.peek()
-        self.assertEqual(caught.exception.number, Number.ALL_WRITTEN)
-
-    def test_sizes(self):
-        edition = Edition([9] * 3, 12)
-        for size in 1, 2, 39, 40:
-            register = edition.open()
-            self.assertEqual((register.claim_all(1, range(1, size + 1)), register.entries()), ((1, edition.unrank(1)), list(range(1, size + 1))))
-            self.assertEqual(register.peek()[:2], (size + 1, edition.unrank(size + 1)))
-        for size in 0, 41, 1000:
-            register = edition.open()
-            with self.assertRaises(Refused) as caught:
-                register.claim_all(1, range(1, size + 1))
-            self.assertEqual((caught.exception.number, register.entries()), (Number.BUNDLE_LENGTH, []))
-
-    def test_any_whole_numbers_are_orders(self):
-        for orders in [5, 6], (5, 6), bytes([5, 6]), array("I", [5, 6]), array("B", [5, 6]), memoryview(array("Q", [5, 6])), range(5, 7), \
-                {5: 1, 6: 1}, iter([5, 6]), (o for o in [5, 6]):
-            register = GAP.open()
-            self.assertEqual((register.claim_all(1, orders), register.entries()), ((1, [2, 0, 1, 0]), [5, 6]))
-
-    def test_other_values(self):
-        register = SEVEN.open()
-        for wrong in 5, None, [5.0], ["5"], "56", [5, None], [[5]]:
-            self.assertRaises(TypeError, register.claim_all, 1, wrong)
-        for wrong in [-1], [1 << 32], [5, 1 << 70]:
-            self.assertRaises(OverflowError, register.claim_all, 1, wrong)
-        for wrong in -1, 1 << 64:
-            self.assertRaises(OverflowError, register.claim_all, wrong, [5])
-        self.assertRaises(TypeError, register.claim_all, 1.0, [5])
-        self.assertRaises(ZeroDivisionError, register.claim_all, 1, (5 // n for n in (1, 0)))
-        self.assertEqual(register.entries(), [])
-
-    def test_too_many_are_not_read(self):
-        """forty-one say that there are too many"""
-        register, orders = SEVEN.open(), itertools.count(1)
-        with self.assertRaises(Refused) as caught:
-            register.claim_all(1, orders)
-        self.assertEqual((caught.exception.number, next(orders), register.entries()), (Number.BUNDLE_LENGTH, 42, []))
-
-    def test_orders_that_ask_the_register(self):
-        """they are read before the call, so that what makes them may call the same register"""
-        register = SEVEN.open()
-        with self.assertRaises(Refused) as caught:
-            register.claim_all(1, (register.claim(serial, 1000 + serial)[0] for serial in (1, 2)))
-        self.assertEqual((caught.exception.number, caught.exception.detail, register.entries()), (Number.ALREADY_WRITTEN, 1001, [1001, 1002]))
-
-
 class Values(unittest.TestCase):
     def test_a_number_is_no_mix(self):
         for wrong in 3, 3.0, None, [0, 2.0, 1], "021", ["0", "2", "1"]:
@@ -270,12 +214,15 @@ class Values(unittest.TestCase):
             self.assertRaises(OverflowError, SEVEN.unrank, wrong)
             self.assertRaises(OverflowError, SEVEN.batch, wrong, 1)
             self.assertRaises(OverflowError, SEVEN.batch, 1, wrong)
-            self.assertRaises(OverflowError, register.claim, wrong, 5)
+            self.assertRaises(OverflowError, register.claim, wrong, 5, 1)
             self.assertRaises(OverflowError, register.void, wrong)
         for wrong in -1, 1 << 32:
             self.assertRaises(OverflowError, Edition, [2, 2], wrong)
-            self.assertRaises(OverflowError, register.claim, 1, wrong)
-        for function, *arguments in (SEVEN.unrank, 1.0), (SEVEN.batch, 1, "2"), (register.claim, 1, None), (register.void, 1.0), (Edition, [2], 1.0):
+            self.assertRaises(OverflowError, register.claim, 1, wrong, 1)
+        for wrong in -1, 256, 1 << 70:
+            self.assertRaises(OverflowError, register.claim, 1, 5, wrong)
+        for function, *arguments in (SEVEN.unrank, 1.0), (SEVEN.batch, 1, "2"), (register.claim, 1, None, 1), (register.claim, 1, 5, None), \
+                (register.claim, 1, 5, 1.0), (register.void, 1.0), (Edition, [2], 1.0):
             self.assertRaises(TypeError, function, *arguments)
         self.assertEqual(register.entries(), [])
 
@@ -325,64 +272,6 @@ class Processes(unittest.TestCase):
         self.assertEqual((caught.exception.number, str(caught.exception)), (18, "serial 1 is already written, for order 1007"))
 
 
-class Threads(unittest.TestCase):
-    LINES = 100_000  # so many that a call takes some 20 microseconds, all of them outside the interpreter's lock
-
-    def register(self):
-        """a register with LINES lines, as if each had been claimed"""
-        edition = Edition([9] * 7, 30)
-        register = edition.open()
-        register._orders[:self.LINES] = range(1, self.LINES + 1)
-        register._ledger.entries = register._ledger.sold = self.LINES
-        register._ledger.next[:7] = edition.unrank(self.LINES + 1)
-        return register
-
-    def race(self, register, turns, bundle=0, threads=4):
-        """threads claim what they see, so many times each, or every second time a bundle: whether the lines are exactly the claims that were
-        accepted, each serial once, and a bundle's one after another"""
-        said, start = [], threading.Barrier(threads)
-
-        def sell(serial, order):
-            if bundle and order % 2:
-                orders = range(order << 8, (order << 8) + bundle)
-                return enumerate(orders, register.claim_all(serial, orders)[0])
-            return [(register.claim(serial, order)[0], order)]
-
-        def work(first):
-            start.wait()
-            for order in range(first, first + turns):
-                try:
-                    said.extend(sell(register.peek()[0], order))
-                except Refused as refused:
-                    if refused.number != Number.ALREADY_WRITTEN:
-                        said.append((0, refused.number))
-                        return
-        workers = [threading.Thread(target=work, args=(1_000_000 * n,)) for n in range(1, threads + 1)]
-        for worker in workers:
-            worker.start()
-        for worker in workers:
-            worker.join()
-        return len(said) >= turns and sorted(said) == list(enumerate(register.entries()[self.LINES:], self.LINES + 1))
-
-    def test_a_shared_register(self):
-        self.assertTrue(self.race(self.register(), 1500))
-
-    def test_clubs_among_workers(self):
-        self.assertTrue(self.race(self.register(), 600, bundle=40))
-
-    @unittest.skipIf(len(os.sched_getaffinity(0)) < 2, "two calls at the same time take two processors")
-    def test_it_takes_the_lock(self):
-        """the same without the lock goes wrong, so the test above would see that it is missing"""
-        for bundle in 0, 7:
-            for _ in range(50):
-                register = self.register()
-                register._lock = contextlib.nullcontext()
-                if not self.race(register, 200, bundle):
-                    break
-            else:
-                self.fail("no race was seen without the lock")
-
-
 class Hints(unittest.TestCase):
     def test_all_is_typed_and_described(self):
         package = huztiral._c, huztiral._editions, huztiral._refusals
@@ -424,7 +313,7 @@ class Library(unittest.TestCase):
             self.assertEqual((said.returncode, said.stderr.split("\n")[-2][:12]), (1, "ImportError:"))
         with tempfile.TemporaryDirectory() as folder:
             with self.assertRaisesRegex(ImportError, "undefined symbol: huz_version"):
-                huztiral.load(self.library(folder, 1300, names[1:]))
+                huztiral.load(self.library(folder, 1400, names[1:]))
             with self.assertRaisesRegex(ImportError, "no such file|cannot open"):
                 huztiral.load(os.path.join(folder, "none.so"))
 

@@ -1,4 +1,4 @@
-"""Document 01, and of document 02 requests (i) to (v), in plain Python: what every call of the engine has to answer, and what the listing program
+"""Document 01, and of document 02 requests (i) to (vi), in plain Python: what every call of the engine has to answer, and what the listing program
 has to print. Written from the documents, for comparison only: numbers are unbounded, nothing is fast, and each function follows the documents' own
 words. The answer of a call is a tuple that starts with number and detail."""
 import re
@@ -10,6 +10,7 @@ import sheets
 LIMIT = 9_223_372_036_854_775_807
 MOST_LINES = 1_000_000
 MOST_ORDERS = 40
+MOST_ITEM = 99
 BLANK = (0,) * 24
 
 
@@ -262,43 +263,55 @@ def major_code(ms, r, p, out):
     return to_mix(sheets.code_of_order, sheets.major_index, 23, ms, r, p, out)
 
 
-# ---- The register: a record is (n, 24 ceilings, r, lines, sold, spoilt, 24 cells of the next mix)
+# ---- The register: a record is (n, 24 ceilings, r, lines, sold, spoilt, 24 cells of the next mix); a line is a pair of order number and item line
+# (document 02, (vi)), which stand in two columns
 
 NO_RECORD = (0, BLANK, 0, 0, 0, 0, BLANK)
+SPOILT = 0, 0
 
 
 def record_of(ms, r, lines):
     """the record that belongs to an edition and these lines"""
-    sold = sum(1 for o in lines if o)
+    sold = sum(1 for order, _ in lines if order)
     mix = mix_at(ms, r, min(len(lines) + 1, number(ms, r)))
     return len(ms), cells(ms), r, len(lines), sold, len(lines) - sold, cells(mix)
 
 
-def opening(ms, r, size):
+def opening(ms, r, size, items_size):
+    """of the entries of the two columns only their number is looked at"""
     refusal = edition(ms, r)
     if not refusal[0] and number(ms, r) > MOST_LINES:
         refusal = 14, 0
-    if not refusal[0] and size < number(ms, r):
+    if not refusal[0] and (size < number(ms, r) or items_size < number(ms, r)):
         refusal = 15, 0
     return (*refusal, NO_RECORD if refusal[0] else record_of(ms, r, []))
 
 
-def is_register(record, column):
+def is_unsound(order, item):
+    """a line that no register has"""
+    return item > MOST_ITEM or item == 0 and order != 0 or item != 0 and order == 0
+
+
+def is_register(record, column, items):
     """not 16"""
     n, upper, r, lines = record[:4]
     if n > 24:
         return False
     ms = upper[:n]
-    if edition(ms, r)[0] or number(ms, r) > MOST_LINES or len(column) < number(ms, r) or lines > number(ms, r):
+    if edition(ms, r)[0] or number(ms, r) > MOST_LINES or lines > number(ms, r):
         return False
-    return record == record_of(ms, r, column[:lines])
+    if len(column) < number(ms, r) or len(items) < number(ms, r):
+        return False
+    written = list(zip(column[:lines], items[:lines]))
+    return not any(is_unsound(*line) for line in written) and record == record_of(ms, r, written)
 
 
 class Paper:
-    """the paper register: an edition and a list of order numbers"""
+    """the paper register: an edition and a list of pairs of order number and item line"""
 
     def __init__(self, ms, r, lines=()):
         self.ms, self.r, self.n, self.lines = tuple(ms), r, number(ms, r), list(lines)
+        self.lowest = dict(zip(reversed(self.lines), range(len(self.lines), 0, -1)))  # the lowest serial of each pair that stands
 
     def next(self):
         return len(self.lines) + 1
@@ -315,52 +328,57 @@ class Paper:
         if not 1 <= serial <= self.n:
             return 6, 0
         if serial < self.next():
-            return 18, self.lines[serial - 1]
+            return 18, self.lines[serial - 1][0]
         if serial > self.next():
             return 19, self.next()
         return 0, 0
 
-    def write(self, refusal, serial, order):
+    def write(self, refusal, serial, line):
         if refusal[0]:
             return (*refusal, 0, BLANK)
-        self.lines.append(order)
+        self.lines.append(line)
+        self.lowest.setdefault(line, serial)
         return self.answer(serial)
 
-    def take(self, serial, order):
-        refusal = (17, 0) if order == 0 else self.place(serial)
-        if not refusal[0] and order in self.lines:
-            refusal = 20, self.lines.index(order) + 1
-        return self.write(refusal, serial, order)
+    def take(self, serial, order, item):
+        refusal = (17, 0) if order == 0 else (25, 0) if not 1 <= item <= MOST_ITEM else self.place(serial)
+        if not refusal[0] and (order, item) in self.lowest:
+            refusal = 20, self.lowest[order, item]
+        return self.write(refusal, serial, (order, item))
 
     def spoil(self, serial):
-        return self.write(self.place(serial), serial, 0)
+        return self.write(self.place(serial), serial, SPOILT)
 
-    def bundle(self, serial, orders):
+    def bundle(self, serial, orders, items):
         """document 02, (v): single takes one after another, tried on a copy; the first refusal, or all of them"""
-        if not 1 <= len(orders) <= MOST_ORDERS:
+        if not 1 <= len(orders) <= MOST_ORDERS or len(items) != len(orders):
             return 24, 0, 0, BLANK
         copy = Paper(self.ms, self.r, self.lines)
-        for at, order in enumerate(orders, serial):
-            answer = copy.take(at, order)
+        for at, line in enumerate(zip(orders, items), serial):
+            answer = copy.take(at, *line)
             if answer[0]:
                 return answer
-        self.lines = copy.lines
+        self.lines, self.lowest = copy.lines, copy.lowest
         return self.answer(serial)
 
+    def over(self, column, items):
+        """the two columns, which had these values, with the lines at their beginning"""
+        written = len(self.lines)
+        return [o for o, _ in self.lines] + list(column[written:]), [i for _, i in self.lines] + list(items[written:])
 
-def call(record, column, name, arguments):
-    """look, take, spoil or bundle on any record and column: the answer, the record and the column afterwards"""
-    if not is_register(record, column):
-        return (16, 0, 0, BLANK, *(NO_PAIR if name == "look" else ())), record, column
+
+def call(record, column, items, name, arguments):
+    """look, take, spoil or bundle on any record and columns: the answer, the record and the columns afterwards"""
+    if not is_register(record, column, items):
+        return (16, 0, 0, BLANK, *(NO_PAIR if name == "look" else ())), record, column, items
     n, upper, r, lines = record[:4]
-    paper = Paper(upper[:n], r, column[:lines])
+    paper = Paper(upper[:n], r, zip(column[:lines], items[:lines]))
     answer = getattr(paper, name)(*arguments)
-    after = record_of(paper.ms, r, paper.lines)
-    return answer, after, paper.lines + column[len(paper.lines):]
+    return answer, record_of(paper.ms, r, paper.lines), *paper.over(column, items)
 
 
-def entries(record, column):
-    return record[3] if is_register(record, column) else 0
+def entries(record, column, items):
+    return record[3] if is_register(record, column, items) else 0
 
 
 # ---- which numbers a call can answer: 0, and the refusals that include/huztiral.h names for the function, in the order in which they are checked
@@ -379,10 +397,10 @@ ANSWERS = {
     "huz_major_code": (*SHAPE, 10, 11, 23, 13),
     "huz_open": (*SHAPE, 14, 15),
     "huz_peek": (0, 16, 21),
-    "huz_claim": (0, 16, 17, 6, 18, 19, 20),
+    "huz_claim": (0, 16, 17, 25, 6, 18, 19, 20),
     "huz_void": (0, 16, 6, 18, 19),
-    "huz_claim_all": (0, 16, 24, 17, 6, 18, 19, 20),
-    "huz_claim_in": (0, 16, 17, 6, 18, 19, 20),
+    "huz_claim_all": (0, 16, 24, 17, 25, 6, 18, 19, 20),
+    "huz_claim_in": (0, 16, 17, 25, 6, 18, 19, 20),
     "huz_void_in": (0, 16, 6, 18, 19),
 }
 # the same where a kind is withdrawn: that is no puzzle edition, and what is checked after 10 does not come up

@@ -47,7 +47,7 @@ class Words(unittest.TestCase):
     maxDiff = None
 
     def test_numbers_in_turn(self):
-        self.assertEqual(list(TABLE), list(range(25)))
+        self.assertEqual(list(TABLE), list(range(26)))
 
     def test_header(self):
         body = re.search(r"enum huz_number \{(.*?)\};", read("include", "huztiral.h"), re.DOTALL).group(1)
@@ -91,7 +91,7 @@ EDITIONS = (((), 300, 1, 0), ((61,) * 25, 300, 1, 0), ((2, 61), 300, 2, 2), ((1,
             ((1,) * 24 + (0,), 300, 1, 0), ((0,) * 25, 300, 1, 0), ((0, 61, 255), 300, 2, 2), ((1, 0, 61), 256, 2, 3), ((0,), 256, 3, 0),
             ((0, 0), 1, 4, 0), ((2, 0, 2), 5, 4, 0), ((0,) + (60,) * 23, 255, 5, 0))
 PUZZLE, SEVEN, GAP = ((3, 2, 1), 3), ((2, 2, 2), 3), ((2, 0, 2, 2), 3)  # the last with a kind withdrawn
-LINES = [1007, 0]
+LINES = [(1007, 1), (0, 0)]
 NONE = (((0, 0), 0), (0,), 7), (((0, 0), 0), (0, 1), 8), (((0, 0), 0), (0, 0), 9)
 # a mix or a sheet order that would do, were the withdrawn kind not there
 NO_PUZZLES = tuple(((upper, 1), given, len(given), 10) for upper in ((2, 1, 0), (2, 0, 1), (0, 2, 1)) for given in ((1, 0, 0), (1, 0), (2, 1, 3)))
@@ -113,27 +113,56 @@ OTHERS = {
     "huz_major_permutation": MIXES,
     "huz_major_code": (*ORDERS, (PUZZLE, (4, 3, 2, 1), 0, 23), (PUZZLE, (2, 4, 1, 3), 0, 23), (PUZZLE, (1, 2, 4, 3), 4, 13),
                        (PUZZLE, (3, 2, 1, 4), 4, 13)),
-    "huz_open": ((((60,) * 5, 150), 0, 14), (PUZZLE, 5, 15), (((60, 0) + (60,) * 4, 150), 0, 14), (GAP, 6, 15), (((0, 0), 0), 0, 15)),
+    "huz_open": ((((60,) * 5, 150), 0, 0, 14), (PUZZLE, 5, 6, 15), (PUZZLE, 6, 5, 15), (PUZZLE, 6, 0, 15), (((60, 0) + (60,) * 4, 150), 0, 0, 14),
+                 (GAP, 6, 7, 15), (GAP, 7, 6, 15), (((0, 0), 0), 0, 1, 15), (((0, 0), 0), 1, 0, 15)),
 }
 CONVERSIONS = "huz_permutation", "huz_inversions", "huz_major_permutation", "huz_major_code"
-ANYTHING = {"huz_check": (), "huz_unrank": (0, 1), "huz_batch": (0, 1, 7), **dict.fromkeys(CONVERSIONS, ((), 0)), "huz_open": (0,)}
+ANYTHING = {"huz_check": (), "huz_unrank": (0, 1), "huz_batch": (0, 1, 7), **dict.fromkeys(CONVERSIONS, ((), 0)), "huz_open": (0, 0)}
+
+
+def bundled(*lines):
+    """the order numbers and the item lines of a bundle"""
+    return [order for order, _ in lines], [item for _, item in lines]
+
+
+def first(*orders):
+    return list(orders), [1] * len(orders)
+
+
+def bundles_on(sound, short):
+    """the same of bundles: with item line 1 each, with others, and where the bundle goes on past the last mix, of which five are left"""
+    numbers = ((short, 0, (), 16, 0), (sound, 0, (), 24, 0), (sound, 3, (0,) * 41, 24, 0), (sound, 3, (5,) * 1000, 24, 0),
+               (sound, 0, (0, 0), 17, 0), (sound, 1, (0,), 17, 0), (sound, 0, (1007,), 6, 0), (sound, 8, (1007, 0), 6, 0),
+               (sound, 1, (1007, 0), 18, 1007), (sound, 2, (1007,), 18, 0), (sound, 4, (1007, 0), 19, 3), (sound, 3, (1007, 0), 20, 1),
+               (sound, 3, (5, 0, 1007), 17, 0), (sound, 3, (5, 1007, 0), 20, 1), (sound, 3, (5, 5, 0), 20, 3), (sound, 3, (5, 6, 7, 6), 20, 4),
+               (sound, 3, (5, 6, 7, 8, 9, 1007), 6, 0), (sound, 3, (5, 6, 7, 8, 9, 5), 6, 0), (sound, 3, (5, 6, 7, 8, 9, 0), 17, 0),
+               (sound, 3, (5, 6, 7, 8, 9, 10, 0), 6, 0))
+    uneven = ((sound, 0, [0, 0], items, 24, 0) for items in ([], [0], [0] * 3, [1] * 1000))
+    lines = ((short, 3, ((0, 0),), 16, 0), (sound, 0, ((0, 0), (0, 0)), 17, 0), (sound, 0, ((1007, 0), (0, 1)), 25, 0),
+             (sound, 1, ((1007, 100),), 25, 0), (sound, 4, ((1007, 255),), 25, 0), (sound, 3, ((1007, 2), (1007, 0)), 25, 0),
+             (sound, 3, ((1007, 2), (1007, 1), (5, 0)), 20, 1), (sound, 3, ((5, 1), (5, 2), (5, 1), (5, 100)), 20, 3),
+             (sound, 3, ((5, 1), (5, 100), (5, 1)), 25, 0), (sound, 3, ((5, 1), (6, 1), (7, 1), (8, 1), (9, 1), (10, 0)), 25, 0),
+             (sound, 3, ((5, 1), (5, 2), (5, 3), (5, 4), (5, 5), (0, 0)), 17, 0), (sound, 3, ((5, 1), (5, 2), (5, 3), (5, 4), (5, 5), (5, 5)), 6, 0))
+    return (*((book, serial, *first(*orders), *said) for book, serial, orders, *said in numbers), *uneven,
+            *((book, serial, *bundled(*given), *said) for book, serial, given, *said in lines))
 
 
 def on_registers(edition):
-    """of calls on a register of seven mixes with these LINES, next serial 3: the record and the column, what comes after them; number and detail"""
-    sound, short = (ref.record_of(*edition, LINES), LINES + [9] * 5), (ref.record_of(*edition, LINES), LINES + [9] * 4)
-    full = (ref.record_of(*edition, [5] * 7), [5] * 7)
-    claims = ((short, 0, 0, 16, 0), (sound, 0, 0, 17, 0), (sound, 1, 0, 17, 0), (sound, 0, 1007, 6, 0), (sound, 8, 1007, 6, 0),
-              (sound, 1, 1007, 18, 1007), (sound, 2, 1007, 18, 0), (sound, 4, 1007, 19, 3), (sound, 3, 1007, 20, 1))
-    voids = ((short, 0, 16, 0), (sound, 0, 6, 0), (sound, 8, 6, 0), (sound, 1, 18, 1007), (sound, 2, 18, 0), (sound, 4, 19, 3))
-    bundles = ((short, 0, [], 16, 0), (sound, 0, [], 24, 0), (sound, 3, [0] * 41, 24, 0), (sound, 3, [5] * 1000, 24, 0),
-               (sound, 0, [0, 0], 17, 0), (sound, 1, [0], 17, 0), (sound, 0, [1007], 6, 0), (sound, 8, [1007, 0], 6, 0),
-               (sound, 1, [1007, 0], 18, 1007), (sound, 2, [1007], 18, 0), (sound, 4, [1007, 0], 19, 3), (sound, 3, [1007, 0], 20, 1),
-               (sound, 3, [5, 0, 1007], 17, 0), (sound, 3, [5, 1007, 0], 20, 1), (sound, 3, [5, 5, 0], 20, 3), (sound, 3, [5, 6, 7, 6], 20, 4),
-               # five are left
-               (sound, 3, [5, 6, 7, 8, 9, 1007], 6, 0), (sound, 3, [5, 6, 7, 8, 9, 5], 6, 0), (sound, 3, [5, 6, 7, 8, 9, 0], 17, 0),
-               (sound, 3, [5, 6, 7, 8, 9, 10, 0], 6, 0))
-    looks = ((full[0], [5] * 6), 16, 0), (short, 16, 0), (full, 21, 0)
+    """of calls on a register of seven mixes with these LINES, next serial 3: the record and the columns, what comes after them; number and detail"""
+    record, full = ref.record_of(*edition, LINES), ref.record_of(*edition, [(5, item) for item in range(1, 8)])
+    orders, items = [1007, 0] + [9] * 5, [1, 0] + [200] * 5
+    sound, short = (record, orders, items), (record, orders[:-1], items)
+    others = [(record, orders, items[:6]), (record, orders, [])]
+    others += [(record, orders, line + items[2:]) for line in ([100, 0], [255, 0], [0, 0], [1, 1], [1, 99], [1, 200])]
+    faults = ((sound, serial, order, item, 25 if order else 17, 0) for serial in (0, 1, 3, 4, 8) for order in (0, 1007) for item in (0, 100, 255))
+    claims = ((short, 0, 0, 0, 16, 0), *((book, 0, 0, 0, 16, 0) for book in others), (sound, 0, 0, 1, 17, 0), (sound, 1, 0, 1, 17, 0), *faults,
+              (sound, 0, 1007, 1, 6, 0), (sound, 8, 1007, 1, 6, 0), (sound, 1, 1007, 1, 18, 1007), (sound, 2, 1007, 1, 18, 0),
+              (sound, 1, 1007, 2, 18, 1007), (sound, 4, 1007, 1, 19, 3), (sound, 3, 1007, 1, 20, 1))
+    voids = ((short, 0, 16, 0), *((book, 0, 16, 0) for book in others), (sound, 0, 6, 0), (sound, 8, 6, 0), (sound, 1, 18, 1007), (sound, 2, 18, 0),
+             (sound, 4, 19, 3))
+    bundles = (*bundles_on(sound, short), *((book, 0, [], [1], 16, 0) for book in others))
+    looks = (((full, [5] * 6, [*range(1, 8)]), 16, 0), ((full, [5] * 7, [*range(1, 7)]), 16, 0), (short, 16, 0), *((book, 16, 0) for book in others),
+             ((full, [5] * 7, [*range(1, 8)]), 21, 0))
     return {"huz_peek": looks, "huz_claim": claims, "huz_claim_in": claims, "huz_void": voids, "huz_void_in": voids, "huz_claim_all": bundles}
 
 
@@ -143,12 +172,12 @@ SLIPS = (("0 0\n1000", 22), ("61 " * 24 + "0\n300", 1), ("2 61 0\n300", 2), ("1\
 
 
 def memory(name, arguments):
-    """the last number of a call that fills memory is its length; of an opening, the column's"""
+    """the last number of a call that fills memory is its length; of an opening, the last two are those of the columns"""
     parts = [Lent(a) if isinstance(a, tuple) else a for a in arguments]
     if name in ("huz_unrank", "huz_batch", *CONVERSIONS):
         parts[-1] = Lent(bytes(arguments[-1]))
     elif name == "huz_open":
-        parts[-1] = Lent([0] * arguments[-1], 4)
+        parts[-2:] = Lent([0] * arguments[-2], 4), Lent([0] * arguments[-1])
     return parts
 
 
@@ -173,12 +202,12 @@ class Calls(unittest.TestCase):
         for edition in SEVEN, GAP:
             registers = on_registers(edition)
             for name, cases in registers.items():
-                for (record, column), *rest, number, detail in cases:
-                    given = [Lent(a, 4) if isinstance(a, list) else a for a in rest]
-                    self.assertEqual(self.said(name, ledger_of(record), Lent(column, 4), *given), (number, detail), (name, rest))
+                for (record, column, items), *rest, number, detail in cases:
+                    given = [Lent(a, (0, 4, 1)[at]) if isinstance(a, list) else a for at, a in enumerate(rest)]
+                    self.assertEqual(self.said(name, ledger_of(record), Lent(column, 4), Lent(items), *given), (number, detail), (name, rest, items))
                 self.assertEqual({case[-2] for case in cases}, set(CHECKS[name]), name)
-            for (record, column), number, _ in registers["huz_peek"]:
-                self.assertEqual(call("huz_entries", ledger_of(record), Lent(column, 4)), (0 if number == 16 else 7,))
+            for (record, column, items), number, _ in registers["huz_peek"]:
+                self.assertEqual(call("huz_entries", ledger_of(record), Lent(column, 4), Lent(items)), (0 if number == 16 else 7,))
 
     def test_listing(self):
         for slip, number in SLIPS:

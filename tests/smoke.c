@@ -34,9 +34,11 @@ static int is(const uint8_t *cells, int a, int b, int c) {
 /* the same mixes with a kind withdrawn between the first and the second, which is no puzzle edition */
 static void withdrawn(void) {
     const uint8_t upper[4] = {3, 0, 2, 1}, composition[4] = {2, 0, 1, 0}, given[5] = {2, 4, 1, 3, 5};
-    const uint32_t bundle[2] = {1021, 1028};
+    const uint32_t bundle[2] = {1021, 1021};
     uint8_t out[8], order[5];
+    const uint8_t lines[2] = {1, 2};
     uint32_t orders[6] = {0};
+    uint8_t items[6] = {0};
 
     huz_checked checked = huz_check(upper, 4, 3);
     expect(checked.number == 0 && checked.count == 6 && checked.bounds.parts == 4 && is(checked.bounds.upper, 3, 0, 2), "huz_check, withdrawn");
@@ -51,17 +53,18 @@ static void withdrawn(void) {
     expect(huz_inversions(upper, 4, 3, given, 5, out, 4).number == HUZ_NOT_A_STAIRCASE, "huz_inversions, withdrawn");
     expect(huz_major_permutation(upper, 4, 3, composition, 4, order, 5).number == HUZ_NOT_A_STAIRCASE, "huz_major_permutation, withdrawn");
     expect(huz_major_code(upper, 4, 3, given, 5, out, 4).number == HUZ_NOT_A_STAIRCASE, "huz_major_code, withdrawn");
-    huz_opened opened = huz_open(upper, 4, 3, orders, 6);
+    huz_opened opened = huz_open(upper, 4, 3, orders, 6, items, 6);
     expect(opened.number == 0 && is(opened.ledger.next, 3, 0, 0), "huz_open, withdrawn");
-    huz_claimed claimed = huz_claim(opened.ledger, orders, 6, 1, 1007);
-    huz_peeked peeked = huz_peek(claimed.ledger, orders, 6);
+    huz_claimed claimed = huz_claim(opened.ledger, orders, 6, items, 6, 1, 1007, 1);
+    huz_peeked peeked = huz_peek(claimed.ledger, orders, 6, items, 6);
     expect(peeked.serial == 2 && is(peeked.composition, 2, 0, 1) && peeked.gain == 3 && peeked.loss == 1, "huz_claim and huz_peek, withdrawn");
-    claimed = huz_void(claimed.ledger, orders, 6, 2);
-    expect(is(claimed.composition, 2, 0, 1) && huz_entries(claimed.ledger, orders, 6) == 2, "huz_void and huz_entries, withdrawn");
-    expect(is(huz_claim_in(&claimed.ledger, orders, 6, 3, 1014).composition, 1, 0, 2), "huz_claim_in, withdrawn");
-    expect(is(huz_void_in(&claimed.ledger, orders, 6, 4).composition, 0, 0, 2) && claimed.ledger.entries == 4, "huz_void_in, withdrawn");
-    claimed = huz_claim_all(claimed.ledger, orders, 6, 5, bundle, 2);
-    expect(claimed.number == 0 && is(claimed.composition, 1, 0, 1) && claimed.ledger.entries == 6 && orders[5] == 1028, "huz_claim_all, withdrawn");
+    claimed = huz_void(claimed.ledger, orders, 6, items, 6, 2);
+    expect(is(claimed.composition, 2, 0, 1) && huz_entries(claimed.ledger, orders, 6, items, 6) == 2, "huz_void and huz_entries, withdrawn");
+    expect(is(huz_claim_in(&claimed.ledger, orders, 6, items, 6, 3, 1007, 2).composition, 1, 0, 2), "huz_claim_in, withdrawn");
+    expect(is(huz_void_in(&claimed.ledger, orders, 6, items, 6, 4).composition, 0, 0, 2) && claimed.ledger.entries == 4, "huz_void_in, withdrawn");
+    claimed = huz_claim_all(claimed.ledger, orders, 6, items, 6, 5, bundle, 2, lines, 2);
+    expect(claimed.number == 0 && is(claimed.composition, 1, 0, 1) && claimed.ledger.entries == 6, "huz_claim_all, withdrawn");
+    expect(orders[5] == 1021 && items[5] == 2, "the columns after huz_claim_all, withdrawn");
 }
 
 /* sheet orders by major index */
@@ -79,27 +82,61 @@ static void major(void) {
 
 /* a club order: two of three copies, then one too many, one order twice, none; a refused one answers the record that went in */
 static void club(void) {
-    const uint8_t upper[3] = {1, 1, 1};
+    const uint8_t upper[3] = {1, 1, 1}, lines[3] = {1, 1, 1};
     const uint32_t bundle[3] = {1007, 1014, 1014};
     uint32_t orders[4] = {5, 5, 5, 5};
+    uint8_t items[4] = {200, 200, 200, 200};
 
-    huz_opened opened = huz_open(upper, 3, 1, orders, 4);
-    huz_claimed claimed = huz_claim_all(opened.ledger, orders, 4, 1, bundle, 3);
+    huz_opened opened = huz_open(upper, 3, 1, orders, 4, items, 4);
+    huz_claimed claimed = huz_claim_all(opened.ledger, orders, 4, items, 4, 1, bundle, 3, lines, 3);
     expect(claimed.number == HUZ_ORDER_STANDS_EARLIER && claimed.detail == 2 && claimed.serial == 0, "huz_claim_all with an order twice");
-    expect(claimed.ledger.entries == 0 && is(claimed.ledger.next, 1, 0, 0) && orders[0] == 5, "what is left by a refused huz_claim_all");
-    claimed = huz_claim_all(opened.ledger, orders, 4, 1, bundle, 2);
+    expect(claimed.ledger.entries == 0 && is(claimed.ledger.next, 1, 0, 0), "the record after a refused huz_claim_all");
+    expect(orders[0] == 5 && items[0] == 200, "the columns after a refused huz_claim_all");
+    expect(huz_claim_all(opened.ledger, orders, 4, items, 4, 1, bundle, 2, lines, 1).number == HUZ_BUNDLE_LENGTH, "an item line too few");
+    expect(huz_claim_all(opened.ledger, orders, 4, items, 4, 1, bundle, 2, lines, 3).number == HUZ_BUNDLE_LENGTH, "an item line too many");
+    claimed = huz_claim_all(opened.ledger, orders, 4, items, 4, 1, bundle, 2, lines, 2);
     expect(claimed.number == 0 && claimed.detail == 0 && claimed.serial == 1 && is(claimed.composition, 1, 0, 0), "huz_claim_all");
     expect(claimed.ledger.entries == 2 && claimed.ledger.sold == 2 && is(claimed.ledger.next, 0, 0, 1), "the record after huz_claim_all");
-    expect(orders[0] == 1007 && orders[1] == 1014 && orders[2] == 5, "the column after huz_claim_all");
-    huz_claimed second = huz_claim_all(claimed.ledger, orders, 4, 1, bundle, 1);
+    expect(orders[0] == 1007 && orders[1] == 1014 && orders[2] == 5, "the order column after huz_claim_all");
+    expect(is(items, 1, 1, 200), "the item column after huz_claim_all");
+    huz_claimed second = huz_claim_all(claimed.ledger, orders, 4, items, 4, 1, bundle, 1, lines, 1);
     expect(second.number == HUZ_ALREADY_WRITTEN && second.detail == 1007 && second.ledger.entries == 2, "a second huz_claim_all");
     const uint32_t more[2] = {1021, 1028};
-    second = huz_claim_all(claimed.ledger, orders, 4, 3, more, 2);
-    expect(second.number == HUZ_SERIAL_OUT_OF_RANGE && orders[2] == 5, "huz_claim_all past the last mix");
-    expect(huz_claim_all(claimed.ledger, orders, 4, 3, NULL, 0).number == HUZ_BUNDLE_LENGTH, "huz_claim_all of no orders");
-    claimed = huz_claim_all(claimed.ledger, orders, 4, 3, more, 1);
+    second = huz_claim_all(claimed.ledger, orders, 4, items, 4, 3, more, 2, lines, 2);
+    expect(second.number == HUZ_SERIAL_OUT_OF_RANGE && orders[2] == 5 && items[2] == 200, "huz_claim_all past the last mix");
+    expect(huz_claim_all(claimed.ledger, orders, 4, items, 4, 3, NULL, 0, NULL, 0).number == HUZ_BUNDLE_LENGTH, "huz_claim_all of no orders");
+    claimed = huz_claim_all(claimed.ledger, orders, 4, items, 4, 3, more, 1, lines, 1);
     expect(claimed.number == 0 && claimed.ledger.entries == 3 && is(claimed.ledger.next, 0, 0, 1), "huz_claim_all of the last copy");
-    expect(orders[2] == 1021 && orders[3] == 5, "the column after the last copy");
+    expect(orders[2] == 1021 && orders[3] == 5 && items[2] == 1 && items[3] == 200, "the columns after the last copy");
+}
+
+/* two copies on one order, and sales made before there were item lines */
+static void basket(void) {
+    const uint8_t upper[3] = {1, 1, 1};
+    uint32_t orders[3] = {1007, 0, 5};
+    uint8_t items[3] = {0, 0, 0};
+
+    huz_opened opened = huz_open(upper, 3, 1, orders, 3, items, 2);
+    expect(opened.number == HUZ_COLUMN_TOO_SHORT && opened.ledger.bounds.parts == 0, "huz_open with a short item column");
+    huz_ledger ledger = huz_open(upper, 3, 1, orders, 3, items, 3).ledger;
+    expect(huz_claim_in(&ledger, orders, 3, items, 3, 1, 1007, 0).number == HUZ_ITEM_LINE, "huz_claim_in of item line 0");
+    expect(huz_claim_in(&ledger, orders, 3, items, 3, 1, 1007, 100).number == HUZ_ITEM_LINE, "huz_claim_in of item line 100");
+    expect(huz_claim_in(&ledger, orders, 3, items, 3, 1, 1007, 99).serial == 1, "huz_claim_in of item line 99");
+    expect(huz_claim_in(&ledger, orders, 3, items, 3, 2, 1007, 98).serial == 2, "huz_claim_in of the second copy");
+    huz_answer answer = huz_claim_in(&ledger, orders, 3, items, 3, 3, 1007, 98);
+    expect(answer.number == HUZ_ORDER_STANDS_EARLIER && answer.detail == 2, "huz_claim_in of the same copy");
+    expect(is(items, 99, 98, 0) && orders[0] == 1007 && orders[1] == 1007, "the columns of two copies");
+
+    /* as it was kept before: one line sold, one spoilt */
+    orders[1] = 0;
+    items[0] = items[1] = 0;
+    ledger.sold = ledger.voided = 1;
+    expect(huz_peek(ledger, orders, 3, items, 3).number == HUZ_LEDGER_INCONSISTENT, "huz_peek without item lines");
+    expect(huz_entries(ledger, orders, 3, items, 3) == 0, "huz_entries without item lines");
+    for (size_t i = 0; i < ledger.entries; i++)
+        items[i] = orders[i] != 0;
+    expect(huz_peek(ledger, orders, 3, items, 3).serial == 3, "huz_peek with a 1 beside the order");
+    expect(huz_entries(ledger, orders, 3, items, 3) == 2, "huz_entries with a 1 beside the order");
 }
 
 int main(void) {
@@ -127,32 +164,35 @@ int main(void) {
 
     const uint8_t two[2] = {1, 1};
     uint32_t orders[2] = {5, 5};
-    huz_opened opened = huz_open(two, 2, 1, orders, 2);
+    uint8_t items[2] = {7, 7};
+    huz_opened opened = huz_open(two, 2, 1, orders, 2, items, 2);
     expect(opened.number == 0 && opened.ledger.entries == 0 && is(opened.ledger.next, 1, 0, 0), "huz_open");
-    huz_peeked peeked = huz_peek(opened.ledger, orders, 2);
+    huz_peeked peeked = huz_peek(opened.ledger, orders, 2, items, 2);
     expect(peeked.number == 0 && peeked.serial == 1 && is(peeked.composition, 1, 0, 0) && peeked.gain == 0 && peeked.loss == 0, "huz_peek");
-    huz_claimed claimed = huz_claim(opened.ledger, orders, 2, 1, 1007);
-    expect(claimed.number == 0 && claimed.serial == 1 && orders[0] == 1007 && claimed.ledger.sold == 1, "huz_claim");
-    peeked = huz_peek(claimed.ledger, orders, 2);
+    huz_claimed claimed = huz_claim(opened.ledger, orders, 2, items, 2, 1, 1007, 1);
+    expect(claimed.number == 0 && claimed.serial == 1 && orders[0] == 1007 && items[0] == 1 && claimed.ledger.sold == 1, "huz_claim");
+    peeked = huz_peek(claimed.ledger, orders, 2, items, 2);
     expect(peeked.number == 0 && peeked.serial == 2 && peeked.gain == 2 && peeked.loss == 1, "huz_peek of serial 2");
-    huz_claimed second = huz_claim(claimed.ledger, orders, 2, 1, 1014);
+    huz_claimed second = huz_claim(claimed.ledger, orders, 2, items, 2, 1, 1014, 1);
     expect(second.number == HUZ_ALREADY_WRITTEN && second.detail == 1007 && second.ledger.entries == 1, "a second huz_claim");
-    claimed = huz_void(claimed.ledger, orders, 2, 2);
-    expect(claimed.number == 0 && orders[1] == 0 && claimed.ledger.voided == 1, "huz_void");
-    expect(huz_entries(claimed.ledger, orders, 2) == 2, "huz_entries");
+    claimed = huz_void(claimed.ledger, orders, 2, items, 2, 2);
+    expect(claimed.number == 0 && orders[1] == 0 && items[1] == 0 && claimed.ledger.voided == 1, "huz_void");
+    expect(huz_entries(claimed.ledger, orders, 2, items, 2) == 2, "huz_entries");
 
     huz_ledger lent = opened.ledger, before;
     orders[0] = orders[1] = 5;
-    huz_answer answer = huz_claim_in(&lent, orders, 2, 1, 1007);
+    items[0] = items[1] = 7;
+    huz_answer answer = huz_claim_in(&lent, orders, 2, items, 2, 1, 1007, 1);
     expect(answer.number == 0 && answer.serial == 1 && is(answer.composition, 1, 0, 0) && orders[0] == 1007 && lent.sold == 1, "huz_claim_in");
     memcpy(&before, &lent, sizeof lent);
-    answer = huz_claim_in(&lent, orders, 2, 1, 1014);
-    expect(answer.number == HUZ_ALREADY_WRITTEN && answer.detail == 1007 && orders[0] == 1007 && orders[1] == 5, "a second huz_claim_in");
+    answer = huz_claim_in(&lent, orders, 2, items, 2, 1, 1014, 1);
+    expect(answer.number == HUZ_ALREADY_WRITTEN && answer.detail == 1007 && orders[1] == 5 && items[1] == 7, "a second huz_claim_in");
     expect(memcmp(&before, &lent, sizeof lent) == 0, "the record after a refused huz_claim_in");
-    answer = huz_void_in(&lent, orders, 2, 2);
+    answer = huz_void_in(&lent, orders, 2, items, 2, 2);
     expect(answer.number == 0 && answer.serial == 2 && orders[1] == 0 && lent.voided == 1 && lent.entries == 2, "huz_void_in");
     major();
     club();
+    basket();
     withdrawn();
     if (!failed)
         puts("smoke: 19 functions, 18 of them with a kind withdrawn");

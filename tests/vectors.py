@@ -74,6 +74,7 @@ def fixed():
         if inputs.accepted(ms, r):
             yield command("b", ms, r, 1, copies, copies * len(ms))
     yield from by_major_index()
+    yield from without_a_line()
 
 
 def by_major_index():
@@ -85,6 +86,14 @@ def by_major_index():
         ms, r = inputs.stairs(len(mix)), sum(mix)
         yield command("m", ms, r, bytes(mix), len(order))
         yield command("d", ms, r, bytes(order), len(mix))
+
+
+def without_a_line():
+    """calls that are handed no order or no item line: a take has 0 for it, a bundle is 24, and the others do not look"""
+    record = ref.record_of((1, 1, 1), 1, [(1007, 1)])
+    for which in range(len(interleave.WORDS)):
+        for orders, items in ([], []), ([1007], []), ([], [1]), ([1007], [2]), ([1007, 1014], [2]), ([1014], [1, 2]):
+            yield command("k", *record, [1007, 5, 5], [1, 9, 9, 9], which, 2, orders, items)
 
 
 class Draw:
@@ -130,9 +139,11 @@ class Draw:
         return "n", *inputs.opening(self.rng, ENTRIES)
 
     def call(self, which):
-        record, column, serial, orders = inputs.bundle(self.rng) if which == interleave.BUNDLE else inputs.call(self.rng)
+        """a call other than a bundle names its order and its item line as lists of one; what a look and a void name is not looked at"""
+        record, column, items, serial, *named = inputs.bundle(self.rng) if which == interleave.BUNDLE else inputs.call(self.rng)
         n, upper, r, lines, sold, voided, mix = record
-        return "k", n, upper, r, lines, sold, voided, mix, column, which, serial, orders if isinstance(orders, list) else [orders]
+        named = [v if isinstance(v, list) else [v] for v in named]
+        return "k", n, upper, r, lines, sold, voided, mix, column, items, which, serial, *named
 
     def kinds(self):
         yield self.count
@@ -167,9 +178,9 @@ def fits(fields):
 
 
 def lists():
-    for ms, r, column, script, pool, size in interleave.lists():
-        assert max(len(column), len(pool), -(-size // interleave.ROW)) <= ENTRIES
-        yield command("l", ms, r, column, script, pool, size)
+    for ms, r, column, items, script, orders, lines, size in interleave.lists():
+        assert max(len(column), len(items), len(orders), len(lines), -(-size // interleave.ROW)) <= ENTRIES
+        yield command("l", ms, r, column, items, script, orders, lines, size)
 
 
 # ---- answers: lines of numbers
@@ -229,33 +240,34 @@ def batched(read):
 
 
 def opened(read):
-    number, detail, record = ref.opening(*read.edition(), read.number())
+    number, detail, record = ref.opening(*read.edition(), read.number(), read.number())
     return [(number, detail), record]
 
 
 def called(read):
     n, upper, r = read.number(), read.list(), read.number()
     record = n, upper, r, read.number(), read.number(), read.number(), read.list()
-    column, which = list(read.list()), read.number()
-    serial, orders = read.number(), list(read.list())
-    before = column[:ref.entries(record, column)]
-    arguments = (), (serial, *orders[:1]), (serial,), (serial, orders)
-    answer, record, column = ref.call(record, column, interleave.WORDS[which], arguments[which])
-    return [(len(before), before), answer, record, (len(column), column)]
+    column, items, which = list(read.list()), list(read.list()), read.number()
+    serial, orders, lines = read.number(), list(read.list()), list(read.list())
+    before = ref.entries(record, column, items)
+    arguments = (), (serial, (orders + [0])[0], (lines + [0])[0]), (serial,), (serial, orders, lines)
+    shown = [(before, column[:before]), (before, items[:before])]
+    answer, record, column, items = ref.call(record, column, items, interleave.WORDS[which], arguments[which])
+    return [*shown, answer, record, (len(column), column), (len(items), items)]
 
 
 def replayed(read):
-    (ms, r), column = read.edition(), list(read.list())
-    script, pool, rows = read.list(), read.list(), [ROOM] * read.number()
-    calls = interleave.calls_of(script, pool)
-    number, detail, record = ref.opening(ms, r, len(column))
+    (ms, r), column, items = read.edition(), list(read.list()), list(read.list())
+    script, pools, rows = read.list(), (read.list(), read.list()), [ROOM] * read.number()
+    calls = interleave.calls_of(script, *pools)
+    number, detail, record = ref.opening(ms, r, len(column), len(items))
     if not number and (len(script) % interleave.CALL or len(rows) != interleave.ROW * len(interleave.rows_of(script)) or calls is None):
         number, record = 13, ref.NO_RECORD
     if not number:
         paper = ref.Paper(ms, r)
         rows = list(flat([interleave.answer(paper, call) for call in calls]))
-        record, column = ref.record_of(ms, r, paper.lines), paper.lines + column[len(paper.lines):]
-    return [(number, detail), record, (len(column), column), (len(rows), rows)]
+        record, (column, items) = ref.record_of(ms, r, paper.lines), paper.over(column, items)
+    return [(number, detail), record, (len(column), column), (len(items), items), (len(rows), rows)]
 
 
 ANSWERED_BY = {
@@ -291,7 +303,7 @@ def kind_of(line):
     read = Reader(line)
     if read.letter != "k":
         return read.letter
-    read.number(), read.list(), [read.number() for _ in range(4)], read.list(), read.list()
+    read.number(), read.list(), [read.number() for _ in range(4)], read.list(), read.list(), read.list()
     return f"k{read.number()}"
 
 
@@ -320,8 +332,17 @@ def lines_of(line):
 
 def answer_of(line):
     """the number that a command answers; a Mahonian number, or none, for that of the table"""
-    first = lines_of(line)[1 if line[0] == "k" else 0]
+    first = lines_of(line)[2 if line[0] == "k" else 0]
     return first[0] if first else None
+
+
+def uneven_bundles(line):
+    """how many bundles with another number of item lines than of orders a list that is run has"""
+    if line[0] != "l" or answer_of(line):
+        return 0
+    read = Reader(line)
+    read.edition(), read.list(), read.list()
+    return sum(map(interleave.is_uneven, interleave.calls_of(read.list(), read.list(), read.list())))
 
 
 def answered(text):
@@ -346,7 +367,8 @@ def path(name):
 
 
 def checked():
-    """stdout is what the reference says, and every number that a command can answer comes up, with all kinds and with a kind withdrawn"""
+    """stdout is what the reference says, every number that a command can answer comes up, with all kinds and with a kind withdrawn, and so do uneven
+    bundles in lists"""
     with open(path("stdin"), encoding="ascii") as f:
         commands = f.read()
     with open(path("stdout"), encoding="ascii") as f:
@@ -356,9 +378,12 @@ def checked():
     for kind in KINDS:
         missing = sorted(answer for answer in numbers(kind) if not came_up[kind, *answer])
         differences += [f"{kind} does not answer {number}{' with a kind withdrawn' * there}" for there, number in missing]
+    uneven = [n for line in commands.split("\n") if line and (n := uneven_bundles(line))]
+    differences += [] if uneven else ["no list has a bundle with another number of item lines than of orders"]
     print("\n".join(differences), end="\n" if differences else "")
     for kind in CALLS:
         print(f"{kind} with a kind withdrawn: answered", ", ".join(f"{n} {came_up[kind, t, n]} times" for t, n in sorted(numbers(kind)) if t))
+    print(f"l: {sum(uneven)} bundles with another number of item lines than of orders, in {len(uneven)} lists")
     print(f"vectors: {came_up.total()} commands, {len(differences)} differences")
     return 1 if differences else 0
 

@@ -9,36 +9,96 @@ const BLOCK: usize = 1024;
 /// The most orders of a bundle.
 const MOST: usize = 40;
 
+/// The highest item line.
+const LAST: u8 = 99;
+
 /// Slots that a bundle's orders mark: an order's is its remainder.
 const SLOTS: usize = 8192;
 
-/// How many lines are 0: the halves at a time, so that the speed of so short a loop does not hang on where the compiler puts it.
-fn zeros(lines: &[u32]) -> u64 {
-    let half = lines.len() / 2;
-    let (low, high) = lines.split_at(half);
-    let (mut zeros, mut others) = (0u32, 0u32);
-    for (&a, &b) in low.iter().zip(high) {
-        zeros += (a == 0) as u32;
-        others += (b == 0) as u32;
-    }
-    let odd = high[half..].iter().filter(|&&o| o == 0).count() as u64;
-    zeros as u64 + others as u64 + odd
+/// Lines, or the lines of a bundle: their orders and their item lines, as many of each.
+#[derive(Clone, Copy)]
+struct Lines<'a> {
+    orders: &'a [u32],
+    items: &'a [u8],
 }
 
-/// The same, and the lowest place of an order: the first block that has it is searched afterwards. Where it stands nowhere, the number of lines.
-fn zeros_and_place(lines: &[u32], order: u32) -> (u64, usize) {
-    let (mut zeros, mut first) = (0u32, lines.len());
-    for (i, block) in lines.chunks(BLOCK).enumerate() {
+impl<'a> Lines<'a> {
+    fn first(self, n: usize) -> Lines<'a> {
+        Lines { orders: &self.orders[..n], items: &self.items[..n] }
+    }
+
+    /// The lowest place of a line.
+    fn position(self, order: u32, item: u8) -> Option<usize> {
+        self.orders.iter().zip(self.items).position(|(&o, &t)| o == order && t == item)
+    }
+}
+
+/// How many lines are voided, or none where a line cannot be: with an item line over 99, or with a 0 in one column alone. How many orders of a block
+/// are 0 is asked of `zeros`, which is handed its first place too. Each column is passed over by itself; only in a block that has a 0 are the two
+/// compared.
+#[inline(always)]
+fn voided(lines: Lines, mut zeros: impl FnMut(usize, Lines) -> u32) -> Option<u64> {
+    let (mut all, mut uneven, mut most) = (0, 0, 0);
+    for (i, (orders, items)) in lines.orders.chunks(BLOCK).zip(lines.items.chunks(BLOCK)).enumerate() {
+        let voided = zeros(i * BLOCK, Lines { orders, items });
+        let mut least = u8::MAX;
+        for &t in items {
+            least = least.min(t);
+            most = most.max(t);
+        }
+        if voided > 0 || least == 0 {
+            for (&o, &t) in orders.iter().zip(items) {
+                uneven |= (o == 0) as u32 ^ (t as u32 == 0) as u32;
+            }
+        }
+        all += voided as u64;
+    }
+    (uneven == 0 && most <= LAST).then_some(all)
+}
+
+fn zeros(orders: &[u32]) -> u32 {
+    orders.iter().map(|&o| (o == 0) as u32).sum()
+}
+
+/// How many lines are voided.
+#[inline(never)]
+fn voided_alone(lines: Lines) -> Option<(u64, ())> {
+    voided(lines, |_, block| zeros(block.orders)).map(|all| (all, ()))
+}
+
+/// The same, and the lowest place of an order and an item line. In a block that has the order both are searched; where they stand nowhere, the number
+/// of lines.
+fn voided_and_place(lines: Lines, order: u32, item: u8) -> Option<(u64, usize)> {
+    let none = lines.orders.len();
+    let mut place = none;
+    let all = voided(lines, |from, block| {
+        let (mut zeros, mut hits) = (0, 0u32);
+        for &o in block.orders {
+            zeros += (o == 0) as u32;
+            hits += (o == order) as u32;
+        }
+        if hits > 0 && place == none {
+            place = block.position(order, item).map_or(none, |at| from + at);
+        }
+        zeros
+    })?;
+    Some((all, place))
+}
+
+/// The pass over the order column alone, as it was before there were item lines, to be timed beside the one over both.
+fn voided_and_place_by_number(orders: &[u32], order: u32) -> (u64, usize) {
+    let (mut zeros, mut first) = (0u32, orders.len());
+    for (i, block) in orders.chunks(BLOCK).enumerate() {
         let mut hits = 0u32;
         for &o in block {
             zeros += (o == 0) as u32;
             hits += (o == order) as u32;
         }
-        if hits > 0 && first == lines.len() {
+        if hits > 0 && first == orders.len() {
             first = i * BLOCK;
         }
     }
-    let rest = &lines[first..];
+    let rest = &orders[first..];
     (zeros as u64, first + rest.iter().position(|&o| o == order).unwrap_or(rest.len()))
 }
 
@@ -46,66 +106,78 @@ fn slot(order: u32) -> usize {
     order as usize % SLOTS
 }
 
-/// How many orders of a bundle stand before the first that is 0 or that the bundle has already, and why that one is refused: 20 with the place, from
-/// 0, that it has already. The slots of those before it are marked.
-fn mark(bundle: &[u32], marks: &mut [u8; SLOTS]) -> (usize, Refused) {
-    for (i, &order) in bundle.iter().enumerate() {
-        if order == 0 {
-            return (i, (17, 0));
+/// 17 and 25.
+fn fault(order: u32, item: u8) -> Result<(), Refused> {
+    match () {
+        _ if order == 0 => Err((17, 0)),
+        _ if item == 0 || item > LAST => Err((25, 0)),
+        _ => Ok(()),
+    }
+}
+
+/// How many lines of a bundle stand before the first that has a fault or that the bundle has already, and why that one is refused: 20 with the place,
+/// from 0, that it has already. The slots of those before it are marked.
+fn mark(bundle: Lines, marks: &mut [u8; SLOTS]) -> (usize, Refused) {
+    for (i, (&order, &item)) in bundle.orders.iter().zip(bundle.items).enumerate() {
+        if let Err(refused) = fault(order, item) {
+            return (i, refused);
         }
         let mark = &mut marks[slot(order)];
         if *mark != 0
-            && let Some(at) = bundle[..i].iter().position(|&o| o == order)
+            && let Some(at) = bundle.first(i).position(order, item)
         {
             return (i, (20, at as u64));
         }
         *mark = 1;
     }
-    (bundle.len(), (0, 0))
+    (bundle.orders.len(), (0, 0))
 }
 
-/// How many lines are 0; the first of the marked orders that stands among the lines, or their number, and its lowest place. Each line is tested for a
-/// mark, with EIGHTS eight of them at a time, and only a marked line is compared, with the orders before the first that was found.
-fn zeros_and_first<const EIGHTS: bool>(lines: &[u32], orders: &[u32], marks: &[u8; SLOTS]) -> (u64, (usize, usize)) {
-    let (mut zeros, mut first, mut place) = (0u32, orders.len(), lines.len());
+/// Where a bundle has a line: the way that is seldom taken.
+#[cold]
+#[inline(never)]
+fn found(bundle: Lines, order: u32, item: u8) -> Option<usize> {
+    bundle.position(order, item)
+}
+
+/// How many lines are voided; the first of the bundle's lines that stands among them, or their number, and its lowest place. Each is tested for a
+/// mark, with EIGHTS eight of them at a time, and only a marked line is compared, with the bundle's before the first that was found.
+fn voided_and_first<const EIGHTS: bool>(lines: Lines, bundle: Lines, marks: &[u8; SLOTS]) -> Option<(u64, (usize, usize))> {
+    let (mut first, mut place) = (bundle.orders.len(), lines.orders.len());
     let mut search = |from: usize, few: &[u32]| {
         for (i, &o) in few.iter().enumerate() {
-            if marks[slot(o)] != 0
-                && let Some(at) = orders[..first].iter().position(|&b| b == o)
-            {
-                (first, place) = (at, from + i);
+            if marks[slot(o)] != 0 {
+                (first, place) = found(bundle.first(first), o, lines.items[from + i]).map_or((first, place), |at| (at, from + i));
             }
         }
     };
-    for (i, block) in lines.chunks(BLOCK).enumerate() {
-        for &o in block {
-            zeros += (o == 0) as u32;
-        }
-        let (eights, rest) = if EIGHTS { block.as_chunks::<8>() } else { (&[][..], block) };
+    let all = voided(lines, |from, block| {
+        let (eights, rest) = if EIGHTS { block.orders.as_chunks::<8>() } else { (&[][..], block.orders) };
         for (j, few) in eights.iter().enumerate() {
             if few.iter().fold(0, |any, &o| any | marks[slot(o)]) != 0 {
-                search(i * BLOCK + j * 8, few);
+                search(from + j * 8, few);
             }
         }
-        search(i * BLOCK + eights.len() * 8, rest);
-    }
-    (zeros as u64, (first, place))
+        search(from + eights.len() * 8, rest);
+        zeros(block.orders)
+    })?;
+    Some((all, (first, place)))
 }
 
-/// The same by a pass for each order, until one stands there.
-fn zeros_and_first_by_passes(lines: &[u32], orders: &[u32]) -> (u64, (usize, usize)) {
-    for (i, &order) in orders.iter().enumerate() {
-        let (zeros, place) = zeros_and_place(lines, order);
-        if place < lines.len() {
-            return (zeros, (i, place));
+/// The same by a pass for each line of the bundle, until one stands there.
+fn voided_and_first_by_passes(lines: Lines, bundle: Lines) -> Option<(u64, (usize, usize))> {
+    for (i, (&order, &item)) in bundle.orders.iter().zip(bundle.items).enumerate() {
+        let (all, place) = voided_and_place(lines, order, item)?;
+        if place < lines.orders.len() {
+            return Some((all, (i, place)));
         }
     }
-    (zeros(lines), (orders.len(), lines.len()))
+    voided_alone(lines).map(|(all, ())| (all, (bundle.orders.len(), lines.orders.len())))
 }
 
-/// N and what the pass finds besides the zeros, or 16.
+/// N and what the pass finds besides the voided lines, or 16.
 #[inline(always)]
-fn register<T>(ledger: &Ledger, orders: &[u32], pass: impl Fn(&[u32]) -> (u64, T)) -> Result<(u64, T), Refused> {
+fn register<T>(ledger: &Ledger, lines: Lines, pass: impl Fn(Lines) -> Option<(u64, T)>) -> Result<(u64, T), Refused> {
     let n = ledger.bounds.parts;
     if n > 24 {
         return Err((16, 0));
@@ -116,7 +188,8 @@ fn register<T>(ledger: &Ledger, orders: &[u32], pass: impl Fn(&[u32]) -> (u64, T
     let mut memory = memory::<false>();
     let table = fill(upper, total, all, &mut memory).map_err(|_| (16, 0))?;
     let count = table.count(n, total as usize);
-    if count > 1_000_000 || (orders.len() as u64) < count || ledger.entries > count {
+    let room = lines.orders.len().min(lines.items.len()) as u64;
+    if count > 1_000_000 || room < count || ledger.entries > count {
         return Err((16, 0));
     }
     let mut next = [0; 24];
@@ -124,7 +197,7 @@ fn register<T>(ledger: &Ledger, orders: &[u32], pass: impl Fn(&[u32]) -> (u64, T
     if next != ledger.next || spare.iter().any(|&c| c != 0) {
         return Err((16, 0));
     }
-    let (zeros, found) = pass(&orders[..ledger.entries as usize]);
+    let (zeros, found) = pass(lines.first(ledger.entries as usize)).ok_or((16, 0))?;
     if ledger.voided != zeros || ledger.sold != ledger.entries - zeros {
         return Err((16, 0));
     }
@@ -145,14 +218,15 @@ fn place(ledger: &Ledger, orders: &[u32], count: u64, serial: u64) -> Result<(),
     Ok(())
 }
 
-/// The order in the next line, where nothing is refused.
+/// The order and its item line in the next line, where nothing is refused.
 #[inline(always)]
-fn enter(placed: Result<(), Refused>, mut ledger: Ledger, orders: &mut [u32], order: u32) -> Claimed {
+fn enter(placed: Result<(), Refused>, mut ledger: Ledger, orders: &mut [u32], items: &mut [u8], order: u32, item: u8) -> Claimed {
     if let Err((number, detail)) = placed {
         return Claimed { number, detail, ledger, ..Claimed::default() };
     }
     let composition = ledger.next;
     orders[ledger.entries as usize] = order;
+    items[ledger.entries as usize] = item;
     ledger.entries += 1;
     *(if order == 0 { &mut ledger.voided } else { &mut ledger.sold }) += 1;
     let n = ledger.bounds.parts;
@@ -170,8 +244,8 @@ fn pair(ledger: &Ledger) -> Pair {
 }
 
 #[inline(never)]
-pub fn peek(ledger: Ledger, orders: &[u32]) -> Peeked {
-    match register(&ledger, orders, |lines| (zeros(lines), ())) {
+pub fn peek(ledger: Ledger, orders: &[u32], items: &[u8]) -> Peeked {
+    match register(&ledger, Lines { orders, items }, voided_alone) {
         Err((number, detail)) => Peeked { number, detail, ..Peeked::default() },
         Ok((count, ())) if ledger.entries == count => Peeked { number: 21, ..Peeked::default() },
         Ok(_) => {
@@ -181,80 +255,101 @@ pub fn peek(ledger: Ledger, orders: &[u32]) -> Peeked {
     }
 }
 
-#[inline(never)]
-pub fn claim(ledger: Ledger, orders: &mut [u32], serial: u64, order: u32) -> Claimed {
+#[inline(always)]
+fn taken(
+    ledger: Ledger,
+    orders: &mut [u32],
+    items: &mut [u8],
+    serial: u64,
+    (order, item): (u32, u8),
+    pass: impl Fn(Lines) -> Option<(u64, usize)>,
+) -> Claimed {
     let placed = (|| {
-        let (count, at) = register(&ledger, orders, |lines| zeros_and_place(lines, order))?;
-        if order == 0 {
-            return Err((17, 0));
-        }
+        let (count, at) = register(&ledger, Lines { orders, items }, pass)?;
+        fault(order, item)?;
         place(&ledger, orders, count, serial)?;
         if (at as u64) < ledger.entries { Err((20, at as u64 + 1)) } else { Ok(()) }
     })();
-    enter(placed, ledger, orders, order)
+    enter(placed, ledger, orders, items, order, item)
 }
 
 #[inline(never)]
-pub fn void(ledger: Ledger, orders: &mut [u32], serial: u64) -> Claimed {
-    let placed = register(&ledger, orders, |lines| (zeros(lines), ())).and_then(|(count, ())| place(&ledger, orders, count, serial));
-    enter(placed, ledger, orders, 0)
+pub fn claim(ledger: Ledger, orders: &mut [u32], items: &mut [u8], serial: u64, order: u32, item: u8) -> Claimed {
+    taken(ledger, orders, items, serial, (order, item), |lines| voided_and_place(lines, order, item))
 }
 
-/// The refusal of the first of a bundle's takes that would fail. The pass is handed the lines, and the orders before the first that is wrong by
+/// A claim that looks at no item line, and refuses an order number that stands with any.
+#[inline(never)]
+pub fn claim_by_number(ledger: Ledger, orders: &mut [u32], items: &mut [u8], serial: u64, order: u32, item: u8) -> Claimed {
+    taken(ledger, orders, items, serial, (order, item), |lines| Some(voided_and_place_by_number(lines.orders, order)))
+}
+
+#[inline(never)]
+pub fn void(ledger: Ledger, orders: &mut [u32], items: &mut [u8], serial: u64) -> Claimed {
+    let found = register(&ledger, Lines { orders, items }, voided_alone);
+    let placed = found.and_then(|(count, ())| place(&ledger, orders, count, serial));
+    enter(placed, ledger, orders, items, 0, 0)
+}
+
+/// The refusal of the first of a bundle's takes that would fail. The pass is handed the lines, and the bundle's before the first that is wrong by
 /// itself, with their marks.
 #[inline(always)]
 fn takes(
     ledger: &Ledger,
-    orders: &[u32],
+    lines: Lines,
     serial: u64,
-    bundle: &[u32],
-    pass: impl Fn(&[u32], &[u32], &[u8; SLOTS]) -> (u64, (usize, usize)),
+    bundle: Lines,
+    pass: impl Fn(Lines, Lines, &[u8; SLOTS]) -> Option<(u64, (usize, usize))>,
 ) -> Result<(), Refused> {
-    if bundle.is_empty() || bundle.len() > MOST {
-        register(ledger, orders, |lines| (zeros(lines), ()))?;
+    let size = bundle.orders.len();
+    if size == 0 || size > MOST || bundle.items.len() != size {
+        register(ledger, lines, voided_alone)?;
         return Err((24, 0));
     }
     let mut marks = [0; SLOTS];
     let (sound, own) = mark(bundle, &mut marks);
-    let (count, (found, at)) = register(ledger, orders, |lines| pass(lines, &bundle[..sound], &marks))?;
-    if bundle[0] == 0 {
-        return Err((17, 0));
-    }
-    place(ledger, orders, count, serial)?;
-    let room = (count - ledger.entries).min(bundle.len() as u64) as usize;
+    let (count, (found, at)) = register(ledger, lines, |lines| pass(lines, bundle.first(sound), &marks))?;
+    fault(bundle.orders[0], bundle.items[0])?;
+    place(ledger, lines.orders, count, serial)?;
+    let room = (count - ledger.entries).min(size as u64) as usize;
     if found < sound.min(room) {
         return Err((20, at as u64 + 1));
     }
     if sound < room {
         return Err(if own.0 == 20 { (20, serial + own.1) } else { own });
     }
-    if room < bundle.len() { Err((if bundle[room] == 0 { 17 } else { 6 }, 0)) } else { Ok(()) }
+    if room < size { fault(bundle.orders[room], bundle.items[room]).and(Err((6, 0))) } else { Ok(()) }
 }
 
-/// Each order in the next line, where nothing is refused.
+/// Each line of the bundle in the next line, where nothing is refused.
 #[inline(always)]
-fn enter_all(placed: Result<(), Refused>, mut ledger: Ledger, orders: &mut [u32], serial: u64, bundle: &[u32]) -> Claimed {
+fn enter_all(placed: Result<(), Refused>, mut ledger: Ledger, orders: &mut [u32], items: &mut [u8], serial: u64, bundle: Lines) -> Claimed {
     if let Err((number, detail)) = placed {
         return Claimed { number, detail, ledger, ..Claimed::default() };
     }
-    let (composition, n) = (ledger.next, ledger.bounds.parts);
-    orders[ledger.entries as usize..][..bundle.len()].copy_from_slice(bundle);
-    ledger.entries += bundle.len() as u64;
-    ledger.sold += bundle.len() as u64;
-    for _ in bundle {
+    let (composition, n, size) = (ledger.next, ledger.bounds.parts, bundle.orders.len());
+    orders[ledger.entries as usize..][..size].copy_from_slice(bundle.orders);
+    items[ledger.entries as usize..][..size].copy_from_slice(bundle.items);
+    ledger.entries += size as u64;
+    ledger.sold += size as u64;
+    for _ in 0..size {
         advance(&ledger.bounds.upper[..n], ledger.bounds.total as usize, &mut ledger.next[..n], 0);
     }
     Claimed { number: 0, detail: 0, serial, composition, ledger }
 }
 
+type Bundle<'a> = (&'a [u32], &'a [u8]);
+
 #[inline(never)]
-pub fn claim_all<const EIGHTS: bool>(ledger: Ledger, orders: &mut [u32], serial: u64, bundle: &[u32]) -> Claimed {
-    let placed = takes(&ledger, orders, serial, bundle, zeros_and_first::<EIGHTS>);
-    enter_all(placed, ledger, orders, serial, bundle)
+pub fn claim_all<const EIGHTS: bool>(ledger: Ledger, orders: &mut [u32], items: &mut [u8], serial: u64, bundle: Bundle) -> Claimed {
+    let bundle = Lines { orders: bundle.0, items: bundle.1 };
+    let placed = takes(&ledger, Lines { orders, items }, serial, bundle, voided_and_first::<EIGHTS>);
+    enter_all(placed, ledger, orders, items, serial, bundle)
 }
 
 #[inline(never)]
-pub fn claim_all_by_passes(ledger: Ledger, orders: &mut [u32], serial: u64, bundle: &[u32]) -> Claimed {
-    let placed = takes(&ledger, orders, serial, bundle, |lines, orders, _| zeros_and_first_by_passes(lines, orders));
-    enter_all(placed, ledger, orders, serial, bundle)
+pub fn claim_all_by_passes(ledger: Ledger, orders: &mut [u32], items: &mut [u8], serial: u64, bundle: Bundle) -> Claimed {
+    let bundle = Lines { orders: bundle.0, items: bundle.1 };
+    let placed = takes(&ledger, Lines { orders, items }, serial, bundle, |lines, bundle, _| voided_and_first_by_passes(lines, bundle));
+    enter_all(placed, ledger, orders, items, serial, bundle)
 }

@@ -16,11 +16,13 @@
     register = edition.open()
     next = register.peek()                  # Look(serial=1, composition=[2, 1, 0], gain=0, loss=0): the next copy; nothing is reserved
     try:
-        register.claim(next.serial, 1007)   # sell it, for order 1007
+        register.claim(next.serial, 1007, 1)  # sell it, for order 1007, item line 1
     except Refused as refused:
         if refused.number == Number.ALREADY_WRITTEN:
             print(refused)                  # serial 1 is already written, for order 1003
-    register.claim_all(2, [1014, 1021])     # a club order: serials 2 and 3, for these two orders, or neither
+    register.claim(2, 1007, 2)              # the second copy on that order: a number of 1 to 99, its item line, tells them apart
+    register.claim_all(3, [1014, 1021], [1, 1])  # a club order: serials 3 and 4, for these two orders, item line 1 each, or neither
+    register.entries()                      # [Entry(order=1007, item=1), ..]: the lines so far
 
 A kind that is withdrawn has the ceiling 0. An `Edition` never changes. A `Register` may be shared by threads: its calls come one after another. A
 call that cannot be done raises `Refused` and changes nothing. The engine behind it is proved; this package only hands values over to it
@@ -28,12 +30,12 @@ call that cannot be done raises `Refused` and changes nothing. The engine behind
 built before.
 """
 from ._c import (C, CELLS, FUNCTIONS, Answer, Bounds, Checked, Claimed, Done, Ledger, Opened, Peeked, Ranked, Stepped, load, version_of)
-from ._editions import Edition, Look, Register, Step
+from ._editions import Edition, Entry, Look, Register, Step
 from ._refusals import Number, Refused
 
 __version__: str = version_of(C)
-__all__ = ["Edition", "Register", "Step", "Look", "Refused", "Number", "__version__"]
+__all__ = ["Edition", "Register", "Step", "Look", "Entry", "Refused", "Number", "__version__"]
 
-for _public in Edition, Register, Step, Look, Refused, Number:  # so that messages and pickles name them as users do
+for _public in Edition, Register, Step, Look, Entry, Refused, Number:  # so that messages and pickles name them as users do
     _public.__module__ = __name__
 del _public

@@ -61,6 +61,7 @@ class Claimed(Structure):
 
 BYTES: list[Any] = [POINTER(c_uint8), c_size_t]
 ORDERS: list[Any] = [POINTER(c_uint32), c_size_t]
+COLUMNS = ORDERS + BYTES  # order numbers, and their item lines
 EDITION: list[Any] = [*BYTES, c_uint32]
 FUNCTIONS: dict[str, tuple[Any, list[Any]]] = {
     "huz_version": (c_uint32, []),
@@ -74,14 +75,14 @@ FUNCTIONS: dict[str, tuple[Any, list[Any]]] = {
     "huz_inversions": (Done, EDITION + BYTES + BYTES),
     "huz_major_permutation": (Done, EDITION + BYTES + BYTES),
     "huz_major_code": (Done, EDITION + BYTES + BYTES),
-    "huz_open": (Opened, EDITION + ORDERS),
-    "huz_peek": (Peeked, [Ledger] + ORDERS),
-    "huz_claim": (Claimed, [Ledger] + ORDERS + [c_uint64, c_uint32]),
-    "huz_void": (Claimed, [Ledger] + ORDERS + [c_uint64]),
-    "huz_claim_all": (Claimed, [Ledger] + ORDERS + [c_uint64] + ORDERS),
-    "huz_claim_in": (Answer, [POINTER(Ledger)] + ORDERS + [c_uint64, c_uint32]),
-    "huz_void_in": (Answer, [POINTER(Ledger)] + ORDERS + [c_uint64]),
-    "huz_entries": (c_uint64, [Ledger] + ORDERS),
+    "huz_open": (Opened, EDITION + COLUMNS),
+    "huz_peek": (Peeked, [Ledger] + COLUMNS),
+    "huz_claim": (Claimed, [Ledger] + COLUMNS + [c_uint64, c_uint32, c_uint8]),
+    "huz_void": (Claimed, [Ledger] + COLUMNS + [c_uint64]),
+    "huz_claim_all": (Claimed, [Ledger] + COLUMNS + [c_uint64] + COLUMNS),
+    "huz_claim_in": (Answer, [POINTER(Ledger)] + COLUMNS + [c_uint64, c_uint32, c_uint8]),
+    "huz_void_in": (Answer, [POINTER(Ledger)] + COLUMNS + [c_uint64]),
+    "huz_entries": (c_uint64, [Ledger] + COLUMNS),
 }
 
 
@@ -90,7 +91,7 @@ def _dotted(version: int) -> str:
 
 
 def version_of(library: ctypes.CDLL) -> str:
-    """the version of a library, as 0.13.0"""
+    """the version of a library, as 0.14.0"""
     return _dotted(library.huz_version())
 
 

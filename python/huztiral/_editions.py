@@ -12,6 +12,7 @@ from ._refusals import Number, Refused, sentence
 
 _MOST_LINES = 1_000_000  # of a register
 _MOST_ORDERS = 40  # of a bundle
+_LAST_ITEM = 99
 
 
 def _fits(value: SupportsIndex, bits: int) -> int:
@@ -55,6 +56,13 @@ class Look(NamedTuple):
     composition: list[int]
     gain: int
     loss: int
+
+
+class Entry(NamedTuple):
+    """A line of a register: the order number and its item line, or 0 and 0 where the serial is spoilt."""
+
+    order: int
+    item: int
 
 
 class Edition:
@@ -191,6 +199,9 @@ class Edition:
 class Register:
     """The register of an edition, in memory: which order each serial was sold to. Serials are written one after another, from 1 on.
 
+    A serial is sold to an order number, 1 to 2**32 - 1, and an item line, 1 to 99. The item line tells the copies on one order apart: of two copies in
+    a basket one is sold with item line 1, the other with item line 2. An order number and an item line together stand in a register once.
+
     Threads may share it, for each call waits until the one before it is done. It cannot be copied or pickled: a copy of a register would sell
     its serials again. Processes that share one need shared memory and a lock of their own (README, "One call after another").
     """
@@ -198,9 +209,10 @@ class Register:
     def __init__(self, edition: Edition) -> None:
         self._edition = edition
         self._lock = threading.Lock()
-        lines = edition.count if edition.count <= _MOST_LINES else 0  # more are refused before the column is looked at
-        self._orders = (c_uint32 * lines)()
-        self._ledger: Ledger = edition._accepted(C.huz_open(*edition._given, self._orders, len(self._orders))).ledger
+        lines = edition.count if edition.count <= _MOST_LINES else 0  # more are refused before the columns are looked at
+        self._orders, self._items = (c_uint32 * lines)(), (c_uint8 * lines)()
+        self._columns = self._orders, lines, self._items, lines
+        self._ledger: Ledger = edition._accepted(C.huz_open(*edition._given, *self._columns)).ledger
 
     @property
     def edition(self) -> Edition:
@@ -215,36 +227,52 @@ class Register:
         answer = self._edition._accepted(self._answer(C.huz_peek))
         return Look(answer.serial, self._edition._cells(answer), answer.gain, answer.loss)
 
-    def claim(self, serial: SupportsIndex, order: SupportsIndex) -> tuple[int, list[int]]:
-        """a take: the serial is sold to this order number, if it is the next one; the answer is the serial and its mix"""
-        serial, order = _fits(serial, 64), _fits(order, 32)
-        return self._entered(self._answer(C.huz_claim_in, serial, order), serial=serial, order=order)
+    def claim(self, serial: SupportsIndex, order: SupportsIndex, item: SupportsIndex) -> tuple[int, list[int]]:
+        """a take: the serial is sold to this order number and item line, if it is the next one; the answer is the serial and its mix
+
+        The item line is 1 for the only copy on an order, and has to be given: a second copy with the first one's item line is refused.
+        """
+        serial, order, item = _fits(serial, 64), _fits(order, 32), _fits(item, 8)
+        return self._entered(self._answer(C.huz_claim_in, serial, order, item), serial=serial, order=order, item=item)
 
     def void(self, serial: SupportsIndex) -> tuple[int, list[int]]:
-        """a spoil: the serial is written off, if it is the next one, and its line is 0; the answer is the serial and its mix"""
+        """a spoil: the serial is written off, if it is the next one, and its line is 0 and 0; the answer is the serial and its mix"""
         serial = _fits(serial, 64)
         return self._entered(self._answer(C.huz_void_in, serial), serial=serial)
 
-    def claim_all(self, serial: SupportsIndex, orders: Iterable[SupportsIndex]) -> tuple[int, list[int]]:
-        """a club order: consecutive serials from `serial` on, one for each of 1 to 40 order numbers, or nothing
+    def claim_all(self, serial: SupportsIndex, orders: Iterable[SupportsIndex], items: Iterable[SupportsIndex]) -> tuple[int, list[int]]:
+        """a club order: consecutive serials from `serial` on, one for each of 1 to 40 order numbers with its item line, or nothing
 
         Where claims of these serials one after another would all be accepted, it does what they do, and the answer is the first serial and its mix.
-        Else it is refused as the first of them that would fail, and no line is written. The order numbers are any iterable of whole numbers; where
-        there are more than 40, it is read no further than that shows.
+        Else it is refused as the first of them that would fail, and no line is written. The order numbers and the item lines, as many of these, are
+        any iterables of whole numbers; where there are more than 40 orders, or more item lines than orders, they are read no further than that shows.
         """
         serial = _fits(serial, 64)
         bundle = [_fits(order, 32) for order in islice(orders, _MOST_ORDERS + 1)]
-        answer = self._answer(C.huz_claim_all, serial, (c_uint32 * len(bundle))(*bundle), len(bundle))
-        known = {"serial": serial, "copies": len(bundle), "past": 1 <= serial <= self._edition.count, "size": "more" if bundle else "none"}
-        if answer.number == Number.ORDER_STANDS_EARLIER:  # with the serial of a line, or with one that the bundle asked for
-            known["twice"] = answer.detail >= serial
-            known["order"] = bundle[answer.detail - serial] if known["twice"] else self._orders[answer.detail - 1]
-        return self._entered(answer, **known)
+        lines = [_fits(item, 8) for item in islice(items, len(bundle) + 1)]
+        given = (c_uint32 * len(bundle))(*bundle), len(bundle), (c_uint8 * len(lines))(*lines), len(lines)
+        answer = self._answer(C.huz_claim_all, serial, *given)
+        return self._entered(answer, serial=serial, copies=len(bundle), past=1 <= serial <= self._edition.count,
+                             **self._said_of(answer, serial, bundle, lines))
 
-    def entries(self) -> list[int]:
-        """the order numbers of the lines so far, that of serial 1 first; 0 for a spoilt one"""
+    def _said_of(self, answer: Any, serial: int, bundle: list[int], lines: list[int]) -> dict[str, Any]:
+        """what a sentence about a refused bundle says besides"""
+        if answer.number == Number.ORDER_STANDS_EARLIER:  # with the serial of a line, or with one that the bundle asked for
+            twice = answer.detail >= serial
+            orders, items, at = (bundle, lines, answer.detail - serial) if twice else (self._orders, self._items, answer.detail - 1)
+            return {"twice": twice, "order": orders[at], "item": items[at]}
+        if answer.number == Number.BUNDLE_LENGTH:
+            uneven = ("more" if len(lines) > len(bundle) else "fewer") if 1 <= len(bundle) <= _MOST_ORDERS else ""
+            return {"size": "more" if bundle else "none", "uneven": uneven}
+        if answer.number == Number.ITEM_LINE:  # an order before it would have been refused before
+            return {"item": next(item for item in lines if not 1 <= item <= _LAST_ITEM)}
+        return {}
+
+    def entries(self) -> list[Entry]:
+        """the lines so far, that of serial 1 first: order number and item line, 0 and 0 for a spoilt one"""
         with self._lock:
-            return self._orders[:C.huz_entries(self._ledger, self._orders, len(self._orders))]
+            lines = C.huz_entries(self._ledger, *self._columns)
+            return list(map(Entry, self._orders[:lines], self._items[:lines]))
 
     def _entered(self, answer: Any, **known: Any) -> tuple[int, list[int]]:
         """serial and mix of an answer, if it is none that refuses; known is what the call was given"""
@@ -253,6 +281,6 @@ class Register:
 
     def _answer(self, function: Callable[..., Any], *arguments: Any) -> Any:
         with self._lock:  # C is called without the interpreter's lock
-            answer = function(self._ledger, self._orders, len(self._orders), *arguments)
+            answer = function(self._ledger, *self._columns, *arguments)
             self._ledger = getattr(answer, "ledger", self._ledger)  # that of a bundle comes back; a lent one is updated where it lies
         return answer

@@ -33,16 +33,17 @@ class Number(IntEnum):
     INVERSIONS_NOT_TOTAL = 12, "the inversions of the sheet order given are not as many as the total"
     OUTPUT_LENGTH = 13, "the memory lent for the answer is not exactly as long as the answer"
     COUNT_ABOVE_MILLION = 14, "the edition has more than 1,000,000 mixes"
-    COLUMN_TOO_SHORT = 15, "the column has fewer entries than the edition has mixes"
-    LEDGER_INCONSISTENT = 16, "the record and the column do not belong together"
+    COLUMN_TOO_SHORT = 15, "a column has fewer entries than the edition has mixes"
+    LEDGER_INCONSISTENT = 16, "the record and the columns do not belong together"
     NO_ORDER = 17, "the order number is 0"
     ALREADY_WRITTEN = 18, "the serial is already written", "the order number on its line, 0 if it is spoilt"
     ABOVE_NEXT = 19, "the serial is above the next one", "the next serial"
-    ORDER_STANDS_EARLIER = 20, "the order number stands earlier, on a line or in the bundle", "the lowest serial that it has there"
+    ORDER_STANDS_EARLIER = 20, "the order number stands earlier with this item line, on a line or in the bundle", "the lowest such serial"
     ALL_WRITTEN = 21, "every serial is written"
     NOT_A_REQUEST = 22, "the slip does not have the form that the listing program reads"
     MAJOR_INDEX_NOT_TOTAL = 23, "the major index of the sheet order given is not the total"
-    BUNDLE_LENGTH = 24, "the bundle has no orders, or more than 40"
+    BUNDLE_LENGTH = 24, "the bundle has no orders, or more than 40, or not as many item lines as orders"
+    ITEM_LINE = 25, "the item line is 0 or over 99"
 
 
 # What is said where the arguments of the call are known; for other numbers the meaning is said.
@@ -62,9 +63,10 @@ _SENTENCES = {
     Number.NO_ORDER: "an order number is not 0",
     Number.ALREADY_WRITTEN: "serial {serial} is already written, for order {detail}",
     Number.ABOVE_NEXT: "serial {serial} is above the next serial, {detail}",
-    Number.ORDER_STANDS_EARLIER: "order {order} already has serial {detail}",
+    Number.ORDER_STANDS_EARLIER: "order {order}, item line {item}, already has serial {detail}",
     Number.MAJOR_INDEX_NOT_TOTAL: "{given} has another major index than the total, {total}",
     Number.BUNDLE_LENGTH: "a bundle has 1 to 40 orders, and this one has {size}",
+    Number.ITEM_LINE: "an item line is 1 to 99, and this one is {item}",
 }
 
 
@@ -76,7 +78,9 @@ def sentence(number: Number, detail: int, known: dict[str, object]) -> str:
     elif number is Number.SERIAL_OUT_OF_RANGE and known.get("past"):
         form = "{copies} copies from serial {serial} on run past the last serial, {count}"
     elif number is Number.ORDER_STANDS_EARLIER and known.get("twice"):
-        form = "order {order} stands twice in the bundle, first for serial {detail}"
+        form = "order {order}, item line {item}, stands twice in the bundle, first for serial {detail}"
+    elif number is Number.BUNDLE_LENGTH and known.get("uneven"):
+        form = "a bundle has an item line for each order, and this one has {uneven}"
     return form.format(detail=detail, **known)
 
 

@@ -1,6 +1,6 @@
 -- Document 01, "Boundary copies": a row of the table is an edition and what is claimed of it. Both what the definitions give and what is claimed
 -- are written as lists of numbers; the row holds if they are the same. An answer is its number, its detail and what it answers, with the pair of
--- document 02, (i), behind it where it has one. Every claim but `refused` also says that nothing is refused.
+-- document 02, (i), behind it where it has one. Every claim but `refused` and `opens` also says that nothing is refused.
 use mathlib.Core.Path.{_≡_}
 use mathlib.Core.List.{List, [], _∷_, _++_, map}
 use Prim.Native.Nat.{ℕ, zero, suc, _+_, _-_}
@@ -17,14 +17,19 @@ use Rattle.step.specs.declared.Stepped.{Stepped}
 use Rattle.permutation.specs.Reading.{Reading}
 use Rattle.permutation.specs.Conversions.{toPermutation, toComposition}
 use Rattle.model.specs.declared.Opened.{Opened}
+use Rattle.model.specs.Entry.{Lent, columns}
 use Rattle.model.specs.Printing.{Printing}
-use Rattle.model.specs.Model.{Call, Event}
-use Rattle.model.specs.Record.{opening, run}
+use Rattle.model.specs.Model.{Call, peek, Event, event}
+use Rattle.model.specs.Record.{opening, answered, run}
 use Rattle.model.specs.Whole.{book}
 
 -- a call of a ledger, what it answers, and the pair
 abbrev pub Told : Type 0
 Told = Call × List ℕ × ℕ × ℕ
+
+-- two columns, what a look over them answers, and the pair
+abbrev pub Seen : Type 0
+Seen = Lent × List ℕ × ℕ × ℕ
 
 pub data Claim : Type 0 where
   -- its compositions in their order
@@ -51,8 +56,12 @@ pub data Claim : Type 0 where
   unread : Reading → List ℕ → ℕ → Claim
   -- it is no puzzle edition: 10 both ways, for this composition and these sheets
   noPuzzle : Reading → List ℕ → List ℕ → Claim
+  -- a ledger opened over an order column and an item column of so many entries: the number that it answers
+  opens : ℕ → ℕ → ℕ → Claim
   -- what a ledger on it answers to a list of calls; of a composition the first parts are written, the others are 0
   answers : List Told → Claim
+  -- what a look answers after some calls, over columns in place of those that they left
+  looks : List Call → List Seen → Claim
 
 pub record Row : Type 0 where
   pub bounds : List ℕ
@@ -63,6 +72,9 @@ pub record Row : Type 0 where
 
 abbrev refusalList : Refusal → List ℕ
 refusalList v = v .number ∷ v .detail ∷ []
+
+abbrev openedList : Opened → List ℕ
+openedList o = o .number ∷ o .detail ∷ []
 
 abbrev rankList : Answer → List ℕ
 rankList a = a .number ∷ a .detail ∷ a .serial ∷ []
@@ -112,9 +124,13 @@ module _ (ms : List ℕ) (r : ℕ) where
   pairsTo zero = []
   pairsTo (suc n) = pairsTo n ++ (pairList (transitionAt ms r (suc n)) ∷ [])
 
-  -- the opening over a column of N entries
-  abbrev column : List ℕ
-  column = replicate (countOf ms r) 0
+  -- an order column and an item column of so many entries
+  abbrev zeros : ℕ → ℕ → Lent
+  zeros orders items = columns (replicate orders 0) (replicate items 0)
+
+  -- the opening over columns of N entries
+  abbrev column : Lent
+  column = zeros (countOf ms r) (countOf ms r)
 
   abbrev printing : Printing
   printing = record { bounds = ms; total = r }
@@ -143,13 +159,19 @@ module _ (ms : List ℕ) (r : ℕ) where
   sides (permutations reading ps) =
       (map (permuted reading) (order ms r) ++ map (unpermuted reading) ps, map accepted ps ++ map accepted (order ms r))
   sides (reads reading g p) = (permuted reading g ∷ unpermuted reading p ∷ [], accepted p ∷ accepted g ∷ [])
+  sides (opens orders items number) = (openedList (opening printing (zeros orders items)) ∷ [], (number ∷ 0 ∷ []) ∷ [])
   -- the record's own run, and the model
   sides (answers cs) =
       let calls = map (λ (x : Told). x .0) cs in
       let claims = map (λ (x : Told). paired (padded (x .1)) (x .2) (x .3)) cs in (
-        (start .number ∷ start .detail ∷ [])
+        openedList start
             ∷ (map eventList (run (start .ledger) column calls .trace) ++ map eventList (book printing calls .trace)),
         accepted [] ∷ (claims ++ claims),
+      )
+  sides (looks calls cols) =
+      let after = run (start .ledger) column calls .ledger in (
+        openedList start ∷ map (λ (x : Seen). eventList (event printing peek (answered after (x .0) peek))) cols,
+        accepted [] ∷ map (λ (x : Seen). paired (padded (x .1)) (x .2) (x .3)) cols,
       )
 
 abbrev pub given : Row → List (List ℕ)

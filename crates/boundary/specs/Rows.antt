@@ -1,5 +1,5 @@
 -- Document 01, "Boundary copies": the table, with the pairs of document 02, (i), and rows for the withdrawn kinds of (ii), the permutations by
--- major index of (iii) and the bundles of (v).
+-- major index of (iii), the bundles of (v) and the item lines of (vi).
 use mathlib.Core.List.{List, [], _∷_, map}
 use Prim.Native.Nat.{ℕ, _+_}
 use lib.ListN.{replicate}
@@ -9,8 +9,9 @@ use Rattle.mahonian.specs.Staircase.{staircase}
 use Rattle.permutation.specs.Reading.{byInversions}
 use Rattle.major.specs.Major.{upTo}
 use Rattle.major.specs.Reading.{byMajor}
+use Rattle.model.specs.Entry.{entry, Lent, columns}
 use Rattle.model.specs.Model.{peek, claim, void, claim-all}
-use Rattle.boundary.specs.Row.{Claim, lists, counts, refused, serial, next, back, pairs, alone, answers}
+use Rattle.boundary.specs.Row.{Claim, lists, counts, refused, serial, next, back, pairs, alone, opens, answers, looks}
 use Rattle.boundary.specs.Row.{permutations, reads, unread, noPuzzle, Row}
 
 abbrev row : List ℕ → ℕ → Claim → Row
@@ -19,6 +20,10 @@ row ms r what = record { bounds = ms; total = r; claim = what }
 -- the orders 1001 to 1000 + n
 abbrev ordersTo : ℕ → List ℕ
 ordersTo n = map (λ (k : ℕ). 1000 + k) (upTo n)
+
+-- orders with item line 1 each
+abbrev ones : List ℕ → Lent
+ones os = columns os (map (λ _. 1) os)
 
 unfoldable pub rows : List Row
 rows =
@@ -46,45 +51,46 @@ rows =
     ((4 ∷ 1 ∷ 2 ∷ 3 ∷ []) ∷ (3 ∷ 2 ∷ 1 ∷ 4 ∷ []) ∷ (2 ∷ 4 ∷ 1 ∷ 3 ∷ []) ∷ (1 ∷ 4 ∷ 3 ∷ 2 ∷ []) ∷ (2 ∷ 3 ∷ 4 ∷ 1 ∷ []) ∷ (3 ∷ 1 ∷ 4 ∷ 2 ∷ []) ∷ []))
     -- H: the staircase of three
     ∷ row (2 ∷ 1 ∷ []) 1 (permutations byInversions ((2 ∷ 1 ∷ 3 ∷ []) ∷ (1 ∷ 3 ∷ 2 ∷ []) ∷ []))
-    -- I: bounds 1 1 with total 1, two workers: look 1, look 1, take 1 for 1007, take 1 for 1014, take 2 for 1014, look
+    -- I: bounds 1 1 with total 1, two workers: look 1, look 1, take 1 for 1007, take 1 for 1014, take 2 for 1014, look; "The takes of cases I and J name
+    -- item line 1"
     ∷ row (1 ∷ 1 ∷ []) 1
     (answers
     ((peek, 0 ∷ 0 ∷ 1 ∷ 1 ∷ 0 ∷ [], 0, 0)
     ∷ (peek, 0 ∷ 0 ∷ 1 ∷ 1 ∷ 0 ∷ [], 0, 0)
-    ∷ (claim 1 1007, 0 ∷ 0 ∷ 1 ∷ 1 ∷ 0 ∷ [], 0, 0)
-    ∷ (claim 1 1014, 18 ∷ 1007 ∷ [], 0, 0)
-    ∷ (claim 2 1014, 0 ∷ 0 ∷ 2 ∷ 0 ∷ 1 ∷ [], 0, 0)
+    ∷ (claim 1 (entry 1007 1), 0 ∷ 0 ∷ 1 ∷ 1 ∷ 0 ∷ [], 0, 0)
+    ∷ (claim 1 (entry 1014 1), 18 ∷ 1007 ∷ [], 0, 0)
+    ∷ (claim 2 (entry 1014 1), 0 ∷ 0 ∷ 2 ∷ 0 ∷ 1 ∷ [], 0, 0)
     ∷ (peek, 21 ∷ [], 0, 0)
     ∷ []))
     -- between I's two sales a look sees serial 2, with its pair
-    ∷ row (1 ∷ 1 ∷ []) 1 (answers ((claim 1 1007, 0 ∷ 0 ∷ 1 ∷ 1 ∷ 0 ∷ [], 0, 0) ∷ (peek, 0 ∷ 0 ∷ 2 ∷ 0 ∷ 1 ∷ [], 2, 1) ∷ []))
+    ∷ row (1 ∷ 1 ∷ []) 1 (answers ((claim 1 (entry 1007 1), 0 ∷ 0 ∷ 1 ∷ 1 ∷ 0 ∷ [], 0, 0) ∷ (peek, 0 ∷ 0 ∷ 2 ∷ 0 ∷ 1 ∷ [], 2, 1) ∷ []))
     -- J: the same edition: spoil 1, take 1 for 1007
-    ∷ row (1 ∷ 1 ∷ []) 1 (answers ((void 1, 0 ∷ 0 ∷ 1 ∷ 1 ∷ 0 ∷ [], 0, 0) ∷ (claim 1 1007, 18 ∷ 0 ∷ [], 0, 0) ∷ []))
+    ∷ row (1 ∷ 1 ∷ []) 1 (answers ((void 1, 0 ∷ 0 ∷ 1 ∷ 1 ∷ 0 ∷ [], 0, 0) ∷ (claim 1 (entry 1007 1), 18 ∷ 0 ∷ [], 0, 0) ∷ []))
     -- beside the document's copies: 17, 6, 19 and 20, and which comes first where two of a call's checks hold
     ∷ row threeTwos 3
     (answers
-    ((claim 1 0, 17 ∷ [], 0, 0)
-    ∷ (claim 0 1007, 6 ∷ [], 0, 0)
-    ∷ (claim 8 1007, 6 ∷ [], 0, 0)
+    ((claim 1 (entry 0 1), 17 ∷ [], 0, 0)
+    ∷ (claim 0 (entry 1007 1), 6 ∷ [], 0, 0)
+    ∷ (claim 8 (entry 1007 1), 6 ∷ [], 0, 0)
     ∷ (void 0, 6 ∷ [], 0, 0)
     ∷ (void 8, 6 ∷ [], 0, 0)
-    ∷ (claim 2 1007, 19 ∷ 1 ∷ [], 0, 0)
-    ∷ (claim 7 1007, 19 ∷ 1 ∷ [], 0, 0)
+    ∷ (claim 2 (entry 1007 1), 19 ∷ 1 ∷ [], 0, 0)
+    ∷ (claim 7 (entry 1007 1), 19 ∷ 1 ∷ [], 0, 0)
     ∷ (void 2, 19 ∷ 1 ∷ [], 0, 0)
-    ∷ (claim 1 1007, 0 ∷ 0 ∷ 1 ∷ 2 ∷ 1 ∷ 0 ∷ [], 0, 0)
-    ∷ (claim 2 1007, 20 ∷ 1 ∷ [], 0, 0)
+    ∷ (claim 1 (entry 1007 1), 0 ∷ 0 ∷ 1 ∷ 2 ∷ 1 ∷ 0 ∷ [], 0, 0)
+    ∷ (claim 2 (entry 1007 1), 20 ∷ 1 ∷ [], 0, 0)
     ∷ (void 2, 0 ∷ 0 ∷ 2 ∷ 1 ∷ 2 ∷ 0 ∷ [], 0, 0)
-    ∷ (claim 3 1014, 0 ∷ 0 ∷ 3 ∷ 0 ∷ 2 ∷ 1 ∷ [], 0, 0)
-    ∷ (claim 4 1014, 20 ∷ 3 ∷ [], 0, 0)
-    ∷ (claim 4 1007, 20 ∷ 1 ∷ [], 0, 0)
+    ∷ (claim 3 (entry 1014 1), 0 ∷ 0 ∷ 3 ∷ 0 ∷ 2 ∷ 1 ∷ [], 0, 0)
+    ∷ (claim 4 (entry 1014 1), 20 ∷ 3 ∷ [], 0, 0)
+    ∷ (claim 4 (entry 1007 1), 20 ∷ 1 ∷ [], 0, 0)
     ∷ (void 3, 18 ∷ 1014 ∷ [], 0, 0)
     -- 17 before 6, 18 and 19; 6, 18 and 19 before 20
-    ∷ (claim 0 0, 17 ∷ [], 0, 0)
-    ∷ (claim 1 0, 17 ∷ [], 0, 0)
-    ∷ (claim 5 0, 17 ∷ [], 0, 0)
-    ∷ (claim 8 1007, 6 ∷ [], 0, 0)
-    ∷ (claim 2 1007, 18 ∷ 0 ∷ [], 0, 0)
-    ∷ (claim 5 1007, 19 ∷ 4 ∷ [], 0, 0)
+    ∷ (claim 0 (entry 0 1), 17 ∷ [], 0, 0)
+    ∷ (claim 1 (entry 0 1), 17 ∷ [], 0, 0)
+    ∷ (claim 5 (entry 0 1), 17 ∷ [], 0, 0)
+    ∷ (claim 8 (entry 1007 1), 6 ∷ [], 0, 0)
+    ∷ (claim 2 (entry 1007 1), 18 ∷ 0 ∷ [], 0, 0)
+    ∷ (claim 5 (entry 1007 1), 19 ∷ 4 ∷ [], 0, 0)
     ∷ (peek, 0 ∷ 0 ∷ 4 ∷ 1 ∷ 1 ∷ 1 ∷ [], 1, 2)
     ∷ []))
     -- three copies, until the last is sold and beyond
@@ -92,54 +98,101 @@ rows =
     (answers
     ((void 1, 0 ∷ 0 ∷ 1 ∷ 1 ∷ 0 ∷ 0 ∷ [], 0, 0)
     ∷ (peek, 0 ∷ 0 ∷ 2 ∷ 0 ∷ 1 ∷ 0 ∷ [], 2, 1)
-    ∷ (claim 2 1007, 0 ∷ 0 ∷ 2 ∷ 0 ∷ 1 ∷ 0 ∷ [], 0, 0)
-    ∷ (claim 3 1007, 20 ∷ 2 ∷ [], 0, 0)
+    ∷ (claim 2 (entry 1007 1), 0 ∷ 0 ∷ 2 ∷ 0 ∷ 1 ∷ 0 ∷ [], 0, 0)
+    ∷ (claim 3 (entry 1007 1), 20 ∷ 2 ∷ [], 0, 0)
     ∷ (peek, 0 ∷ 0 ∷ 3 ∷ 0 ∷ 0 ∷ 1 ∷ [], 3, 2)
-    ∷ (claim 3 1014, 0 ∷ 0 ∷ 3 ∷ 0 ∷ 0 ∷ 1 ∷ [], 0, 0)
+    ∷ (claim 3 (entry 1014 1), 0 ∷ 0 ∷ 3 ∷ 0 ∷ 0 ∷ 1 ∷ [], 0, 0)
     ∷ (peek, 21 ∷ [], 0, 0)
-    ∷ (claim 3 1021, 18 ∷ 1014 ∷ [], 0, 0)
-    ∷ (claim 4 1021, 6 ∷ [], 0, 0)
+    ∷ (claim 3 (entry 1021 1), 18 ∷ 1014 ∷ [], 0, 0)
+    ∷ (claim 4 (entry 1021 1), 6 ∷ [], 0, 0)
     ∷ (void 4, 6 ∷ [], 0, 0)
     ∷ []))
     -- document 02, (v): bundles on 2 2 2 with total 3
     ∷ row threeTwos 3
     (answers
     -- 24 before 6; then 17, 6, 19 of the first take; of a later one 20, with the serial the order would have had, and 17
-    ((claim-all 0 [], 24 ∷ [], 0, 0)
-    ∷ (claim-all 1 (0 ∷ 1007 ∷ []), 17 ∷ [], 0, 0)
-    ∷ (claim-all 0 (1007 ∷ []), 6 ∷ [], 0, 0)
-    ∷ (claim-all 8 (1007 ∷ 1007 ∷ []), 6 ∷ [], 0, 0)
-    ∷ (claim-all 2 (1007 ∷ 1014 ∷ []), 19 ∷ 1 ∷ [], 0, 0)
-    ∷ (claim-all 1 (1007 ∷ 1014 ∷ 1007 ∷ []), 20 ∷ 1 ∷ [], 0, 0)
-    ∷ (claim-all 1 (1007 ∷ 0 ∷ 1007 ∷ []), 17 ∷ [], 0, 0)
+    ((claim-all 0 (ones []), 24 ∷ [], 0, 0)
+    ∷ (claim-all 1 (ones (0 ∷ 1007 ∷ [])), 17 ∷ [], 0, 0)
+    ∷ (claim-all 0 (ones (1007 ∷ [])), 6 ∷ [], 0, 0)
+    ∷ (claim-all 8 (ones (1007 ∷ 1007 ∷ [])), 6 ∷ [], 0, 0)
+    ∷ (claim-all 2 (ones (1007 ∷ 1014 ∷ [])), 19 ∷ 1 ∷ [], 0, 0)
+    ∷ (claim-all 1 (ones (1007 ∷ 1014 ∷ 1007 ∷ [])), 20 ∷ 1 ∷ [], 0, 0)
+    ∷ (claim-all 1 (ones (1007 ∷ 0 ∷ 1007 ∷ [])), 17 ∷ [], 0, 0)
     -- none has written a line; two copies, and the first of two written already
     ∷ (peek, 0 ∷ 0 ∷ 1 ∷ 2 ∷ 1 ∷ 0 ∷ [], 0, 0)
-    ∷ (claim-all 1 (1007 ∷ 1014 ∷ []), 0 ∷ 0 ∷ 1 ∷ 2 ∷ 1 ∷ 0 ∷ [], 0, 0)
-    ∷ (claim-all 2 (1021 ∷ []), 18 ∷ 1014 ∷ [], 0, 0)
+    ∷ (claim-all 1 (ones (1007 ∷ 1014 ∷ [])), 0 ∷ 0 ∷ 1 ∷ 2 ∷ 1 ∷ 0 ∷ [], 0, 0)
+    ∷ (claim-all 2 (ones (1021 ∷ [])), 18 ∷ 1014 ∷ [], 0, 0)
     ∷ (peek, 0 ∷ 0 ∷ 3 ∷ 0 ∷ 2 ∷ 1 ∷ [], 3, 1)
     -- 20 of a line written before, and of the bundle's own first
-    ∷ (claim-all 3 (1021 ∷ 1014 ∷ []), 20 ∷ 2 ∷ [], 0, 0)
-    ∷ (claim-all 3 (1021 ∷ 1028 ∷ 1028 ∷ []), 20 ∷ 4 ∷ [], 0, 0)
+    ∷ (claim-all 3 (ones (1021 ∷ 1014 ∷ [])), 20 ∷ 2 ∷ [], 0, 0)
+    ∷ (claim-all 3 (ones (1021 ∷ 1028 ∷ 1028 ∷ [])), 20 ∷ 4 ∷ [], 0, 0)
     ∷ (void 3, 0 ∷ 0 ∷ 3 ∷ 0 ∷ 2 ∷ 1 ∷ [], 0, 0)
     -- five orders for the four that are left: 6, before 20 and behind 17; 20 where it comes earlier
-    ∷ (claim-all 4 (1021 ∷ 1028 ∷ 1035 ∷ 1042 ∷ 1049 ∷ []), 6 ∷ [], 0, 0)
-    ∷ (claim-all 4 (1021 ∷ 1028 ∷ 1035 ∷ 1042 ∷ 1007 ∷ []), 6 ∷ [], 0, 0)
-    ∷ (claim-all 4 (1021 ∷ 1028 ∷ 1035 ∷ 1042 ∷ 0 ∷ []), 17 ∷ [], 0, 0)
-    ∷ (claim-all 4 (1021 ∷ 1028 ∷ 1007 ∷ 1042 ∷ 0 ∷ []), 20 ∷ 1 ∷ [], 0, 0)
-    ∷ (claim-all 4 (1021 ∷ 1028 ∷ 1035 ∷ 1042 ∷ []), 0 ∷ 0 ∷ 4 ∷ 1 ∷ 1 ∷ 1 ∷ [], 0, 0)
+    ∷ (claim-all 4 (ones (1021 ∷ 1028 ∷ 1035 ∷ 1042 ∷ 1049 ∷ [])), 6 ∷ [], 0, 0)
+    ∷ (claim-all 4 (ones (1021 ∷ 1028 ∷ 1035 ∷ 1042 ∷ 1007 ∷ [])), 6 ∷ [], 0, 0)
+    ∷ (claim-all 4 (ones (1021 ∷ 1028 ∷ 1035 ∷ 1042 ∷ 0 ∷ [])), 17 ∷ [], 0, 0)
+    ∷ (claim-all 4 (ones (1021 ∷ 1028 ∷ 1007 ∷ 1042 ∷ 0 ∷ [])), 20 ∷ 1 ∷ [], 0, 0)
+    ∷ (claim-all 4 (ones (1021 ∷ 1028 ∷ 1035 ∷ 1042 ∷ [])), 0 ∷ 0 ∷ 4 ∷ 1 ∷ 1 ∷ 1 ∷ [], 0, 0)
     ∷ (peek, 21 ∷ [], 0, 0)
-    ∷ (claim-all 7 (1049 ∷ []), 18 ∷ 1042 ∷ [], 0, 0)
-    ∷ (claim-all 8 (1049 ∷ []), 6 ∷ [], 0, 0)
+    ∷ (claim-all 7 (ones (1049 ∷ [])), 18 ∷ 1042 ∷ [], 0, 0)
+    ∷ (claim-all 8 (ones (1049 ∷ [])), 6 ∷ [], 0, 0)
     ∷ []))
-    -- bundles of 41 and of 40, on an edition of 45 copies, whose last 5 are then too few for 6 orders
+    -- bundles of 41, of 40 with 41 item lines, and of 40, on an edition of 45 copies, whose last 5 are then too few for 6 orders
     ∷ row (8 ∷ 8 ∷ 8 ∷ []) 8
     (answers
-    ((claim-all 1 (ordersTo 41), 24 ∷ [], 0, 0)
-    ∷ (claim-all 1 (ordersTo 40), 0 ∷ 0 ∷ 1 ∷ 8 ∷ 0 ∷ 0 ∷ [], 0, 0)
-    ∷ (claim-all 41 (1041 ∷ 1042 ∷ 1043 ∷ 1044 ∷ 1045 ∷ 1046 ∷ []), 6 ∷ [], 0, 0)
-    ∷ (claim-all 41 (1041 ∷ 1042 ∷ 1043 ∷ 1044 ∷ 1040 ∷ []), 20 ∷ 40 ∷ [], 0, 0)
-    ∷ (claim-all 41 (1041 ∷ 1042 ∷ 1043 ∷ 1044 ∷ 1045 ∷ []), 0 ∷ 0 ∷ 41 ∷ 1 ∷ 1 ∷ 6 ∷ [], 0, 0)
+    ((claim-all 1 (ones (ordersTo 41)), 24 ∷ [], 0, 0)
+    ∷ (claim-all 1 (columns (ordersTo 40) (replicate 41 1)), 24 ∷ [], 0, 0)
+    ∷ (claim-all 1 (ones (ordersTo 40)), 0 ∷ 0 ∷ 1 ∷ 8 ∷ 0 ∷ 0 ∷ [], 0, 0)
+    ∷ (claim-all 41 (ones (1041 ∷ 1042 ∷ 1043 ∷ 1044 ∷ 1045 ∷ 1046 ∷ [])), 6 ∷ [], 0, 0)
+    ∷ (claim-all 41 (ones (1041 ∷ 1042 ∷ 1043 ∷ 1044 ∷ 1040 ∷ [])), 20 ∷ 40 ∷ [], 0, 0)
+    ∷ (claim-all 41 (ones (1041 ∷ 1042 ∷ 1043 ∷ 1044 ∷ 1045 ∷ [])), 0 ∷ 0 ∷ 41 ∷ 1 ∷ 1 ∷ 6 ∷ [], 0, 0)
     ∷ (peek, 21 ∷ [], 0, 0)
+    ∷ []))
+    -- document 02, (vi), "Two copies on one order": 25 for item lines 0 and 100, behind 17 and before 6, 18 and 19; 1007 with item lines 1 and 2, and
+    -- 20 for each of them again; the detail of 18 is the order number; item line 99
+    ∷ row (1 ∷ 1 ∷ 1 ∷ []) 1
+    (answers
+    ((claim 1 (entry 1007 0), 25 ∷ [], 0, 0)
+    ∷ (claim 1 (entry 1007 100), 25 ∷ [], 0, 0)
+    ∷ (claim 1 (entry 0 0), 17 ∷ [], 0, 0)
+    ∷ (claim 4 (entry 1007 0), 25 ∷ [], 0, 0)
+    ∷ (claim 2 (entry 1007 100), 25 ∷ [], 0, 0)
+    ∷ (claim 1 (entry 1007 1), 0 ∷ 0 ∷ 1 ∷ 1 ∷ 0 ∷ 0 ∷ [], 0, 0)
+    ∷ (claim 1 (entry 1007 255), 25 ∷ [], 0, 0)
+    ∷ (claim 2 (entry 1007 1), 20 ∷ 1 ∷ [], 0, 0)
+    ∷ (claim 2 (entry 1007 2), 0 ∷ 0 ∷ 2 ∷ 0 ∷ 1 ∷ 0 ∷ [], 0, 0)
+    ∷ (claim 3 (entry 1007 2), 20 ∷ 2 ∷ [], 0, 0)
+    ∷ (claim 2 (entry 1007 3), 18 ∷ 1007 ∷ [], 0, 0)
+    ∷ (claim 3 (entry 1014 99), 0 ∷ 0 ∷ 3 ∷ 0 ∷ 0 ∷ 1 ∷ [], 0, 0)
+    ∷ (peek, 21 ∷ [], 0, 0)
+    ∷ []))
+    -- bundles with an item line too few or too many, 24 before 6; 20 for a pair that stands twice, 25 of a later take; three copies on one order
+    ∷ row (1 ∷ 1 ∷ 1 ∷ []) 1
+    (answers
+    ((claim-all 1 (columns (1007 ∷ 1014 ∷ []) (1 ∷ [])), 24 ∷ [], 0, 0)
+    ∷ (claim-all 0 (columns (1007 ∷ []) (1 ∷ 2 ∷ [])), 24 ∷ [], 0, 0)
+    ∷ (claim-all 1 (columns (1007 ∷ []) []), 24 ∷ [], 0, 0)
+    ∷ (claim-all 1 (columns (1007 ∷ 1007 ∷ 1007 ∷ []) (1 ∷ 2 ∷ 1 ∷ [])), 20 ∷ 1 ∷ [], 0, 0)
+    ∷ (claim-all 1 (columns (1007 ∷ 1007 ∷ []) (1 ∷ 100 ∷ [])), 25 ∷ [], 0, 0)
+    ∷ (peek, 0 ∷ 0 ∷ 1 ∷ 1 ∷ 0 ∷ 0 ∷ [], 0, 0)
+    ∷ (claim-all 1 (columns (1007 ∷ 1007 ∷ 1007 ∷ []) (1 ∷ 2 ∷ 3 ∷ [])), 0 ∷ 0 ∷ 1 ∷ 1 ∷ 0 ∷ 0 ∷ [], 0, 0)
+    ∷ (peek, 21 ∷ [], 0, 0)
+    ∷ []))
+    -- "The opening check of 15 covers both columns"
+    ∷ row (1 ∷ 1 ∷ 1 ∷ []) 1 (opens 3 3 0)
+    ∷ row (1 ∷ 1 ∷ 1 ∷ []) 1 (opens 3 2 15)
+    ∷ row (1 ∷ 1 ∷ 1 ∷ []) 1 (opens 2 3 15)
+    -- 16 of a sale and a spoilt line: an item line over 99, 0 beside the sale (a column from before, "beside sales made earlier I write a 1 in myself"), 1
+    -- beside the spoilt one, and an item column too short; past the lines anything may stand
+    ∷ row (1 ∷ 1 ∷ 1 ∷ []) 1
+    (looks (claim 1 (entry 1007 1) ∷ void 2 ∷ [])
+    ((columns (1007 ∷ 0 ∷ 9 ∷ []) (1 ∷ 0 ∷ 200 ∷ []), 0 ∷ 0 ∷ 3 ∷ 0 ∷ 0 ∷ 1 ∷ [], 3, 2)
+    ∷ (columns (1007 ∷ 0 ∷ 9 ∷ []) (99 ∷ 0 ∷ 0 ∷ []), 0 ∷ 0 ∷ 3 ∷ 0 ∷ 0 ∷ 1 ∷ [], 3, 2)
+    ∷ (columns (1007 ∷ 0 ∷ 9 ∷ []) (100 ∷ 0 ∷ 0 ∷ []), 16 ∷ [], 0, 0)
+    ∷ (columns (1007 ∷ 0 ∷ 9 ∷ []) (0 ∷ 0 ∷ 0 ∷ []), 16 ∷ [], 0, 0)
+    ∷ (columns (1007 ∷ 0 ∷ 9 ∷ []) (1 ∷ 1 ∷ 0 ∷ []), 16 ∷ [], 0, 0)
+    ∷ (columns (1007 ∷ 0 ∷ 9 ∷ []) (1 ∷ 100 ∷ 0 ∷ []), 16 ∷ [], 0, 0)
+    ∷ (columns (1007 ∷ 0 ∷ 9 ∷ []) (1 ∷ 0 ∷ []), 16 ∷ [], 0, 0)
     ∷ []))
     -- document 02, (ii): the copies A to C with the second kind of 2 0 2 2 withdrawn; the kinds of a pair are the edition's
     ∷ row gapped 3
@@ -160,17 +213,17 @@ rows =
     ∷ row (0 ∷ 1 ∷ 0 ∷ 1 ∷ []) 1
     (answers
     ((peek, 0 ∷ 0 ∷ 1 ∷ 0 ∷ 1 ∷ 0 ∷ 0 ∷ [], 0, 0)
-    ∷ (claim 1 1007, 0 ∷ 0 ∷ 1 ∷ 0 ∷ 1 ∷ 0 ∷ 0 ∷ [], 0, 0)
-    ∷ (claim 1 1021, 18 ∷ 1007 ∷ [], 0, 0)
+    ∷ (claim 1 (entry 1007 1), 0 ∷ 0 ∷ 1 ∷ 0 ∷ 1 ∷ 0 ∷ 0 ∷ [], 0, 0)
+    ∷ (claim 1 (entry 1021 1), 18 ∷ 1007 ∷ [], 0, 0)
     ∷ (peek, 0 ∷ 0 ∷ 2 ∷ 0 ∷ 0 ∷ 0 ∷ 1 ∷ [], 4, 2)
-    ∷ (claim 2 1021, 0 ∷ 0 ∷ 2 ∷ 0 ∷ 0 ∷ 0 ∷ 1 ∷ [], 0, 0)
+    ∷ (claim 2 (entry 1021 1), 0 ∷ 0 ∷ 2 ∷ 0 ∷ 0 ∷ 0 ∷ 1 ∷ [], 0, 0)
     ∷ (peek, 21 ∷ [], 0, 0)
     ∷ []))
     -- all kinds withdrawn: one composition, and a ledger of one entry; with a total 4
     ∷ row (0 ∷ 0 ∷ []) 0 (lists ((0 ∷ 0 ∷ []) ∷ []))
     ∷ row (0 ∷ 0 ∷ []) 0 (counts 1)
     ∷ row (0 ∷ 0 ∷ []) 0 (alone (0 ∷ 0 ∷ []))
-    ∷ row (0 ∷ 0 ∷ []) 0 (answers ((peek, 0 ∷ 0 ∷ 1 ∷ [], 0, 0) ∷ (claim 1 1007, 0 ∷ 0 ∷ 1 ∷ [], 0, 0) ∷ (peek, 21 ∷ [], 0, 0) ∷ []))
+    ∷ row (0 ∷ 0 ∷ []) 0 (answers ((peek, 0 ∷ 0 ∷ 1 ∷ [], 0, 0) ∷ (claim 1 (entry 1007 1), 0 ∷ 0 ∷ 1 ∷ [], 0, 0) ∷ (peek, 21 ∷ [], 0, 0) ∷ []))
     ∷ row (replicate 24 0) 0 (counts 1)
     ∷ row (0 ∷ 0 ∷ []) 1 (refused 4 0)
     -- a 0 before a 61 is not the first such kind, and a withdrawn kind counts among the 24

@@ -20,12 +20,13 @@ ghost use Rattle.step.specs.Batch.{batchOf};
 ghost use Rattle.permutation.specs.Reading.{byInversions};
 ghost use Rattle.permutation.specs.Conversions.{toPermutation, toComposition};
 ghost use Rattle.major.specs.Reading.{byMajor};
+ghost use Rattle.model.specs.Entry.{entry, columns};
 ghost use Rattle.model.specs.Model.{Call};
 ghost use Rattle.model.specs.Record.{opening, peeking, calling, entriesOf};
 ghost use Rattle.engine.specs.Ranks.{rankedOf};
 ghost use Rattle.engine.specs.Version.{version};
 
-const VERSION: u32 = 1300;
+const VERSION: u32 = 1400;
 
 // A serial, or a refusal's number and detail with serial 0.
 #[repr(C)]
@@ -162,43 +163,65 @@ pub extern "C" fn huz_major_code(
 }
 
 #[no_mangle]
-pub extern "C" fn huz_open(upper: &[u8], total: u32, orders: &[u32]) -> Opened
-    ensures { λ r. ⌜ r ≡ opening (record { bounds = now (upper .entry); total = total }) (now (orders .entry)) ⌝ }
+pub extern "C" fn huz_open(upper: &[u8], total: u32, orders: &[u32], items: &[u8]) -> Opened
+    ensures { λ r.
+        ⌜ r ≡ opening (record { bounds = now (upper .entry); total = total }) (columns (now (orders .entry)) (now (items .entry))) ⌝ }
 {
-    ledger::open(upper, total, orders)
+    ledger::open(upper, total, orders, items)
 }
 
 #[no_mangle]
-pub extern "C" fn huz_peek(ledger: Ledger, orders: &[u32]) -> Peeked
-    ensures { λ r. ⌜ r ≡ peeking ledger (now (orders .entry)) ⌝ }
+pub extern "C" fn huz_peek(ledger: Ledger, orders: &[u32], items: &[u8]) -> Peeked
+    ensures { λ r. ⌜ r ≡ peeking ledger (columns (now (orders .entry)) (now (items .entry))) ⌝ }
 {
-    ledger::peek(ledger, orders)
+    ledger::peek(ledger, orders, items)
 }
 
 #[no_mangle]
-pub extern "C" fn huz_claim(ledger: Ledger, orders: &mut [u32], serial: u64, order: u32) -> Claimed
-    ensures { λ r. ⌜ (r, now (orders .exit)) ≡ calling ledger (now (orders .entry)) (Call.claim serial order) ⌝ }
+pub extern "C" fn huz_claim(
+    ledger: Ledger,
+    orders: &mut [u32],
+    items: &mut [u8],
+    serial: u64,
+    order: u32,
+    item: u8,
+) -> Claimed
+    ensures { λ r.
+        ⌜ (r, columns (now (orders .exit)) (now (items .exit)))
+        ≡ calling ledger (columns (now (orders .entry)) (now (items .entry))) (Call.claim serial (entry order item)) ⌝ }
 {
-    ledger::claim(ledger, orders, serial, order)
+    ledger::claim(ledger, orders, items, serial, order, item)
 }
 
 #[no_mangle]
-pub extern "C" fn huz_void(ledger: Ledger, orders: &mut [u32], serial: u64) -> Claimed
-    ensures { λ r. ⌜ (r, now (orders .exit)) ≡ calling ledger (now (orders .entry)) (Call.void serial) ⌝ }
+pub extern "C" fn huz_void(
+    ledger: Ledger,
+    orders: &mut [u32],
+    items: &mut [u8],
+    serial: u64,
+) -> Claimed
+    ensures { λ r.
+        ⌜ (r, columns (now (orders .exit)) (now (items .exit)))
+        ≡ calling ledger (columns (now (orders .entry)) (now (items .entry))) (Call.void serial) ⌝ }
 {
-    ledger::void(ledger, orders, serial)
+    ledger::void(ledger, orders, items, serial)
 }
 
 #[no_mangle]
 pub extern "C" fn huz_claim_all(
     ledger: Ledger,
     orders: &mut [u32],
+    items: &mut [u8],
     serial: u64,
     bundle: &[u32],
+    itemlines: &[u8],
 ) -> Claimed
-    ensures { λ r. ⌜ (r, now (orders .exit)) ≡ calling ledger (now (orders .entry)) (Call.claim-all serial (now (bundle .entry))) ⌝ }
+    ensures { λ r.
+        ⌜ (r, columns (now (orders .exit)) (now (items .exit)))
+        ≡ calling ledger (columns (now (orders .entry)) (now (items .entry)))
+        (Call.claim-all serial (columns (now (bundle .entry)) (now (itemlines .entry)))) ⌝ }
 {
-    ledger::claim_all(ledger, orders, serial, bundle)
+    ledger::claim_all(ledger, orders, items, serial, bundle, itemlines)
 }
 
 // ---- on a record that is lent
@@ -210,14 +233,16 @@ pub extern "C" fn huz_claim_all(
 pub extern "C" fn huz_claim_in(
     ledger: &mut Ledger,
     orders: &mut [u32],
+    items: &mut [u8],
     serial: u64,
     order: u32,
+    item: u8,
 ) -> Answer
     ensures { λ r.
-        ⌜ (record { answer = r; ledger = now (ledger .exit) }, now (orders .exit))
-        ≡ calling (now (ledger .entry)) (now (orders .entry)) (Call.claim serial order) ⌝ }
+        ⌜ (record { answer = r; ledger = now (ledger .exit) }, columns (now (orders .exit)) (now (items .exit)))
+        ≡ calling (now (ledger .entry)) (columns (now (orders .entry)) (now (items .entry))) (Call.claim serial (entry order item)) ⌝ }
 {
-    let claimed = ledger::claim(*ledger, orders, serial, order);
+    let claimed = ledger::claim(*ledger, orders, items, serial, order, item);
     if claimed.answer.number == 0 {
         *ledger = claimed.ledger;
     }
@@ -225,22 +250,27 @@ pub extern "C" fn huz_claim_in(
 }
 
 #[no_mangle]
-pub extern "C" fn huz_void_in(ledger: &mut Ledger, orders: &mut [u32], serial: u64) -> Answer
+pub extern "C" fn huz_void_in(
+    ledger: &mut Ledger,
+    orders: &mut [u32],
+    items: &mut [u8],
+    serial: u64,
+) -> Answer
     ensures { λ r.
-        ⌜ (record { answer = r; ledger = now (ledger .exit) }, now (orders .exit))
-        ≡ calling (now (ledger .entry)) (now (orders .entry)) (Call.void serial) ⌝ }
+        ⌜ (record { answer = r; ledger = now (ledger .exit) }, columns (now (orders .exit)) (now (items .exit)))
+        ≡ calling (now (ledger .entry)) (columns (now (orders .entry)) (now (items .entry))) (Call.void serial) ⌝ }
 {
-    let voided = ledger::void(*ledger, orders, serial);
+    let voided = ledger::void(*ledger, orders, items, serial);
     if voided.answer.number == 0 {
         *ledger = voided.ledger;
     }
     voided.answer
 }
 
-// How many entries `ledger::entries` hands back: C has the column already.
+// How many entries `ledger::entries` hands back, and `ledger::entry_items` too: C has both columns already.
 #[no_mangle]
-pub extern "C" fn huz_entries(ledger: Ledger, orders: &[u32]) -> u64
-    ensures { λ r. ⌜ r ≡ length (entriesOf ledger (now (orders .entry))) ⌝ }
+pub extern "C" fn huz_entries(ledger: Ledger, orders: &[u32], items: &[u8]) -> u64
+    ensures { λ r. ⌜ r ≡ length (entriesOf ledger (columns (now (orders .entry)) (now (items .entry)))) ⌝ }
 {
-    ledger::entries(ledger, orders).len() as u64
+    ledger::entries(ledger, orders, items).len() as u64
 }

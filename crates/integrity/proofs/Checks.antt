@@ -1,11 +1,12 @@
 -- The tests of number 16, one law for each way out of them.
 use mathlib.Core.Path.{_≡_, refl, sym, ap, _∙_}
 use mathlib.Core.Bool.{Bool, true, false}
-use mathlib.Core.List.{[], _∷_}
+use mathlib.Core.List.{List, []}
 use Prim.Native.Nat.{ℕ, _+_, _-_, _≤_, _<_, min, max}
 use native.Mathlib.Omega.{arith}
 use lib.Dec.{eqb, leb}
-use lib.ListN.{getD}
+use lib.ListN.{length, getD, take}
+use lib.Seq.{length-take-le}
 use borrow.Author.Tests.{lt-leb, le-leb, leb-true, eq-eqb, ne-eqb}
 use Rattle.walsh.specs.Order.{order}
 use Rattle.walsh.specs.Serial.{same, compositionOf}
@@ -18,11 +19,12 @@ use Rattle.bounds.specs.declared.Refusal.{Refusal}
 use Rattle.rank.specs.Locate.{nearest, locateRecordOf}
 use Rattle.rank.specs.declared.Located.{Located}
 use Rattle.rank.proofs.Locations.{record-refused, record-accepted}
-use Rattle.model.specs.Basics.{all, firstPlace}
-use Rattle.model.specs.Entry.{Entry, Lent, entriesIn, sameOrder, room, soldIn, voidedIn}
+use Rattle.model.specs.Basics.{firstPlace}
+use Rattle.model.specs.Entry.{Entry, isVoided, Lent, columns, pairs, entriesIn, sameOrder, room, soldIn, voidedIn, unsoundIn}
 use Rattle.model.specs.Printing.{Printing, size, capacity, serialAt, nextComposition}
 use Rattle.model.specs.Record.{upperOf, printingOf, written, consistent}
 use Rattle.model.specs.declared.Ledger.{Ledger}
+use Rattle.model.proofs.Entries.{take-pairs}
 use Rattle.model.proofs.Compositions.{compositions-at}
 use Rattle.model.proofs.Records.{few-parts, each, one-fails, sold-of}
 use Rattle.integrity.specs.Again.{firstAgain, placeAgain}
@@ -30,6 +32,8 @@ use Rattle.integrity.specs.Examine.{frameTests, framed, seenBy, foundBy,
 use Rattle.integrity.specs.declared.Seen.{Seen}
 use Rattle.integrity.specs.declared.Found.{Found}
 use Rattle.integrity.specs.declared.Met.{Met}
+use Rattle.integrity.proofs.Pairs.{both-false}
+use Rattle.integrity.proofs.Places.{many-few}
 
 -- the composition of the nearest serial to the next is that of the next, of serial N when full
 pub nearest-next : (p : Printing) (e : ℕ) → nearest (p .bounds) (p .total) (e + 1) ≡ nextComposition p e
@@ -200,38 +204,68 @@ module _ (r : Ledger) (n : ℕ) where
 
 -- ---- and those that count the lines
 
--- the two counts, which stand in the middle of the row, come last
-last : (a b c d s v x : Bool)
-    → both a (both b (both c (both d (both s (both v x))))) ≡ both (both a (both b (both c (both d x)))) (both v s)
-last false b c d s v x = refl
-last true false c d s v x = refl
-last true true false d s v x = refl
-last true true true false s v x = refl
-last true true true true false false false = refl
-last true true true true false false true = refl
-last true true true true false true false = refl
-last true true true true false true true = refl
-last true true true true true false false = refl
-last true true true true true false true = refl
-last true true true true true true false = refl
-last true true true true true true true = refl
+-- the two counts, which stand in the middle of the row, and the soundness of the lines come last
+lines-last : (s v m u w : Bool) → both s (both v (both m (both u (both w true)))) ≡ both (both m (both u true)) (both w (both v s))
+lines-last false v m u w = rw (both-false v, both-false w, both-false (both m (both u true)))
+lines-last true false m u w = rw (both-false w, both-false (both m (both u true)))
+lines-last true true false u w = refl
+lines-last true true true false w = refl
+lines-last true true true true w = refl
+
+last : (a b c d s v m u w : Bool)
+    → both a (both b (both c (both d (both s (both v (both m (both u (both w true))))))))
+    ≡ both (both a (both b (both c (both d (both m (both u true)))))) (both w (both v s))
+last false b c d s v m u w = refl
+last true false c d s v m u w = refl
+last true true false d s v m u w = refl
+last true true true false s v m u w = refl
+last true true true true s v m u w = lines-last s v m u w
 
 module _ (r : Ledger) (col : Lent) where
-  counts-last : consistent r col
-      ≡ both (framed r (room col)) (both (eqb (r .voided) (voidedIn (written r col))) (eqb (r .sold) (soldIn (written r col))))
+  lines-behind : consistent r col
+      ≡ both (framed r (room col))
+      (both (eqb (unsoundIn (written r col)) 0) (both (eqb (r .voided) (voidedIn (written r col))) (eqb (r .sold) (soldIn (written r col)))))
   unfolding consistent framed
-  counts-last =
+  lines-behind =
       let p = printingOf r in
       last (eqb (firstRefusal (recordChecks (r .bounds)) .number) 0) (leb (capacity p) mostEntries) (leb (capacity p) (room col))
       (leb (r .entries) (capacity p)) (eqb (r .sold) (soldIn (written r col))) (eqb (r .voided) (voidedIn (written r col)))
-      (all (same (r .next) (nextComposition p (r .entries)) ∷ same (r .bounds .upper) (cellsOf (upperOf (r .bounds))) ∷ []))
+      (same (r .next) (nextComposition p (r .entries))) (same (r .bounds .upper) (cellsOf (upperOf (r .bounds)))) (eqb (unsoundIn (written r col)) 0)
 
   pub not-framed : framed r (room col) ≡ false → consistent r col ≡ false
-  not-framed f = counts-last ∙ rw f
+  not-framed f = lines-behind ∙ rw f
 
-  -- the lines are counted where they are within the column
-  pub by-counts : (z : ℕ) → framed r (room col) ≡ true → z ≡ voidedIn (written r col)
-      → consistent r col ≡ both (eqb (r .voided) z) (eqb (r .sold) (r .entries - z))
-  by-counts z t e =
-      let s : soldIn (written r col) ≡ r .entries - z = sold-of r col (frame-room r (room col) t .0) ∙ ap (λ (k : ℕ). r .entries - k) (sym e) in
-      counts-last ∙ rw (t, sym e, s)
+-- ---- the lines written, as the pass has them: the beginnings of both columns
+
+module _ (r : Ledger) (os is : List ℕ) (t : framed r (min (length os) (length is)) ≡ true) where
+  abbrev lines : List Entry
+  lines = pairs (take (r .entries) os) (take (r .entries) is)
+
+  pub as-written : lines ≡ written r (columns os is)
+  as-written = sym (take-pairs (r .entries) os is)
+
+  pub orders-within : length (take (r .entries) os) ≡ r .entries
+  orders-within = length-take-le (r .entries) os (omega (arith, frame-room r _ t .0))
+
+  pub items-within : length (take (r .entries) is) ≡ r .entries
+  items-within = length-take-le (r .entries) is (omega (arith, frame-room r _ t .0))
+
+  -- what is asked of the pass
+  pub passable : (length (take (r .entries) is) ≡ length (take (r .entries) os)) × (length (take (r .entries) os) ≤ mostEntries)
+  passable = (items-within ∙ sym orders-within, omega (arith, orders-within, frame-room r _ t .1))
+
+  -- what it counts decides
+  module _ (z : ℕ) (e : z ≡ voidedIn lines) where
+    as-zeros : z ≡ voidedIn (written r (columns os is))
+    as-zeros = e ∙ ap voidedIn as-written
+
+    pub few-zeros : z ≤ r .entries
+    few-zeros = many-few isVoided (pairs os is) (r .entries) z as-zeros
+
+    pub by-counts : (b : Bool) → b ≡ eqb (unsoundIn lines) 0
+        → consistent r (columns os is) ≡ both b (both (eqb (r .voided) z) (eqb (r .sold) (r .entries - z)))
+    by-counts b f =
+        let sold : soldIn (written r (columns os is)) ≡ r .entries - z =
+        sold-of r (columns os is) (frame-room r _ t .0) ∙ ap (λ (k : ℕ). r .entries - k) (sym as-zeros) in
+        let sound = f ∙ ap (λ (l : List Entry). eqb (unsoundIn l) 0) as-written in
+        lines-behind r (columns os is) ∙ rw (t, sym as-zeros, sold, sym sound)

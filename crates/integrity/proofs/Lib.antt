@@ -3,3 +3,5 @@ pub mod Places
 pub mod Checks
 pub mod Again
 pub mod Sifting
+pub mod Pairs
+pub mod Ranges

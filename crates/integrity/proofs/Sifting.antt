@@ -11,15 +11,16 @@ use lib.Seq.{length-take-le, take-append-add, getD-take, getD-append-add, getD-s
 use borrow.Author.Tests.{eqb-true, eqb-false}
 use Rattle.walsh.proofs.Cases.{on-test, on-less}
 use Rattle.model.specs.Basics.{firstPlace}
-use Rattle.model.specs.Entry.{Entry, voidEntry, sameOrder}
+use Rattle.model.specs.Entry.{Entry, entry, voidEntry, orderOf, sameOrder, pairs}
 use Rattle.model.proofs.Orders.{place-at, place-lowest, place-none}
 use Rattle.integrity.specs.Sift.{Before, New, Sifted, slots, Marked, markOf, Unmarked}
+use Rattle.integrity.proofs.Pairs.{pairs-length, line-at}
 use Rattle.integrity.proofs.Again.{earlier, lowest, First}
 
 -- ---- places
 
 -- an order that stands at no place before f is none of those
-pub not-among : (x : Entry) (es : List Entry) {f k : ℕ} → f ≤ length es → k ≡ firstPlace (sameOrder x) es → f ≤ k
+not-among : (x : Entry) (es : List Entry) {f k : ℕ} → f ≤ length es → k ≡ firstPlace (sameOrder x) es → f ≤ k
     → (j : ℕ) → j < f → x ≢ getD es j voidEntry
 not-among x es m e h j b y = let n = place-lowest x es j (omega (arith, b, m)) (sym y) in omega (arith, n, e, h, b)
 
@@ -148,7 +149,7 @@ module _ (es : List Entry) where
   pub apart-none : Apart 0
   apart-none = record { new = λ k q h m. absurd (omega (arith, h)) }
 
-  pub apart-more : {i : ℕ} → Apart i → ((q : ℕ) → q < i → getD es i voidEntry ≢ getD es q voidEntry) → Apart (i + 1)
+  apart-more : {i : ℕ} → Apart i → ((q : ℕ) → q < i → getD es i voidEntry ≢ getD es q voidEntry) → Apart (i + 1)
   apart-more {i} a n =
       record {
         new = λ k q h m.
@@ -160,7 +161,7 @@ module _ (es : List Entry) where
       }
 
   -- order i is none of those before it
-  pub not-before : {i k : ℕ} → i ≤ length es → k ≡ firstPlace (sameOrder (getD es i voidEntry)) (take i es) → i ≤ k
+  not-before : {i k : ℕ} → i ≤ length es → k ≡ firstPlace (sameOrder (getD es i voidEntry)) (take i es) → i ≤ k
       → (q : ℕ) → q < i → getD es i voidEntry ≢ getD es q voidEntry
   not-before {i} m e h q b y =
       not-among (getD es i voidEntry) (take i es) (omega (arith, length-take-le i es m)) e h q b (y ∙ sym (getD-take i es q voidEntry b))
@@ -178,7 +179,7 @@ module _ (es : List Entry) where
         }
 
     -- order i stands earlier in the bundle
-    pub apart-hit : {p : ℕ} → i < length es → p ≡ firstPlace (sameOrder (getD es i voidEntry)) (take i es) → p < i → Sifted l es 0 i (length l + p)
+    apart-hit : {p : ℕ} → i < length es → p ≡ firstPlace (sameOrder (getD es i voidEntry)) (take i es) → p < i → Sifted l es 0 i (length l + p)
     apart-hit {p} h e b =
         record {
           most = omega (arith, h);
@@ -222,27 +223,34 @@ module _ (es : List Entry) where
 
 -- ---- the marks
 
-pub marked-none : (marks es : List ℕ) → length marks ≡ slots → Marked marks es 0
-marked-none marks es e = record { all = e; set = λ k h. absurd (omega (arith, h)) }
+pub marked-none : (marks os : List ℕ) → length marks ≡ slots → Marked marks os 0
+marked-none marks os e = record { all = e; set = λ k h. absurd (omega (arith, h)) }
 
-module _ {marks es : List ℕ} {n : ℕ} (m : Marked marks es n) where
-  -- an order whose slot is not marked is none of them
-  pub marked-not : (x : Entry) {s : ℕ} → s ≡ x % slots → getD marks s 0 ≡ 0 → (j : ℕ) → j < n → x ≢ getD es j voidEntry
+module _ {marks os : List ℕ} {n : ℕ} (m : Marked marks os n) where
+  -- a number whose slot is not marked is none of theirs
+  marked-not : (x : ℕ) {s : ℕ} → s ≡ x % slots → getD marks s 0 ≡ 0 → (j : ℕ) → j < n → x ≢ getD os j 0
   marked-not x q z j h e = m .set j h (ap (λ (y : ℕ). getD marks (y % slots) 0) (sym e) ∙ ap (λ (t : ℕ). getD marks t 0) (sym q) ∙ z)
 
-  pub marked-fewer : {k : ℕ} → k ≤ n → Marked marks es k
+  -- nor is a line of that number any of the orders
+  pub marked-other : (is : List ℕ) → length is ≡ length os → n ≤ length os → (d : Entry) {x s : ℕ} → x ≡ orderOf d → s ≡ x % slots
+      → getD marks s 0 ≡ 0
+      → (j : ℕ) → j < n → d ≢ getD (pairs os is) j voidEntry
+  marked-other is e b d {x} o q z j h y =
+      marked-not x q z j h (o ∙ ap orderOf (y ∙ line-at os is e j (omega (arith, h, b))))
+
+  pub marked-fewer : {k : ℕ} → k ≤ n → Marked marks os k
   marked-fewer h = record { all = m .all; set = λ j b. m .set j (omega (arith, h, b)) }
 
   -- one order more
-  pub marked-more : (s : ℕ) → s ≡ getD es n 0 % slots → s < slots → Marked (set marks s 1) es (n + 1)
+  pub marked-more : (s : ℕ) → s ≡ getD os n 0 % slots → s < slots → Marked (set marks s 1) os (n + 1)
   marked-more s e h =
       record {
         all = length-set marks s 1 ∙ m .all;
         set = λ k b.
             let at : (k ≡ n) ⊎ (k < n) = eq-or-lt-of-le (omega (arith, b)) in
             ⊎-elim
-            (λ q. kept (getD es k 0 % slots) (λ d. absurd (d (ap (λ (j : ℕ). getD es j 0 % slots) q ∙ sym e))))
-            (λ q. kept (getD es k 0 % slots) (λ d. m .set k q))
+            (λ q. kept (getD os k 0 % slots) (λ d. absurd (d (ap (λ (j : ℕ). getD os j 0 % slots) q ∙ sym e))))
+            (λ q. kept (getD os k 0 % slots) (λ d. m .set k q))
             at;
       }
     where
@@ -257,27 +265,81 @@ module _ {marks es : List ℕ} {n : ℕ} (m : Marked marks es n) where
 
 -- ---- lines without a mark
 
-pub unmarked-none : (marks : List ℕ) (l : List Entry) (i : ℕ) → Unmarked marks l i 0
-unmarked-none marks l i = record { none = λ j h. absurd (omega (arith, h)) }
+pub unmarked-none : (marks os : List ℕ) (i : ℕ) → Unmarked marks os i 0
+unmarked-none marks os i = record { none = λ j h. absurd (omega (arith, h)) }
 
 -- one line more, line q
-pub unmarked-more : {marks : List ℕ} {l : List Entry} {i n : ℕ} → Unmarked marks l i n → {q m : ℕ} → m ≡ markOf marks l q → q ≡ i + n → m ≡ 0
-    → Unmarked marks l i (suc n)
-unmarked-more {marks} {l} {i} {n} u {q} e b z =
+pub unmarked-more : {marks os : List ℕ} {i n : ℕ} → Unmarked marks os i n → {q m : ℕ} → m ≡ markOf marks os q → q ≡ i + n → m ≡ 0
+    → Unmarked marks os i (suc n)
+unmarked-more {marks} {os} {i} {n} u {q} e b z =
     record {
       none = λ j h.
           let at : (j ≡ n) ⊎ (j < n) = eq-or-lt-of-le (omega (arith, h)) in
-          ⊎-elim (λ c. ap (markOf marks l) (omega (arith, b, c)) ∙ sym e ∙ z) (u .none j) at;
+          ⊎-elim (λ c. ap (markOf marks os) (omega (arith, b, c)) ∙ sym e ∙ z) (u .none j) at;
     }
 
--- they are passed over
-pub sifted-over : (l es : List Entry) {marks : List ℕ} {i f p m : ℕ} (n : ℕ) → Sifted l es i f p → Marked marks es m → f ≤ m
-    → Unmarked marks l i n
-    → i + n ≤ length l
-    → Sifted l es (i + n) f p
-sifted-over l es {marks} {i} {f} {p} zero s k h u b = subst (λ (j : ℕ). Sifted l es j f p) (omega arith) s
-sifted-over l es {marks} {i} {f} {p} (suc n) s k h u b =
-    let before = sifted-over l es n s k h (record { none = λ j c. u .none j (omega (arith, c)) }) (omega (arith, b)) in
-    let other = marked-not k (getD l (i + n) voidEntry) refl (u .none n (omega arith)) in
-    subst (λ (j : ℕ). Sifted l es j f p) (omega arith)
-    (sifted-miss l es before (omega (arith, b)) (λ j c. other j (omega (arith, c, h))) refl refl)
+-- ---- in two columns: an order of the bundle
+
+module _ (os is : List ℕ) (e : length is ≡ length os) {i : ℕ} (a : Apart (pairs os is) i) (h : i < length os) where
+  abbrev order-here : Entry
+  order-here = entry (getD os i 0) (getD is i 0)
+
+  -- it was searched for before its place i
+  abbrev Searched : ℕ → Type 0
+  Searched k = k ≡ firstPlace (sameOrder order-here) (take i (pairs os is))
+
+  searched : {k : ℕ} → Searched k → k ≡ firstPlace (sameOrder (getD (pairs os is) i voidEntry)) (take i (pairs os is))
+  searched q = q ∙ ap (λ (d : Entry). firstPlace (sameOrder d) (take i (pairs os is))) (sym (line-at os is e i h))
+
+  pub order-again : {k : ℕ} → Searched k → k < i → (l : List Entry) → Sifted l (pairs os is) 0 i (length l + k)
+  order-again q b l = apart-hit (pairs os is) a l (omega (arith, h, pairs-length os is e)) (searched q) b
+
+  pub order-new : {k : ℕ} → Searched k → i ≤ k → Apart (pairs os is) (i + 1)
+  order-new q b = apart-more (pairs os is) a (not-before (pairs os is) (omega (arith, h, pairs-length os is e)) (searched q) b)
+
+  -- or its slot is not marked
+  pub order-unmarked : {marks : List ℕ} {s : ℕ} → Marked marks os i → s ≡ getD os i 0 % slots → getD marks s 0 ≡ 0 → Apart (pairs os is) (i + 1)
+  order-unmarked m q z =
+      apart-more (pairs os is) a (marked-other m is e (omega arith) _ (sym (ap orderOf (line-at os is e i h))) q z)
+
+-- ---- in two columns: a line
+
+module _ (os is bs js : List ℕ) (eo : length is ≡ length os) (eb : length js ≡ length bs) {i f p : ℕ}
+    (s : Sifted (pairs os is) (pairs bs js) i f p) (h : i < length os) where
+  inside : i < length (pairs os is)
+  inside = omega (arith, h, pairs-length os is eo)
+
+  -- its place in the bundle was searched for
+  abbrev Settled : ℕ → Type 0
+  Settled k = k ≡ firstPlace (sameOrder (entry (getD os i 0) (getD is i 0))) (pairs bs js)
+
+  settled : {k : ℕ} → Settled k → k ≡ firstPlace (sameOrder (getD (pairs os is) i voidEntry)) (pairs bs js)
+  settled q = q ∙ ap (λ (d : Entry). firstPlace (sameOrder d) (pairs bs js)) (sym (line-at os is eo i h))
+
+  pub met-line : {k g q : ℕ} → Settled k → k < f → g ≡ k → q ≡ i → Sifted (pairs os is) (pairs bs js) (i + 1) g q
+  met-line e b eg eq = sifted-hit (pairs os is) (pairs bs js) s inside (omega (arith, b, eg)) (eg ∙ settled e) eq
+
+  pub other-line : {k g q : ℕ} → Settled k → f ≤ k → g ≡ f → q ≡ p → Sifted (pairs os is) (pairs bs js) (i + 1) g q
+  other-line e b eg eq = sifted-miss (pairs os is) (pairs bs js) s inside (not-among _ (pairs bs js) (s .most) (settled e) b) eg eq
+
+  -- or its slot is not marked
+  pub unmarked-line : {marks : List ℕ} {m t g q : ℕ} → Marked marks bs m → f ≤ m → t ≡ getD os i 0 % slots → getD marks t 0 ≡ 0 → g ≡ f → q ≡ p
+      → Sifted (pairs os is) (pairs bs js) (i + 1) g q
+  unmarked-line k b e z eg eq =
+      let few : f ≤ length bs = omega (arith, s .most, pairs-length bs js eb) in
+      sifted-miss (pairs os is) (pairs bs js) s inside
+      (marked-other (marked-fewer k b) js eb few _ (sym (ap orderOf (line-at os is eo i h))) e z)
+      eg
+      eq
+
+-- n lines without a mark are passed over
+pub unmarked-lines : (os is bs js : List ℕ) → length is ≡ length os → length js ≡ length bs → {marks : List ℕ} {i f p m : ℕ} (n : ℕ)
+    → Sifted (pairs os is) (pairs bs js) i f p → Marked marks bs m → f ≤ m
+    → Unmarked marks os i n
+    → i + n ≤ length os
+    → Sifted (pairs os is) (pairs bs js) (i + n) f p
+unmarked-lines os is bs js eo eb {marks} {i} {f} {p} zero s k h u b = subst (λ (j : ℕ). Sifted (pairs os is) (pairs bs js) j f p) (omega arith) s
+unmarked-lines os is bs js eo eb {marks} {i} {f} {p} (suc n) s k h u b =
+    let before = unmarked-lines os is bs js eo eb n s k h (record { none = λ j c. u .none j (omega (arith, c)) }) (omega (arith, b)) in
+    subst (λ (j : ℕ). Sifted (pairs os is) (pairs bs js) j f p) (omega arith)
+    (unmarked-line os is bs js eo eb before (omega (arith, b)) k h refl (u .none n (omega arith)) refl refl)

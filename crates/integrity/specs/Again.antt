@@ -7,7 +7,7 @@ use Prim.Native.Nat.{ℕ, suc}
 use lib.Dec.{ltb}
 use lib.ListN.{length}
 use Rattle.model.specs.Basics.{firstPlace}
-use Rattle.model.specs.Entry.{Entry, sameOrder}
+use Rattle.model.specs.Entry.{Entry, entry, sameOrder}
 
 -- the order of e stands in one of the lines l
 abbrev pub standsIn : List Entry → Entry → Bool
@@ -24,17 +24,20 @@ unfoldable pub placeAgain : List Entry → List Entry → ℕ
 placeAgain l [] = length l
 placeAgain l (e ∷ es) = cond (standsIn l e) (firstPlace (sameOrder e) l) (placeAgain (l ++ (e ∷ [])) es)
 
--- for example, the second of three orders stands in the second line, and in the third
-written-before : (firstAgain (4 ∷ 7 ∷ 7 ∷ []) (9 ∷ 7 ∷ 4 ∷ []) ≡ 1) × (placeAgain (4 ∷ 7 ∷ 7 ∷ []) (9 ∷ 7 ∷ 4 ∷ []) ≡ 1)
+-- for example, the second of three orders stands in the second line, and in the third; the first has its number but another item line
+written-before : (firstAgain (entry 4 1 ∷ entry 7 1 ∷ entry 7 1 ∷ []) (entry 7 2 ∷ entry 7 1 ∷ entry 4 1 ∷ []) ≡ 1)
+    × (placeAgain (entry 4 1 ∷ entry 7 1 ∷ entry 7 1 ∷ []) (entry 7 2 ∷ entry 7 1 ∷ entry 4 1 ∷ []) ≡ 1)
 unfolding firstAgain placeAgain
 written-before = (refl, refl)
 
 -- the third is the first once more, whose line is to be the third
-twice : (firstAgain (4 ∷ 7 ∷ []) (9 ∷ 5 ∷ 9 ∷ []) ≡ 2) × (placeAgain (4 ∷ 7 ∷ []) (9 ∷ 5 ∷ 9 ∷ []) ≡ 2)
+twice : (firstAgain (entry 4 1 ∷ entry 7 1 ∷ []) (entry 9 1 ∷ entry 9 2 ∷ entry 9 1 ∷ []) ≡ 2)
+    × (placeAgain (entry 4 1 ∷ entry 7 1 ∷ []) (entry 9 1 ∷ entry 9 2 ∷ entry 9 1 ∷ []) ≡ 2)
 unfolding firstAgain placeAgain
 twice = (refl, refl)
 
 -- and three that are new
-all-new : (firstAgain (4 ∷ 7 ∷ []) (9 ∷ 5 ∷ 8 ∷ []) ≡ 3) × (placeAgain (4 ∷ 7 ∷ []) (9 ∷ 5 ∷ 8 ∷ []) ≡ 5)
+all-new : (firstAgain (entry 4 1 ∷ entry 7 1 ∷ []) (entry 9 1 ∷ entry 5 1 ∷ entry 4 2 ∷ []) ≡ 3)
+    × (placeAgain (entry 4 1 ∷ entry 7 1 ∷ []) (entry 9 1 ∷ entry 5 1 ∷ entry 4 2 ∷ []) ≡ 5)
 unfolding firstAgain placeAgain
 all-new = (refl, refl)

@@ -17,7 +17,7 @@ use Rattle.integrity.specs.declared.Found.{Found}
 use Rattle.integrity.specs.declared.Met.{Met}
 use Rattle.integrity.specs.Again.{firstAgain, placeAgain}
 
--- the tests that look at no line, of a column with room for n
+-- the tests that look at no line, of columns with room for n
 abbrev pub frameTests : Ledger → ℕ → List Bool
 frameTests r n =
     let p = printingOf r in

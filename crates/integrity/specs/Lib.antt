@@ -1,3 +1,4 @@
 pub mod Again
+pub mod Range
 pub mod Sift
 pub mod Examine

@@ -1,21 +1,26 @@
-// Number 16 (document 01, "Refusals", place 'register calls'): whether a record and a column belong together, by one pass over the lines written,
-// which finds the lowest place of an order too where one is looked for, or the first of several that stands in an earlier line.
+// Number 16 (document 01, "Refusals", place 'register calls'; document 02, (vi)): whether a record and the two columns belong together, by one pass over
+// the lines written, which finds the lowest place of an order too where one is looked for, or the first of several that stands in an earlier line.
 mod meet;
 mod pass;
+mod sound;
 
 use bounds::Bounds;
 use model::Ledger;
 ghost use mathlib.Core.Path.{_≡_};
 ghost use mathlib.Core.Bool.{false, cond};
-ghost use Prim.Native.Nat.{_-_, _≤_};
+ghost use Prim.Native.Nat.{_-_, _≤_, min};
 ghost use lib.Dec.{eqb};
 ghost use Rattle.walsh.specs.Serial.{same};
 ghost use Rattle.walsh.specs.Tests.{both};
 ghost use Rattle.bounds.specs.Edition.{cellsOf};
+ghost use Rattle.model.specs.Entry.{entry, columns};
 ghost use Rattle.model.specs.Record.{upperOf, consistent};
 ghost use Rattle.integrity.specs.Examine.{framed, seenBy, foundBy, metBy};
 
-// Whether a record and a column belong together, and N where they do; elsewhere 0.
+// The highest item line (document 02, (vi)).
+pub const MOST_ITEM: u8 = 99;
+
+// Whether a record and the columns belong together, and N where they do; elsewhere 0.
 pub struct Seen {
     pub fits: bool,
     pub count: u64,
@@ -103,10 +108,10 @@ fn unmet() -> Met
     }
 }
 
-// The tests of number 16 that look at no line, of a column with room for so many. More than MOST_ENTRIES entries never belong to a column, so the
-// next serial fits 64 bits.
-fn frame(ledger: Ledger, room: usize) -> Seen
-    ensures { λ r. ⌜ r ≡ seenBy (framed ledger room) ledger ⌝ }
+// The tests of number 16 that look at no line, of columns of these lengths. More than MOST_ENTRIES entries never belong to a column, so the next serial
+// fits 64 bits.
+fn frame(ledger: Ledger, orders: usize, items: usize) -> Seen
+    ensures { λ r. ⌜ r ≡ seenBy (framed ledger (min orders items)) ledger ⌝ }
 {
     let entries = ledger.entries;
     if bounds::MOST_ENTRIES < entries {
@@ -121,7 +126,7 @@ fn frame(ledger: Ledger, room: usize) -> Seen
     if bounds::MOST_ENTRIES < count {
         return unseen();
     }
-    if room < count as usize {
+    if walsh::lesser(orders, items) < count as usize {
         return unseen();
     }
     if count < entries {
@@ -138,44 +143,48 @@ fn frame(ledger: Ledger, room: usize) -> Seen
     Seen { fits: true, count }
 }
 
-// The tests that count the lines: so many of those written are 0.
-fn counted(ledger: Ledger, zeros: u64) -> bool
+// The tests that look at the lines: so many of those written are spoilt, and all are sound or not.
+fn counted(ledger: Ledger, zeros: u64, sound: bool) -> bool
     requires { ⌜ zeros ≤ ledger .entries ⌝ }
-    ensures { λ r. ⌜ r ≡ both (eqb (ledger .voided) zeros) (eqb (ledger .sold) (ledger .entries - zeros)) ⌝ }
+    ensures { λ r. ⌜ r ≡ both sound (both (eqb (ledger .voided) zeros) (eqb (ledger .sold) (ledger .entries - zeros))) ⌝ }
 {
+    if !sound {
+        return false;
+    }
     if ledger.voided != zeros {
         return false;
     }
     ledger.sold == ledger.entries - zeros
 }
 
-// A record and a column that nobody has checked.
-pub fn examine(ledger: Ledger, orders: &[u32]) -> Seen
-    ensures { λ r. ⌜ r ≡ seenBy (consistent ledger (now (orders .entry))) ledger ⌝ }
+// A record and columns that nobody has checked.
+pub fn examine(ledger: Ledger, orders: &[u32], items: &[u8]) -> Seen
+    ensures { λ r. ⌜ r ≡ seenBy (consistent ledger (columns (now (orders .entry)) (now (items .entry)))) ledger ⌝ }
 {
-    let seen = frame(ledger, orders.len());
+    let seen = frame(ledger, orders.len(), items.len());
     if !seen.fits {
         return unseen();
     }
     let n = ledger.entries as usize;
-    let zeros = pass::zeros(&orders[..n]);
-    if !counted(ledger, zeros) {
+    let scanned = pass::scan(&orders[..n], &items[..n]);
+    if !counted(ledger, scanned.zeros, scanned.sound) {
         return unseen();
     }
     seen
 }
 
 // The same, and where an order stands.
-pub fn examine_for(ledger: Ledger, orders: &[u32], order: u32) -> Found
-    ensures { λ r. ⌜ r ≡ foundBy (consistent ledger (now (orders .entry))) ledger (now (orders .entry)) order ⌝ }
+pub fn examine_for(ledger: Ledger, orders: &[u32], items: &[u8], order: u32, item: u8) -> Found
+    ensures { λ r. ⌜ r ≡ foundBy (consistent ledger (columns (now (orders .entry)) (now (items .entry)))) ledger
+        (columns (now (orders .entry)) (now (items .entry))) (entry order item) ⌝ }
 {
-    let framed = frame(ledger, orders.len());
+    let framed = frame(ledger, orders.len(), items.len());
     if !framed.fits {
         return unfound();
     }
     let written = ledger.entries as usize;
-    let passed = pass::seek(&orders[..written], order);
-    if !counted(ledger, passed.zeros) {
+    let passed = pass::seek(&orders[..written], &items[..written], order, item);
+    if !counted(ledger, passed.zeros, passed.sound) {
         return unfound();
     }
     Found {
@@ -185,17 +194,30 @@ pub fn examine_for(ledger: Ledger, orders: &[u32], order: u32) -> Found
     }
 }
 
-// The same, and the first order of a bundle that stands in an earlier line.
-pub fn examine_all(ledger: Ledger, orders: &[u32], bundle: &[u32]) -> Met
-    ensures { λ r. ⌜ r ≡ metBy (consistent ledger (now (orders .entry))) ledger (now (orders .entry)) (now (bundle .entry)) ⌝ }
+// The same, and the first order of a bundle that stands in an earlier line; of a bundle with another number of item lines those orders that have one.
+pub fn examine_all(
+    ledger: Ledger,
+    orders: &[u32],
+    items: &[u8],
+    bundle: &[u32],
+    itemlines: &[u8],
+) -> Met
+    ensures { λ r. ⌜ r ≡ metBy (consistent ledger (columns (now (orders .entry)) (now (items .entry)))) ledger
+        (columns (now (orders .entry)) (now (items .entry))) (columns (now (bundle .entry)) (now (itemlines .entry))) ⌝ }
 {
-    let tested = frame(ledger, orders.len());
+    let tested = frame(ledger, orders.len(), items.len());
     if !tested.fits {
         return unmet();
     }
     let lines = ledger.entries as usize;
-    let swept = meet::meet(&orders[..lines], bundle);
-    if !counted(ledger, swept.zeros) {
+    let k = walsh::lesser(bundle.len(), itemlines.len());
+    let swept = meet::meet(
+        &orders[..lines],
+        &items[..lines],
+        &bundle[..k],
+        &itemlines[..k],
+    );
+    if !counted(ledger, swept.zeros, swept.sound) {
         return unmet();
     }
     Met {

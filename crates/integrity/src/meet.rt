@@ -1,15 +1,15 @@
-// The pass over the lines written that looks for all orders of a bundle at once. A table of marks by an order's remainder tells of most lines that
-// they are none of the orders; only a marked line is compared with them.
+// The pass over the lines written that looks for all orders of a bundle at once. A table of marks by the remainder of an order's number tells of most
+// lines that they are none of the orders; only a marked line is compared with them, number and item line.
 ghost use mathlib.Core.Path.{_≡_};
 ghost use mathlib.Core.Bool.{true};
 ghost use mathlib.Core.List.{List};
-ghost use Prim.Native.Nat.{ℕ, _+_, _%_, _≤_, _<_};
+ghost use Prim.Native.Nat.{_+_, _%_, _≤_, _<_};
 ghost use lib.ListN.{length};
 ghost use Rattle.bounds.specs.Places.{mostEntries};
-ghost use Rattle.model.specs.Basics.{howMany, firstPlace};
-ghost use Rattle.model.specs.Entry.{voidedIn, sameOrder};
-ghost use Rattle.integrity.specs.Again.{firstAgain, placeAgain};
-ghost use Rattle.integrity.specs.Sift.{Sifted, slots, Marked, markOf, Unmarked};
+ghost use Rattle.walsh.specs.Tests.{times};
+ghost use Rattle.model.specs.Basics.{firstPlace};
+ghost use Rattle.model.specs.Entry.{Entry, entry, pairs, sameOrder};
+ghost use Rattle.integrity.specs.Sift.{Sifted, Sweeps, slots, Marked, markOf, Unmarked};
 use crate::pass;
 
 const SLOTS: usize = 8192;
@@ -20,9 +20,10 @@ struct Hit {
     place: usize,
 }
 
-// How many lines are 0, and the first order that stands in an earlier line, with the lowest such line.
+// How many lines are spoilt, whether none is unsound, and the first order that stands in an earlier line, with the lowest such line.
 pub(crate) struct Swept {
     pub(crate) zeros: u64,
+    pub(crate) sound: bool,
     pub(crate) first: usize,
     pub(crate) place: usize,
 }
@@ -35,9 +36,9 @@ fn slot(order: u32) -> usize
 
 // The first order that stands earlier in the bundle; the orders before it are marked. Two orders may share a slot, so one whose slot is marked
 // already is searched for.
-fn mark(bundle: &[u32], marks: &mut [u8]) -> Hit
-    requires { ⌜ length (now marks) ≡ slots ⌝ }
-    ensures { λ r. ⌜ ((l : List ℕ) → Sifted l (now (bundle .entry)) 0 (r .first) (length l + r .place))
+fn mark(bundle: &[u32], items: &[u8], marks: &mut [u8]) -> Hit
+    requires { ⌜ (length (now marks) ≡ slots) × (length (now items) ≡ length (now bundle)) ⌝ }
+    ensures { λ r. ⌜ ((l : List Entry) → Sifted l (pairs (now (bundle .entry)) (now (items .entry))) 0 (r .first) (length l + r .place))
         × Marked (now (marks .exit)) (now (bundle .entry)) (r .first) × (r .place ≤ length (now (bundle .entry))) ⌝ }
 {
     let n = bundle.len();
@@ -46,7 +47,7 @@ fn mark(bundle: &[u32], marks: &mut [u8]) -> Hit
         let order = bundle[i];
         let s = slot(order);
         if marks[s] != 0 {
-            let at = pass::search(&bundle[..i], 0, order);
+            let at = pass::search(bundle, items, 0, i, order, items[i]);
             if at < i {
                 return Hit {
                     first: i,
@@ -60,9 +61,9 @@ fn mark(bundle: &[u32], marks: &mut [u8]) -> Hit
     Hit { first: i, place: i }
 }
 
-// Whether an order is none of these. Of more than a block of them nothing is said.
+// Whether none of these has the number of an order. Of more than a block of them nothing is said.
 fn absent(orders: &[u32], order: u32) -> bool
-    ensures { λ r. ⌜ (r ≡ true → howMany (sameOrder order) (now (orders .entry)) ≡ 0) ⌝ }
+    ensures { λ r. ⌜ (r ≡ true → times order (now (orders .entry)) ≡ 0) ⌝ }
 {
     if pass::BLOCK < orders.len() {
         return false;
@@ -72,20 +73,32 @@ fn absent(orders: &[u32], order: u32) -> bool
 }
 
 // The lowest place of an order in the bundle, which most orders that are asked for do not have.
-fn settle(bundle: &[u32], order: u32) -> usize
-    ensures { λ r. ⌜ r ≡ firstPlace (sameOrder order) (now (bundle .entry)) ⌝ }
+fn settle(bundle: &[u32], items: &[u8], order: u32, item: u8) -> usize
+    requires { ⌜ length (now items) ≡ length (now bundle) ⌝ }
+    ensures { λ r. ⌜ r ≡ firstPlace (sameOrder (entry order item)) (pairs (now (bundle .entry)) (now (items .entry))) ⌝ }
 {
     if absent(bundle, order) {
         return bundle.len();
     }
-    pass::search(bundle, 0, order)
+    pass::search(bundle, items, 0, bundle.len(), order, item)
 }
 
 // The lines from place `from` up to `to`, one by one. An order that is found once more keeps its lower line, and a lower order of the bundle wins.
-fn look(lines: &[u32], from: usize, to: usize, bundle: &[u32], marks: &[u8], hit: Hit) -> Hit
-    requires { ⌜ (from ≤ to) × (to ≤ length (now lines)) × Marked (now marks) (now bundle) (hit .first)
-        × Sifted (now lines) (now bundle) from (hit .first) (hit .place) ⌝ }
-    ensures { λ r. ⌜ Sifted (now (lines .entry)) (now (bundle .entry)) to (r .first) (r .place) × (r .first ≤ hit .first) ⌝ }
+fn look(
+    lines: &[u32],
+    items: &[u8],
+    from: usize,
+    to: usize,
+    bundle: &[u32],
+    itemlines: &[u8],
+    marks: &[u8],
+    hit: Hit,
+) -> Hit
+    requires { ⌜ (from ≤ to) × (to ≤ length (now lines)) × (length (now items) ≡ length (now lines))
+        × (length (now itemlines) ≡ length (now bundle)) × Marked (now marks) (now bundle) (hit .first)
+        × Sifted (pairs (now lines) (now items)) (pairs (now bundle) (now itemlines)) from (hit .first) (hit .place) ⌝ }
+    ensures { λ r. ⌜ Sifted (pairs (now (lines .entry)) (now (items .entry))) (pairs (now (bundle .entry)) (now (itemlines .entry))) to
+        (r .first) (r .place) × (r .first ≤ hit .first) ⌝ }
 {
     let mut first = hit.first;
     let mut place = hit.place;
@@ -94,7 +107,7 @@ fn look(lines: &[u32], from: usize, to: usize, bundle: &[u32], marks: &[u8], hit
         let x = lines[i];
         let s = slot(x);
         if marks[s] != 0 {
-            let k = settle(bundle, x);
+            let k = settle(bundle, itemlines, x, items[i]);
             if k < first {
                 first = k;
                 place = i;
@@ -130,58 +143,81 @@ fn marked(lines: &[u32], at: usize, marks: &[u8]) -> usize
 }
 
 // The lines from place `from` up to `to`, eight at a time: where none of them is marked they are passed over.
-fn sift(lines: &[u32], from: usize, to: usize, bundle: &[u32], marks: &[u8], start: Hit) -> Hit
-    requires { ⌜ (from ≤ to) × (to ≤ length (now lines)) × Marked (now marks) (now bundle) (start .first)
-        × Sifted (now lines) (now bundle) from (start .first) (start .place) ⌝ }
-    ensures { λ r. ⌜ Sifted (now (lines .entry)) (now (bundle .entry)) to (r .first) (r .place) × (r .first ≤ start .first) ⌝ }
+fn sift(
+    lines: &[u32],
+    items: &[u8],
+    from: usize,
+    to: usize,
+    bundle: &[u32],
+    itemlines: &[u8],
+    marks: &[u8],
+    start: Hit,
+) -> Hit
+    requires { ⌜ (from ≤ to) × (to ≤ length (now lines)) × (length (now items) ≡ length (now lines))
+        × (length (now itemlines) ≡ length (now bundle)) × Marked (now marks) (now bundle) (start .first)
+        × Sifted (pairs (now lines) (now items)) (pairs (now bundle) (now itemlines)) from (start .first) (start .place) ⌝ }
+    ensures { λ r. ⌜ Sifted (pairs (now (lines .entry)) (now (items .entry))) (pairs (now (bundle .entry)) (now (itemlines .entry))) to
+        (r .first) (r .place) × (r .first ≤ start .first) ⌝ }
 {
     let mut hit = start;
     let mut i = from;
     while 8 <= to - i {
         if marked(lines, i, marks) != 0 {
-            hit = look(lines, i, i + 8, bundle, marks, hit);
+            hit = look(lines, items, i, i + 8, bundle, itemlines, marks, hit);
         }
         i += 8;
     }
-    look(lines, i, to, bundle, marks, hit)
+    look(lines, items, i, to, bundle, itemlines, marks, hit)
 }
 
 // Block by block, so that the lines whose zeros are counted are still at hand.
-fn sweep(lines: &[u32], bundle: &[u32], marks: &[u8], start: Hit) -> Swept
-    requires { ⌜ (length (now lines) ≤ mostEntries) × Marked (now marks) (now bundle) (start .first)
-        × Sifted (now lines) (now bundle) 0 (start .first) (start .place) ⌝ }
-    ensures { λ r. ⌜ (r .zeros ≡ voidedIn (now (lines .entry))) × (r .first ≡ firstAgain (now (lines .entry)) (now (bundle .entry)))
-        × (r .place ≡ placeAgain (now (lines .entry)) (now (bundle .entry))) ⌝ }
+fn sweep(
+    lines: &[u32],
+    items: &[u8],
+    bundle: &[u32],
+    itemlines: &[u8],
+    marks: &[u8],
+    start: Hit,
+) -> Swept
+    requires { ⌜ (length (now lines) ≤ mostEntries) × (length (now items) ≡ length (now lines))
+        × (length (now itemlines) ≡ length (now bundle)) × Marked (now marks) (now bundle) (start .first)
+        × Sifted (pairs (now lines) (now items)) (pairs (now bundle) (now itemlines)) 0 (start .first) (start .place) ⌝ }
+    ensures { λ r. ⌜ Sweeps (pairs (now (lines .entry)) (now (items .entry))) (pairs (now (bundle .entry)) (now (itemlines .entry))) r ⌝ }
 {
     let n = lines.len();
     let mut zeros: u64 = 0;
+    let mut sound = true;
     let mut hit = start;
     let mut i: usize = 0;
     while i < n {
-        let size = walsh::lesser(n - i, pass::BLOCK);
-        let to = i + size;
-        zeros += pass::zeros(&lines[i..to]);
-        hit = sift(lines, i, to, bundle, marks, hit);
+        let to = i + walsh::lesser(n - i, pass::BLOCK);
+        let part = pass::block(&lines[i..to], &items[i..to]);
+        zeros += part.zeros;
+        if !part.sound {
+            sound = false;
+        }
+        hit = sift(lines, items, i, to, bundle, itemlines, marks, hit);
         i = to;
     }
     Swept {
         zeros,
+        sound,
         first: hit.first,
         place: hit.place,
     }
 }
 
-// The zeros, and the first order of the bundle that stands in an earlier line.
-pub(crate) fn meet(lines: &[u32], bundle: &[u32]) -> Swept
-    requires { ⌜ length (now lines) ≤ mostEntries ⌝ }
-    ensures { λ r. ⌜ (r .zeros ≡ voidedIn (now (lines .entry))) × (r .first ≡ firstAgain (now (lines .entry)) (now (bundle .entry)))
-        × (r .place ≡ placeAgain (now (lines .entry)) (now (bundle .entry))) ⌝ }
+// The spoilt lines, whether none is unsound, and the first order of the bundle that stands in an earlier line.
+pub(crate) fn meet(lines: &[u32], items: &[u8], bundle: &[u32], itemlines: &[u8]) -> Swept
+    requires { ⌜ (length (now lines) ≤ mostEntries) × (length (now items) ≡ length (now lines))
+        × (length (now itemlines) ≡ length (now bundle)) ⌝ }
+    ensures { λ r. ⌜ Sweeps (pairs (now (lines .entry)) (now (items .entry))) (pairs (now (bundle .entry)) (now (itemlines .entry))) r ⌝ }
 {
     let mut marks = [0u8; SLOTS];
-    let hit = mark(bundle, &mut marks);
+    let hit = mark(bundle, itemlines, &mut marks);
     let start = Hit {
         first: hit.first,
         place: lines.len() + hit.place,
     };
-    sweep(lines, bundle, &marks, start)
+    sweep(lines, items, bundle, itemlines, &marks, start)
 }

@@ -5,16 +5,16 @@ use Prim.Native.Nat.{ℕ, _+_}
 use native.Mathlib.Nat.{add-zero}
 use lib.ListN.{length}
 use borrow.Author.Tests.{eq-eqb}
-use Rattle.model.specs.Entry.{Entry, Lent, isVoided, entriesIn}
+use Rattle.model.specs.Entry.{Entry, Lent, isVoided, entriesIn, Paired}
 use Rattle.model.specs.Model.{Call, answer}
 use Rattle.model.specs.Record.{printingOf, written, answered, counted}
 use Rattle.model.specs.declared.Answer.{Answer}
 use Rattle.model.specs.declared.Ledger.{Ledger}
 use Rattle.model.proofs.Bundles.{takes-sold}
-use Rattle.model.proofs.Calls.{for-an-order, bundle-takes}
+use Rattle.model.proofs.Calls.{for-an-order, bundle-takes, bundle-paired}
 use Rattle.model.proofs.Entries.{one-sold}
 use Rattle.model.proofs.Records.{answered-by}
-use Rattle.model.proofs.Replies.{Writing}
+use Rattle.model.proofs.Replies.{Writing, writing}
 use Rattle.ledger.specs.Counting.{counting}
 
 -- the model's answer is of that number too
@@ -35,6 +35,12 @@ counts-claim r col s e a is z w =
 -- a void is voided
 pub counts-void : (r : Ledger) (s : ℕ) → counting r 1 (r .sold) (r .voided + 1) ≡ counted r (Call.void s)
 counts-void r s = rw (add-zero (r .sold))
+
+-- an accepted bundle has an item line for each order
+pub paired : (r : Ledger) (col : Lent) (s : ℕ) (b : Lent) (a : Answer) → a ≡ answered r col (Call.claim-all s b) → a .number ≡ 0 → Paired b
+paired r col s b a is z =
+    let w = writing r col (Call.claim-all s b) a is z in
+    bundle-paired (printingOf r) (written r col) s b (eq-eqb _ 0 (none r col _ a is z w))
 
 -- the orders of a bundle are sold
 pub counts-all : (r : Ledger) (col : Lent) (s : ℕ) (b : Lent) (a : Answer)

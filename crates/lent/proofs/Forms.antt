@@ -2,7 +2,7 @@
 use mathlib.Core.Path.{_≡_, refl, sym, ap, _∙_, subst⁻¹}
 use mathlib.Core.List.{List, [], _∷_, map}
 use Rattle.walsh.specs.declared.Transition.{Transition}
-use Rattle.model.specs.Entry.{Lent as Column}
+use Rattle.model.specs.Entry.{Lent as Columns}
 use Rattle.model.specs.Printing.{Printing}
 use Rattle.model.specs.Model.{Call, told, event}
 use Rattle.model.specs.Record.{printingOf, opening, answered, peekedBy, peeking, recordAfter, columnAfter, calling, Run, run}
@@ -50,8 +50,8 @@ unfolding peeking
 does peek x a y p =
     let same = p ∙ sym (calling-peek (x .ledger) (x .column) (answered (x .ledger) (x .column) Call.peek) refl) in
     record {
-      meets = ap (λ (z : Claimed × Column). peekedBy (z .0 .answer) (toldAt Call.peek x (z .0 .answer))) same;
-      kept = ap (λ (z : Claimed × Column). record { ledger = z .0 .ledger; column = z .1 }) same;
+      meets = ap (λ (z : Claimed × Columns). peekedBy (z .0 .answer) (toldAt Call.peek x (z .0 .answer))) same;
+      kept = ap (λ (z : Claimed × Columns). record { ledger = z .0 .ledger; column = z .1 }) same;
     }
 does (claim s e) x a y p = (valued _ x a y p, refl)
 does (void s) x a y p = (valued _ x a y p, refl)
@@ -62,7 +62,7 @@ does (void-in s) x a y p = (p, refl)
 -- ---- a list of calls
 
 -- a run from what one call leaves, with that call before it
-abbrev onward : Printing → Call → List Call → Claimed × Column → Run
+abbrev onward : Printing → Call → List Call → Claimed × Columns → Run
 onward p c cs z =
     let rest = run (z .0 .ledger) (z .1) cs in
     record { trace = event p c (z .0 .answer) ∷ rest .trace; ledger = rest .ledger; column = rest .column }
@@ -90,14 +90,14 @@ run-runs (s ∷ ss) x =
     let a = answered (x .ledger) (x .column) (callOf s) in
     (a, toldAt (callOf s) x a, y, run (y .ledger) (y .column) (map callOf ss), does s x a y refl, run-runs ss y, refl)
 
--- the same list in other forms gives the same answers, record and column
+-- the same list in other forms gives the same answers, record and columns
 pub same-run : (ss ts : List Invocation) (x : State) (w v : Run) → map callOf ss ≡ map callOf ts → Runs x ss w → Runs x ts v → w ≡ v
 same-run ss ts x w v e p q =
     runs-run ss x w p ∙ ap (λ (cs : List Call). run (x .ledger) (x .column) cs) e ∙ sym (runs-run ts x v q)
 
--- The guarantee: w is a run of any list of calls, each in either form, from an accepted opening over any column, and v a run of its second list,
--- each call of that again in either form.
-pub either-form : (p : Printing) (col : Column) (ss ts : List Invocation) (w v : Run)
+-- The guarantee: w is a run of any list of calls, each in either form, from an accepted opening over any columns, and v a run of its second
+-- list, each call of that again in either form.
+pub either-form : (p : Printing) (col : Columns) (ss ts : List Invocation) (w v : Run)
     → opening p col .number ≡ 0
     → Runs (start p col) ss w
     → Runs (start p col) ts v

@@ -1,3 +1,4 @@
+pub mod Columns
 pub mod Forms
 pub mod Lending
 pub mod Numbers

@@ -1,11 +1,12 @@
 -- Document 01, "The register": "First the record goes in and comes back. After the base, the record is also lent to take and spoil, which update it
--- there with the same answers." A list of calls in which each comes in either form, run as the contracts of the functions say.
+-- there with the same answers." A list of calls in which each comes in either form, run as the contracts of the functions say. Document 02, (vi):
+-- "what is promised of the column holds of both columns".
 use mathlib.Core.Path.{_≡_}
 use mathlib.Core.List.{List, [], _∷_}
 use Prim.Native.Nat.{ℕ}
 use Rattle.walsh.specs.Transition.{none}
 use Rattle.walsh.specs.declared.Transition.{Transition}
-use Rattle.model.specs.Entry.{Entry, Lent as Column}
+use Rattle.model.specs.Entry.{Entry, Lent as Columns}
 use Rattle.model.specs.Printing.{Printing}
 use Rattle.model.specs.Model.{Call}
 use Rattle.model.specs.Record.{opening, peekedBy, peeking, calling, Run}
@@ -19,7 +20,7 @@ pub data Invocation : Type 0 where
   peek : Invocation
   claim : ℕ → Entry → Invocation
   void : ℕ → Invocation
-  claim-all : ℕ → Column → Invocation
+  claim-all : ℕ → Columns → Invocation
   claim-in : ℕ → Entry → Invocation
   void-in : ℕ → Invocation
 
@@ -32,10 +33,10 @@ callOf (claim-all s b) = Call.claim-all s b
 callOf (claim-in s e) = Call.claim s e
 callOf (void-in s) = Call.void s
 
--- what the caller keeps between two calls
+-- what the caller keeps between two calls: the record and both columns
 pub record State : Type 0 where
   pub ledger : Ledger
-  pub column : Column
+  pub column : Columns
 
 -- ---- the contracts: of a call at x, that a is answered and y is left
 
@@ -50,7 +51,7 @@ pub record ByValue (c : Call) (x : State) (a : Answer) (y : State) : Type 0 wher
 abbrev pub Lent : Call → State → Answer → State → Type 0
 Lent c x a y = (record { answer = a; ledger = y .ledger }, y .column) ≡ calling (x .ledger) (x .column) c
 
--- the record goes in, the column is lent to be read; the pair t is answered too
+-- the record goes in, both columns are lent to be read; the pair t is answered too
 pub record Peeks (x : State) (a : Answer) (t : Transition) (y : State) : Type 0 where
   pub meets : peekedBy a t ≡ peeking (x .ledger) (x .column)
   pub kept : y ≡ x
@@ -74,5 +75,5 @@ Runs x (s ∷ ss) w =
     × (w ≡ record { trace = record { call = callOf s; reply = a; transition = t } ∷ v .trace; ledger = v .ledger; column = v .column })
 
 -- "the column and the record of an accepted opening"
-abbrev pub start : Printing → Column → State
+abbrev pub start : Printing → Columns → State
 start p col = record { ledger = opening p col .ledger; column = col }

@@ -1,6 +1,6 @@
 -- Which answer each way through the checks of a call of the model leads to: a law for each row of the table, and for what no row refuses.
 use mathlib.Core.Path.{_≡_, refl, sym, ap, _∙_}
-use mathlib.Core.Logic.{_≢_}
+use mathlib.Core.Logic.{_≢_, _⊎_}
 use mathlib.Core.Bool.{true}
 use mathlib.Core.List.{List, [], _∷_, _++_}
 use Prim.Native.Nat.{ℕ, _≤_, _<_}
@@ -16,11 +16,12 @@ use Rattle.bounds.proofs.Refusals.{refusal-here, refusal-next, refusal-first, r
 use Rattle.bounds.proofs.Chains.{Accepts}
 use Rattle.model.specs.declared.Answer.{Answer}
 use Rattle.model.specs.Basics.{firstPlace}
-use Rattle.model.specs.Entry.{Entry, voidEntry, orderOf, sameOrder}
+use Rattle.model.specs.Entry.{Entry, voidEntry, orderOf, itemOf, sameOrder}
 use Rattle.model.specs.Printing.{Printing, size, lowest, placeOf, serialAt}
-use Rattle.model.specs.Model.{peek, claim, void, next, noOrder, noLine, alreadyWritten, aboveNext, standsEarlier, allWritten}
+use Rattle.model.specs.Model.{peek, claim, void, next, noOrder, badItem, noLine, alreadyWritten, aboveNext, standsEarlier, allWritten}
 use Rattle.model.specs.Model.{orderChecks, placeChecks, callChecks, given, refusedWith, answerBy, answer}
-use Rattle.model.proofs.Entries.{is-voided, not-voided}
+use Rattle.model.specs.Reason.{GoodOrder}
+use Rattle.model.proofs.Entries.{is-voided, not-voided, bad-item, good-item}
 
 -- an answer has the number of its refusal
 pub answer-number : (v : Refusal) (p : Printing) (s : ℕ) → answerBy v p s .number ≡ v .number
@@ -29,11 +30,15 @@ answer-number v p s = on-test (eqb (v .number) 0) (λ t. rw t (sym (eqb-true (v 
 -- ---- an order by itself
 
 pub order-none : (e : Entry) → orderOf e ≡ 0 → firstRefusal (orderChecks e) ≡ refused 17 0
-order-none e z = refusal-here (noOrder e) [] (is-voided e z)
+order-none e z = refusal-here (noOrder e) _ (is-voided e z)
 
-pub order-good : (e : Entry) → orderOf e ≢ 0 → Accepts (orderChecks e)
+pub order-bad : (e : Entry) → orderOf e ≢ 0 → (itemOf e ≡ 0) ⊎ (99 < itemOf e) → firstRefusal (orderChecks e) ≡ refused 25 0
+order-bad e n b = refusal-next (noOrder e) _ (not-voided e n) ∙ refusal-here (badItem e) [] (bad-item e b)
+
+pub order-good : (e : Entry) → GoodOrder e → Accepts (orderChecks e)
 unfolding firstRefusal
-order-good e n = same-number (refusal-next (noOrder e) [] (not-voided e n))
+order-good e g =
+    same-number (refusal-next (noOrder e) (badItem e ∷ []) (not-voided e (g .0)) ∙ refusal-next (badItem e) [] (good-item e (g .1) (g .2)))
 
 -- the answer of the checks of a serial alone, which is that of a void
 abbrev pub placed : Printing → List Entry → ℕ → Answer

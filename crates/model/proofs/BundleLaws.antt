@@ -13,7 +13,7 @@ use Rattle.bounds.specs.Refusal.{Check, firstRefusal}
 use Rattle.bounds.proofs.Refusals.{passed}
 use Rattle.bounds.proofs.Chains.{Accepts, accepts-join}
 use Rattle.model.specs.declared.Ledger.{Ledger}
-use Rattle.model.specs.Entry.{Entry, Lent, entriesIn, room}
+use Rattle.model.specs.Entry.{Entry, Lent, entriesIn, room, Paired}
 use Rattle.model.specs.Printing.{Printing}
 use Rattle.model.specs.Model.{claim, claim-all, badBundle, claimChecks, takesChecks, answerBy, answer, accepted, after}
 use Rattle.model.specs.Record.{printingOf, written, consistent, answered, recordAfter, columnAfter, calling}
@@ -24,9 +24,9 @@ use Rattle.model.proofs.Calls.{size-good, size-known, accepting, takes-
 use Rattle.model.proofs.Records.{answered-16, answered-by}
 use Rattle.model.proofs.Bundles.{by-takes}
 
--- ---- a bundle of one order is a take: the same answer, record and column, of any record and column
+-- ---- a bundle of one order is a take: the same answer, record and columns, of any record and columns
 
-module _ (r : Ledger) (col : Lent) (s : ℕ) (e : Entry) (b : Lent) (one : entriesIn b ≡ e ∷ []) where
+module _ (r : Ledger) (col : Lent) (s : ℕ) (e : Entry) (b : Lent) (even : Paired b) (one : entriesIn b ≡ e ∷ []) where
   single : room b ≡ 1
   single = sym (room-entries b) ∙ ap length one
 
@@ -42,7 +42,7 @@ module _ (r : Ledger) (col : Lent) (s : ℕ) (e : Entry) (b : Lent) (one : entri
       on-test (consistent r col)
       (λ t.
       answered-by r col (claim-all s b) t
-      ∙ by-takes (printingOf r) (written r col) s b (size-good b (λ z. omega (arith, single, z)) (omega (arith, single)))
+      ∙ by-takes (printingOf r) (written r col) s b (size-good b even (λ z. omega (arith, single, z)) (omega (arith, single)))
       ∙ by-claim
       ∙ sym (answered-by r col (claim s e) t))
       (λ f. answered-16 r col (claim-all s b) f ∙ sym (answered-16 r col (claim s e) f))
@@ -68,31 +68,34 @@ module _ (p : Printing) where
 
   module _ (l : List Entry) (s : ℕ) where
     -- a bundle whose takes are accepted
-    bundle-accepted : (b : Lent) → room b ≢ 0 → room b ≤ 40 → Accepts (takesChecks p l s (entriesIn b))
+    bundle-accepted : (b : Lent) → Paired b → room b ≢ 0 → room b ≤ 40 → Accepts (takesChecks p l s (entriesIn b))
         → (accepted (answer p l (claim-all s b)) ≡ true) × (after p l (claim-all s b) ≡ l ++ entriesIn b)
     unfolding after
-    bundle-accepted b some few a =
-        let z = by-takes p l s b (size-good b some few) in
+    bundle-accepted b even some few a =
+        let z = by-takes p l s b (size-good b even some few) in
         let t : accepted (answer p l (claim-all s b)) ≡ true = rw (z, eq-eqb _ 0 a) in
         (t, rw t)
 
-    small : (b : Lent) → accepted (answer p l (claim-all s b)) ≡ true → room b ≤ 40
+    small : (b : Lent) → accepted (answer p l (claim-all s b)) ≡ true → Paired b × (room b ≤ 40)
     small b t =
         let q = passed (badBundle b) _ (takes-numbered p (entriesIn b) l s) (accepting p l (claim-all s b) t .0) in
-        size-known b (q .0) .1
+        let k = size-known b (q .0) in
+        (k .0, k .2)
 
-  pub two-parts : (l : List Entry) (s : ℕ) (a b ab : Lent) → entriesIn ab ≡ entriesIn a ++ entriesIn b → room a ≢ 0 → room b ≢ 0
+  pub two-parts : (l : List Entry) (s : ℕ) (a b ab : Lent) → entriesIn ab ≡ entriesIn a ++ entriesIn b → Paired a → Paired b → room a ≢ 0
+      → room b ≢ 0
       → accepted (answer p l (claim-all s ab)) ≡ true
       → TwoParts p l s a b ab
-  two-parts l s a b ab e na nb t =
-      let n : room ab ≡ room a + room b = sym (room-entries ab) ∙ ap length e ∙ length-append (entriesIn a) (entriesIn b) in
+  two-parts l s a b ab e ea eb na nb t =
+      let joined = ap length e ∙ length-append (entriesIn a) (entriesIn b) in
+      let n : room ab ≡ room a + room b = omega (arith, joined, room-entries ab, room-entries a, room-entries b) in
       let k = small l s ab t in
       let all : Accepts (takesChecks p l s (entriesIn a ++ entriesIn b)) = rw e at (bundle-takes p l s ab t .1) in
       let q = takes-append (entriesIn a) (entriesIn b) l s all in
-      let whole = bundle-accepted l s ab (λ z. na (omega (arith, z, n))) k (bundle-takes p l s ab t .1) in
-      let first = bundle-accepted l s a na (omega (arith, n)) (q .0) in
+      let whole = bundle-accepted l s ab (k .0) (λ z. na (omega (arith, z, n))) (k .1) (bundle-takes p l s ab t .1) in
+      let first = bundle-accepted l s a ea na (omega (arith, n, k .1)) (q .0) in
       let rest : Accepts (takesChecks p (l ++ entriesIn a) (s + room a) (entriesIn b)) = rw (room-entries a) at (q .1) in
-      let second = bundle-accepted (l ++ entriesIn a) (s + room a) b nb (omega (arith, n)) rest in
+      let second = bundle-accepted (l ++ entriesIn a) (s + room a) b eb nb (omega (arith, n, k .1)) rest in
       record {
         first-accepted = first .0;
         second-accepted = rw (first .1) (second .0);

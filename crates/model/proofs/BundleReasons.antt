@@ -12,13 +12,13 @@ use Rattle.walsh.proofs.Cases.{on-test, on-less}
 use Rattle.bounds.specs.Refusal.{firstRefusal}
 use Rattle.bounds.specs.declared.Refusal.{Refusal}
 use Rattle.model.specs.declared.Answer.{Answer}
-use Rattle.model.specs.Entry.{Entry, Lent, entriesIn, room}
+use Rattle.model.specs.Entry.{Entry, Lent, entriesIn, room, Paired, isPaired}
 use Rattle.model.specs.Printing.{Printing, size, lowest}
 use Rattle.model.specs.Model.{Call, peek, claim, void, claim-all, badBundle, claimChecks, takesChecks, given, answerBy, answer, accepted}
 use Rattle.model.specs.Model.{Event, event}
 use Rattle.model.specs.Trace.{writes, named, entryOf, those, kept, countedAs, singles, writers, serials, entriesBy, countFrom}
-use Rattle.model.specs.Reason.{ClaimReason, TakeReason, fails, taken, TakesReason, ClaimAllReason, wrong-size, right-size, Reason}
-use Rattle.model.proofs.Calls.{size-good, size-wrong, accepting, claim-turn, number-of, takes-next, takes-refused}
+use Rattle.model.specs.Reason.{ClaimReason, TakeReason, fails, taken, TakesReason, ClaimAllReason, wrong-size, wrong-items, right-size, Reason}
+use Rattle.model.proofs.Calls.{size-good, size-uneven, size-wrong, accepting, claim-turn, number-of, takes-next, takes-refused}
 use Rattle.model.proofs.Bundles.{size-bad, by-takes}
 use Rattle.model.proofs.Reasons.{only-peek, only-claim, only-void}
 
@@ -159,19 +159,24 @@ module _ (p : Printing) where
 
   module _ (past : List Event) (turn : serials (writers p past) ≡ countFrom (lowest p) (length (writers p past)))
       (fits : length (writers p past) ≤ size p) where
-    -- a bundle's size: 0, over 40, or allowed
+    -- a bundle's size: another number of item lines, 0, over 40, or allowed
     data Size (b : Lent) : Type 0 where
+      uneven : length (b .items) ≢ length (b .orders) → badBundle b .holds ≡ true → Size b
       bad : (room b ≡ 0) ⊎ (40 < room b) → badBundle b .holds ≡ true → Size b
-      good : room b ≢ 0 → room b ≤ 40 → badBundle b .holds ≡ false → Size b
+      good : Paired b → room b ≢ 0 → room b ≤ 40 → badBundle b .holds ≡ false → Size b
 
     size-of : (b : Lent) → Size b
     size-of b =
+        on-test (isPaired b)
+        (λ e.
+        let even = eqb-true (length (b .items)) (length (b .orders)) e in
         on-test (eqb (room b) 0)
-        (λ t. let e = inl (eqb-true (room b) 0 t) in bad e (size-wrong b e))
+        (λ t. let z = inl (eqb-true (room b) 0 t) in bad z (size-wrong b z))
         (λ f.
         on-less 40 (room b)
         (λ h t. bad (inr h) (size-wrong b (inr h)))
-        (λ h t. let some = eqb-false (room b) 0 f in good some h (size-good b some h)))
+        (λ h t. let some = eqb-false (room b) 0 f in good even some h (size-good b even some h))))
+        (λ f. let odd = eqb-false (length (b .items)) (length (b .orders)) f in uneven odd (size-uneven b odd))
 
     only-bundle : (s : ℕ) (b : Lent) (a : Answer) → ClaimAllReason p past s b a ↔ (a ≡ answer p (lines past) (claim-all s b))
     only-bundle s b a = (decides, reason (size-of b))
@@ -181,11 +186,13 @@ module _ (p : Printing) where
 
         decides : ClaimAllReason p past s b a → a ≡ answer p (lines past) (claim-all s b)
         decides (wrong-size size is) = is ∙ sym (size-bad p (lines past) s b (size-wrong b size))
-        decides (right-size some few why) = takes .0 why ∙ sym (by-takes p (lines past) s b (size-good b some few))
+        decides (wrong-items odd is) = is ∙ sym (size-bad p (lines past) s b (size-uneven b odd))
+        decides (right-size even some few why) = takes .0 why ∙ sym (by-takes p (lines past) s b (size-good b even some few))
 
         reason : Size b → a ≡ answer p (lines past) (claim-all s b) → ClaimAllReason p past s b a
         reason (bad size t) q = wrong-size size (q ∙ size-bad p (lines past) s b t)
-        reason (good some few f) q = right-size some few (takes .1 (q ∙ by-takes p (lines past) s b f))
+        reason (uneven odd t) q = wrong-items odd (q ∙ size-bad p (lines past) s b t)
+        reason (good even some few f) q = right-size even some few (takes .1 (q ∙ by-takes p (lines past) s b f))
 
     pub only-reason : (c : Call) (a : Answer) → Reason p past c a ↔ (a ≡ answer p (lines past) c)
     only-reason peek a = only-peek p past turn fits a

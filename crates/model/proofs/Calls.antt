@@ -1,13 +1,15 @@
 -- Laws of one call of the model: what an accepted answer says, and which numbers an answer can have.
 use mathlib.Core.Path.{_≡_, refl, sym, ap, _∙_}
 use mathlib.Core.Logic.{_≢_, _↔_, _⊎_, inl, inr}
-use mathlib.Core.Bool.{true, false, false≢true}
+use mathlib.Core.Bool.{Bool, true, false, not, false≢true}
 use mathlib.Core.List.{List, [], _∷_, _++_, append-nil}
 use Prim.Native.Nat.{ℕ, suc, _≤_, _<_}
 use native.Mathlib.Omega.{arith}
 use lib.Dec.{ltb, eqb}
 use lib.ListN.{length}
-use borrow.Author.Tests.{ltb-false, lt-ltb, le-ltb, eq-eqb, ne-eqb, eqb-true, eqb-false}
+use borrow.Author.Tests.{ltb-false, lt-ltb, le-ltb, eq-eqb, ne-eqb, eqb-true, eqb-false, not-false}
+use Rattle.walsh.specs.Tests.{either}
+use Rattle.walsh.proofs.Tests.{many-append}
 use Rattle.walsh.proofs.Cases.{on-test, on-less}
 use Rattle.bounds.specs.Refusal.{Check, firstRefusal}
 use Rattle.bounds.specs.Places.{isOutside}
@@ -17,13 +19,13 @@ use Rattle.bounds.proofs.Refusals.{same-number, numbered, passed, refusal-here,
 use Rattle.bounds.proofs.Chains.{Accepts, accepts-split}
 use Rattle.model.specs.declared.Answer.{Answer}
 use Rattle.model.specs.Basics.{firstPlace}
-use Rattle.model.specs.Entry.{Entry, voidEntry, isVoided, sameOrder, Lent, entriesIn, room}
+use Rattle.model.specs.Entry.{Entry, voidEntry, isVoided, sameOrder, isUnsound, unsoundIn, Lent, entriesIn, room, Paired, isPaired}
 use Rattle.model.specs.Printing.{Printing, size, lowest, capacity}
 use Rattle.model.specs.Model.{Call, peek, claim, void, claim-all, next, noLine, alreadyWritten, aboveNext, standsEarlier, allWritten, badBundle}
 use Rattle.model.specs.Model.{orderChecks, placeChecks, claimChecks, takesChecks, callChecks, rowsBefore, granted, given, answer, accepted, appended, after}
 use Rattle.model.specs.Trace.{writes, named}
 use Rattle.model.proofs.Lists.{length-snoc, snoc-append}
-use Rattle.model.proofs.Entries.{room-entries}
+use Rattle.model.proofs.Entries.{sound-line, room-entries}
 use Rattle.model.proofs.Answers.{answer-number}
 
 module _ (c : Check) (cs : List Check) where
@@ -35,28 +37,44 @@ module _ (c : Check) (cs : List Check) where
 
 -- ---- the size of a bundle
 
-pub size-good : (b : Lent) → room b ≢ 0 → room b ≤ 40 → badBundle b .holds ≡ false
-size-good b some few = rw (ne-eqb (room b) 0 some, le-ltb 40 (room b) few)
+either-true : (t : Bool) → either t true ≡ true
+either-true true = refl
+either-true false = refl
+
+pub size-good : (b : Lent) → Paired b → room b ≢ 0 → room b ≤ 40 → badBundle b .holds ≡ false
+size-good b even some few = rw (eq-eqb (length (b .items)) (length (b .orders)) even, ne-eqb (room b) 0 some, le-ltb 40 (room b) few)
+
+-- 24 for another number of item lines, whatever the size
+pub size-uneven : (b : Lent) → length (b .items) ≢ length (b .orders) → badBundle b .holds ≡ true
+size-uneven b odd = rw (ne-eqb (length (b .items)) (length (b .orders)) odd)
 
 pub size-wrong : (b : Lent) → (room b ≡ 0) ⊎ (40 < room b) → badBundle b .holds ≡ true
-size-wrong b (inl z) = rw (eq-eqb (room b) 0 z)
-size-wrong b (inr h) = rw (ne-eqb (room b) 0 (λ z. omega (arith, z, h)), lt-ltb 40 (room b) h)
+size-wrong b (inl z) = rw (eq-eqb (room b) 0 z) (either-true (not (isPaired b)))
+size-wrong b (inr h) = rw (ne-eqb (room b) 0 (λ z. omega (arith, z, h)), lt-ltb 40 (room b) h) (either-true (not (isPaired b)))
 
-pub size-known : (b : Lent) → badBundle b .holds ≡ false → (room b ≢ 0) × (room b ≤ 40)
+pub size-known : (b : Lent) → badBundle b .holds ≡ false → Paired b × (room b ≢ 0) × (room b ≤ 40)
 size-known b f =
-    let q = neither (eqb (room b) 0) (ltb 40 (room b)) f in
-    (eqb-false (room b) 0 (q .0), ltb-false 40 (room b) (q .1))
+    let q = neither (not (isPaired b)) (either (eqb (room b) 0) (ltb 40 (room b))) f in
+    let r = neither (eqb (room b) 0) (ltb 40 (room b)) (q .1) in
+    (eqb-true (length (b .items)) (length (b .orders)) (not-false (isPaired b) (q .0)), eqb-false (room b) 0 (r .0), ltb-false 40 (room b) (r .1))
 
 module _ (p : Printing) where
   -- what holds of every list that the model reaches
   pub record Reached (l : List Entry) : Type 0 where
     pub fits : length l ≤ capacity p
+    pub sound : unsoundIn l ≡ 0
 
   pub reached-none : Reached []
-  reached-none = record { fits = omega arith }
+  reached-none = record { fits = omega arith; sound = refl }
 
-  reached-more : (l : List Entry) (e : Entry) → next p l ≤ size p → Reached l → Reached (l ++ (e ∷ []))
-  reached-more l e h k = record { fits = omega (arith, length-snoc l e) }
+  reached-more : (l : List Entry) (e : Entry) → next p l ≤ size p → isUnsound e ≡ false → Reached l → Reached (l ++ (e ∷ []))
+  reached-more l e h f k =
+      let one : unsoundIn (e ∷ []) ≡ 0 = rw f in
+      record { fits = omega (arith, length-snoc l e); sound = omega (arith, many-append isUnsound l (e ∷ []), one, k .sound) }
+
+  -- an order that its checks accept makes a sound line
+  order-sound : (e : Entry) → Accepts (orderChecks e) → isUnsound e ≡ false
+  order-sound e a = let q = passed _ _ refl a in sound-line e (q .0) (passed _ _ refl (q .2) .0)
 
   module _ (l : List Entry) where
     -- ---- an accepted call
@@ -130,8 +148,9 @@ module _ (p : Printing) where
   takes-reached [] l s h a = rw (append-nil l) h
   takes-reached (e ∷ es) l s h a =
       let q = takes-split l s e es a in
+      let c = claim-turn l s e (q .0) in
       rw (← (snoc-append l e es))
-      (takes-reached es (l ++ (e ∷ [])) (suc s) (reached-more l e (claim-turn l s e (q .0) .1 .inside) h) (q .1))
+      (takes-reached es (l ++ (e ∷ [])) (suc s) (reached-more l e (c .1 .inside) (order-sound e (c .0)) h) (q .1))
 
   -- ---- an accepted call
 
@@ -141,7 +160,12 @@ module _ (p : Printing) where
         → (length (entriesIn b) ≢ 0) × Accepts (takesChecks p l s (entriesIn b))
     bundle-takes s b t =
         let q = passed (badBundle b) _ (takes-numbered (entriesIn b) l s) (accepting l (claim-all s b) t .0) in
-        ((λ z. size-known b (q .0) .0 (sym (room-entries b) ∙ z)), q .2)
+        ((λ z. size-known b (q .0) .1 (sym (room-entries b) ∙ z)), q .2)
+
+    -- and as many item lines as orders
+    pub bundle-paired : (s : ℕ) (b : Lent) → accepted (answer p l (claim-all s b)) ≡ true → Paired b
+    bundle-paired s b t =
+        size-known b (passed (badBundle b) _ (takes-numbered (entriesIn b) l s) (accepting l (claim-all s b) t .0) .0) .0
 
     bundle-turn : (s : ℕ) (es : List Entry) → length es ≢ 0 → Accepts (takesChecks p l s es) → (s ≡ next p l) × (next p l ≤ size p)
     bundle-turn s [] n a = absurd (n refl)
@@ -160,11 +184,12 @@ module _ (p : Printing) where
     pub grant : (c : Call) → Reached l → accepted (answer p l c) ≡ true → Grant c
     grant peek h t = grant-by peek t refl (ltb-false _ _ (passed _ _ refl (accepting l peek t .0) .0)) (rw (append-nil l) h)
     grant (claim s e) h t =
-        let q = claim-turn l s e (accepting l (claim s e) t .0) .1 in
-        grant-by (claim s e) t (q .serial) (q .inside) (reached-more l e (q .inside) h)
+        let c = claim-turn l s e (accepting l (claim s e) t .0) in
+        let q = c .1 in
+        grant-by (claim s e) t (q .serial) (q .inside) (reached-more l e (q .inside) (order-sound e (c .0)) h)
     grant (void s) h t =
         let q = in-turn l s [] refl (accepting l (void s) t .0) in
-        grant-by (void s) t (q .serial) (q .inside) (reached-more l voidEntry (q .inside) h)
+        grant-by (void s) t (q .serial) (q .inside) (reached-more l voidEntry (q .inside) refl h)
     grant (claim-all s b) h t =
         let a = bundle-takes s b t in
         let q = bundle-turn s (entriesIn b) (a .0) (a .1) in

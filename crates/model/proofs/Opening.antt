@@ -1,4 +1,4 @@
--- What an accepted opening says of the edition and the column.
+-- What an accepted opening says of the edition and the columns.
 use mathlib.Core.Path.{_≡_, refl, ap, _∙_}
 use Prim.Native.Nat.{_≤_, _<_}
 use lib.ListN.{length}

@@ -56,7 +56,7 @@ module _ (p : Printing) (l : List Entry) where
   told-none (void s) h = refl
   told-none (claim-all s b) h = refl
 
--- ---- of a peek over the record and the column
+-- ---- of a peek over the record and the columns
 
 -- its answer and its pair, apart
 module _ (r : Ledger) (col : Lent) (a : Answer) (x : Transition) (e : peekedBy a x ≡ peeking r col) where

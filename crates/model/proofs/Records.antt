@@ -1,4 +1,4 @@
--- Laws of the record and the column: what number 16 tests, and what a call leaves.
+-- Laws of the record and the columns: what number 16 tests, and what a call leaves.
 use mathlib.Core.Path.{_≡_, refl, sym, ap, _∙_}
 use mathlib.Core.Logic.{_≢_}
 use mathlib.Core.Bool.{Bool, true, false, not, false≢true}
@@ -6,7 +6,7 @@ use mathlib.Core.List.{List, [], _∷_}
 use Prim.Native.Nat.{ℕ, zero, suc, _-_, _≤_}
 use native.Mathlib.Omega.{arith}
 use native.Mathlib.Nat.{add-zero}
-use lib.ListN.{length, getD}
+use lib.ListN.{length, getD, take}
 use borrow.Author.Tests.{ltb-false, leb-true, le-leb, eqb-true, eq-eqb, ne-eqb}
 use Rattle.walsh.specs.Serial.{same}
 use Rattle.walsh.specs.Tests.{both}
@@ -22,12 +22,12 @@ use Rattle.model.specs.declared.Answer.{Answer}
 use Rattle.model.specs.declared.Claimed.{Claimed}
 use Rattle.model.specs.declared.Ledger.{Ledger}
 use Rattle.model.specs.Basics.{all}
-use Rattle.model.specs.Entry.{soldIn, voidedIn, Lent, room}
+use Rattle.model.specs.Entry.{soldIn, voidedIn, unsoundIn, Lent, room, firstEntries, ordersOf, itemsOf}
 use Rattle.model.specs.Printing.{Printing, capacity, nextComposition}
 use Rattle.model.specs.Model.{Call, refusedWith, answerBy, answer, accepted}
 use Rattle.model.specs.Record.{upperOf, printingOf, written, tests, consistent, notTogether, grantedBy, answered}
 use Rattle.model.specs.Record.{advanced, counted, entered, recordAfter, columnAfter, calling, entriesOf}
-use Rattle.model.proofs.Entries.{sold-or-voided, length-entries}
+use Rattle.model.proofs.Entries.{sold-or-voided, length-entries, entries-orders, entries-items}
 
 -- ---- number 16
 
@@ -50,7 +50,7 @@ one-fails (suc i) (false ∷ bs) e = refl
 pub few-parts : (b : Bounds) → firstRefusal (recordChecks b) .number ≡ 0 → b .parts ≤ 24
 few-parts b e = ltb-false 24 (b .parts) (passed _ _ refl e .0)
 
--- what a record and a column meet that belong together
+-- what a record and columns meet that belong together
 pub record Consistent (r : Ledger) (col : Lent) : Type 0 where
   pub sound : firstRefusal (recordChecks (r .bounds)) .number ≡ 0
   pub small : capacity (printingOf r) ≤ mostEntries
@@ -60,6 +60,7 @@ pub record Consistent (r : Ledger) (col : Lent) : Type 0 where
   pub voided : r .voided ≡ voidedIn (written r col)
   pub next : r .next ≡ nextComposition (printingOf r) (r .entries)
   pub spare : r .bounds .upper ≡ cellsOf (upperOf (r .bounds))
+  pub sound-lines : unsoundIn (written r col) ≡ 0
   pub few : r .bounds .parts ≤ 24
   pub length-written : length (written r col) ≡ r .entries
   pub few-sold : r .sold ≤ mostEntries
@@ -90,6 +91,7 @@ module _ (r : Ledger) (col : Lent) where
         voided = h6;
         next = same-eq (r .next) (nextComposition p (r .entries)) (q .1 .1 .1 .1 .1 .1 .0);
         spare = same-eq (r .bounds .upper) (cellsOf (upperOf (r .bounds))) (q .1 .1 .1 .1 .1 .1 .1 .0);
+        sound-lines = eqb-true (unsoundIn (written r col)) 0 (q .1 .1 .1 .1 .1 .1 .1 .1 .0);
         few = few-parts (r .bounds) h1;
         length-written = n;
         few-sold = omega arith;
@@ -110,9 +112,10 @@ module _ (r : Ledger) (col : Lent) where
       → r .voided ≡ voidedIn (written r col)
       → same (r .next) (nextComposition p (r .entries)) ≡ true
       → same (r .bounds .upper) (cellsOf (upperOf (r .bounds))) ≡ true
+      → unsoundIn (written r col) ≡ 0
       → consistent r col ≡ true
   unfolding consistent
-  together h1 h2 h3 h4 h5 h6 h7 h8 =
+  together h1 h2 h3 h4 h5 h6 h7 h8 h9 =
       rw (
         eq-eqb (firstRefusal (recordChecks (r .bounds)) .number) 0 h1,
         le-leb (capacity p) mostEntries h2,
@@ -122,6 +125,7 @@ module _ (r : Ledger) (col : Lent) where
         eq-eqb (r .voided) (voidedIn (written r col)) h6,
         h7,
         h8,
+        eq-eqb (unsoundIn (written r col)) 0 h9,
       )
 
   -- the lines that are not spoilt
@@ -135,7 +139,7 @@ module _ (r : Ledger) (col : Lent) where
     unfolding answered
     answered-16 f = ap (λ (v : Refusal). answerBy v p (grantedBy r col c)) (refusal-here (notTogether r col) _ (ap not f))
 
-    -- where a record and a column belong together, the answer is the model's over the lines written
+    -- where a record and columns belong together, the answer is the model's over the lines written
     pub answered-by : consistent r col ≡ true → answered r col c ≡ answer p (written r col) c
     unfolding answered answer
     answered-by t = ap (λ (v : Refusal). answerBy v p (grantedBy r col c)) (refusal-next (notTogether r col) _ (ap not t))
@@ -172,10 +176,30 @@ module _ (r : Ledger) (col : Lent) where
 
   -- ---- the lines so far
 
-  pub entries-none : consistent r col ≡ false → [] ≡ entriesOf r col
+  pub entries-none : consistent r col ≡ false → length (entriesOf r col) ≡ 0
   unfolding entriesOf
   entries-none f = rw f
 
-  pub entries-some : consistent r col ≡ true → written r col ≡ entriesOf r col
+  pub entries-some : consistent r col ≡ true → length (entriesOf r col) ≡ r .entries
   unfolding entriesOf
-  entries-some t = rw t
+  entries-some t = rw t (parts t .length-written)
+
+  entries-first : entriesOf r col ≡ firstEntries (length (entriesOf r col)) col
+  unfolding entriesOf
+  entries-first =
+      on-test (consistent r col)
+      (λ t. rw t (ap (λ (n : ℕ). firstEntries n col) (sym (parts t .length-written))))
+      (λ f. rw f)
+
+  pub entries-within : length (entriesOf r col) ≤ room col
+  entries-within =
+      on-test (consistent r col)
+      (λ t. let q = parts t in omega (arith, entries-some t, q .entries, q .fits))
+      (λ f. omega (arith, entries-none f))
+
+  -- they are the beginnings of both columns
+  pub orders-so-far : take (length (entriesOf r col)) (col .orders) ≡ ordersOf (entriesOf r col)
+  orders-so-far = sym (entries-orders (length (entriesOf r col)) col entries-within) ∙ ap ordersOf (sym entries-first)
+
+  pub items-so-far : take (length (entriesOf r col)) (col .items) ≡ itemsOf (entriesOf r col)
+  items-so-far = sym (entries-items (length (entriesOf r col)) col entries-within) ∙ ap itemsOf (sym entries-first)

@@ -48,7 +48,7 @@ module _ (r : Ledger) (col : Lent) (t : consistent r col ≡ true) where
     serial-over h = placed-high p (written r col) s h
 
     module _ (h : lowest p ≤ s) (k : s ≤ size p) where
-      pub serial-below : s < serialAt p (r .entries) → placed p (written r col) s ≡ refusedWith 18 (getD col (placeOf p s) 0)
+      pub serial-below : s < serialAt p (r .entries) → placed p (written r col) s ≡ refusedWith 18 (getD (col .orders) (placeOf p s) 0)
       serial-below b =
           let q = parts r col t in
           placed-below p (written r col) s h k (omega (arith, own-next))
@@ -76,7 +76,7 @@ writing r col c a e z =
     let none = ap (λ (x : Answer). x .number) (sym (answered-by r col c t) ∙ sym e) ∙ z in
     let q = parts r col t in
     let n = q .length-written in
-    let reached : Reached (printingOf r) (written r col) = record { fits = omega (arith, q .entries) } in
+    let reached : Reached (printingOf r) (written r col) = record { fits = omega (arith, q .entries); sound = q .sound-lines } in
     let g = grant (printingOf r) (written r col) c reached (eq-eqb _ 0 none) in
     record {
       belongs = t;

@@ -1,4 +1,4 @@
--- The record and the column follow the model: one induction over the calls.
+-- The record and the columns follow the model: one induction over the calls.
 use mathlib.Core.Path.{_≡_, refl, sym, ap, _∙_}
 use mathlib.Core.Bool.{Bool, true, false, cond, not}
 use mathlib.Core.List.{List, [], _∷_, _++_}
@@ -47,8 +47,9 @@ module _ (p : Printing) (col : Lent) (o : Opens p col) where
       (rw (own-lines l))
       (rw own-bounds (same-refl (nextComposition p (length l))))
       (rw own-bounds (same-refl (cellsOf (p .bounds))))
+      (rw (own-lines l) (h .sound))
 
-  -- one call: the answer is the model's, and the record and the column are those of the model's list after it
+  -- one call: the answer is the model's, and the record and the columns are those of the model's list after it
   pub answers : (l : List Entry) → Reached p l → (c : Call) → answered (ledgerOf p l) (over col l) c ≡ answer p l c
   answers l h c =
       answered-by (ledgerOf p l) (over col l) c (belongs l h)

@@ -1,4 +1,4 @@
--- The statement about a whole list of calls holds of every list, from an accepted opening over any column.
+-- The statement about a whole list of calls holds of every list, from an accepted opening over any columns.
 use mathlib.Core.Path.{_≡_, refl, sym, ap, _∙_}
 use mathlib.Core.Logic.{_≢_, _↔_, _⊎_, inl, inr}
 use mathlib.Core.Bool.{true}
@@ -16,7 +16,7 @@ use Rattle.bounds.proofs.Chains.{Accepts}
 use Rattle.model.specs.declared.Answer.{Answer}
 use Rattle.model.specs.declared.Ledger.{Ledger}
 use Rattle.model.specs.Basics.{Once}
-use Rattle.model.specs.Entry.{Entry, voidEntry, DistinctOrders, Lent, entriesIn, room, over}
+use Rattle.model.specs.Entry.{Entry, voidEntry, DistinctOrders, Lent, entriesIn, room, Paired, over}
 use Rattle.model.specs.Printing.{Printing, blank, size, compositionAt, lowest, serialAt, capacity, stock}
 use Rattle.model.specs.Model.{Call, peek, claim, void, claim-all, next, callChecks, rowsBefore, given, answer, accepted, after, Event, eventAt, bookFrom}
 use Rattle.model.specs.Record.{ledgerOf, opened, opening, answered, run}
@@ -123,17 +123,17 @@ module _ (p : Printing) (col : Lent) (o : Opens p col) (m : List Entry) (h : Rea
       ∙ claim-good p m (next p m) e (order-good e good) (ap (λ (a : Answer). a .number) placed-there) (place-none e m new)
       ∙ placed-there
 
-  next-claim-all : (b : Lent) → room b ≢ 0 → room b ≤ 40 → length m + room b ≤ capacity p
+  next-claim-all : (b : Lent) → Paired b → room b ≢ 0 → room b ≤ 40 → length m + room b ≤ capacity p
       → ((k : ℕ) → k < room b → GoodOrder (getD (entriesIn b) k voidEntry))
       → DistinctOrders (m ++ entriesIn b)
       → answered (ledgerOf p m) (over col m) (claim-all (next p m) b) ≡ given p (next p m)
-  next-claim-all b some few fits good new =
+  next-claim-all b even some few fits good new =
       let n = room-entries b in
       answers p col o m h (claim-all (next p m) b)
-      ∙ all-taken p m (next p m) b (size-good b some few)
+      ∙ all-taken p m (next p m) b (size-good b even some few)
       (λ k i.
       let g = good k (omega (arith, i, n)) in
-      good-take p m (next p m) (entriesIn b) k i refl (omega (arith, i, n)) (order-good _ g) (distinct-at m (entriesIn b) k new i g))
+      good-take p m (next p m) (entriesIn b) k i refl (omega (arith, i, n)) (order-good _ g) (distinct-at m (entriesIn b) k new i (g .0)))
 
 -- an accepted bundle
 bundle-answer : (p : Printing) (l : List Entry) (c : Call) (s : ℕ) (b : Lent) → c ≡ claim-all s b → accepted (answer p l c) ≡ true
@@ -199,7 +199,7 @@ whole p col o cs =
       next-void = rw (sim .ledger, sim .column) (λ h. next-void p col o m (sim .reached) h);
       next-claim-all =
           rw (sim .ledger, sim .column, own)
-          (λ b some few fits. next-claim-all p col o m (sim .reached) (omega (arith, some, fits)) b some few fits);
+          (λ b even some few fits. next-claim-all p col o m (sim .reached) (omega (arith, some, fits)) b even some few fits);
       reasons = λ before rest x q. reasons p cs before rest x (sym (sim .trace) ∙ q);
       claimed-once = λ before rest x q. claimed-once p cs before rest x (sym (sim .trace) ∙ q);
     }

@@ -10,7 +10,7 @@ use Rattle.bounds.specs.Refusal.{refused, firstRefusal, decided}
 use Rattle.bounds.specs.Edition.{cellsOf}
 use Rattle.bounds.specs.declared.Refusal.{Refusal}
 use Rattle.model.specs.declared.Answer.{Answer}
-use Rattle.model.specs.Entry.{Entry, Lent, entriesIn, room}
+use Rattle.model.specs.Entry.{Entry, Lent, columns, entriesIn, room}
 use Rattle.model.specs.Printing.{Printing, compositions}
 use Rattle.model.specs.Model.{Call, peek, claim, void, claim-all, given, refusedWith, answerBy, answer, accepted, after, Event, bookFrom}
 
@@ -38,27 +38,31 @@ pub record TwoParts (p : Printing) (l : List Entry) (s : ℕ) (a b ab : Lent) : 
 
 -- ---- for example, with the three copies of 1 1 1 of total 1
 
-threeOnes : Printing
+unfoldable pub threeOnes : Printing
 threeOnes = record { bounds = 1 ∷ 1 ∷ 1 ∷ []; total = 1 }
 
-replies : List Call → List Answer
+-- item line 1 for each order
+ones : List ℕ → Lent
+ones os = columns os (map (λ _. 1) os)
+
+unfoldable pub replies : List Call → List Answer
 replies cs = map (λ x. x .reply) (bookFrom threeOnes [] cs .trace)
 
 -- all of them at a sitting
-all-three : replies (claim-all 1 (1007 ∷ 1014 ∷ 1021 ∷ []) ∷ peek ∷ []) ≡ given threeOnes 1 ∷ refusedWith 21 0 ∷ []
-unfolding replies threeOnes bookFrom answer after firstRefusal compositions order listing countOf count cellsOf
+all-three : replies (claim-all 1 (ones (1007 ∷ 1014 ∷ 1021 ∷ [])) ∷ peek ∷ []) ≡ given threeOnes 1 ∷ refusedWith 21 0 ∷ []
+unfolding replies threeOnes ones bookFrom answer after firstRefusal compositions order listing countOf count cellsOf
 all-three = refl
 
 -- 24 for none, also with serial 0; an order that stands twice in the bundle, with the serial it would have had, which is 2 after a void; past N, 6, but
 -- 17 where the order there is 0; 18 and 19 of the first; and no refused one writes a line
 refusals : replies
-    (claim-all 0 []
+    (claim-all 0 (ones [])
     ∷ void 1
-    ∷ claim-all 2 (1007 ∷ 1007 ∷ [])
-    ∷ claim-all 2 (1007 ∷ 1014 ∷ 1021 ∷ [])
-    ∷ claim-all 2 (1007 ∷ 1014 ∷ 0 ∷ [])
-    ∷ claim-all 1 (1007 ∷ 1014 ∷ [])
-    ∷ claim-all 3 (1007 ∷ [])
+    ∷ claim-all 2 (ones (1007 ∷ 1007 ∷ []))
+    ∷ claim-all 2 (ones (1007 ∷ 1014 ∷ 1021 ∷ []))
+    ∷ claim-all 2 (ones (1007 ∷ 1014 ∷ 0 ∷ []))
+    ∷ claim-all 1 (ones (1007 ∷ 1014 ∷ []))
+    ∷ claim-all 3 (ones (1007 ∷ []))
     ∷ peek
     ∷ [])
     ≡ refusedWith 24 0
@@ -70,5 +74,5 @@ refusals : replies
     ∷ refusedWith 19 2
     ∷ given threeOnes 2
     ∷ []
-unfolding replies threeOnes bookFrom answer after firstRefusal compositions order listing countOf count cellsOf
+unfolding replies threeOnes ones bookFrom answer after firstRefusal compositions order listing countOf count cellsOf
 refusals = refl

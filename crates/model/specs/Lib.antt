@@ -5,5 +5,6 @@ pub mod Model
 pub mod Record
 pub mod Trace
 pub mod Bundle
+pub mod Items
 pub mod Reason
 pub mod Whole

@@ -1,8 +1,9 @@
 -- Document 01, "The register": the paper register, which says what must happen. "It is fed the arguments of the calls, and nothing of the record
 -- or the column. Its state is the edition and a list of order numbers, empty after opening; the first entry is serial 1's, the second serial 2's
--- and so on, and its next serial is the list's length + 1." Here p is what it is opened for, the edition, and l is the list of lines.
+-- and so on, and its next serial is the list's length + 1." Document 02, (vi): its "entries become pairs of number and item line". Here p is what it is
+-- opened for, the edition, and l is the list of lines.
 use mathlib.Core.Path.{_≡_, refl}
-use mathlib.Core.Bool.{Bool, cond}
+use mathlib.Core.Bool.{Bool, cond, not}
 use mathlib.Core.List.{List, [], _∷_, _++_}
 use Prim.Native.Nat.{ℕ, suc}
 use lib.Dec.{ltb, eqb}
@@ -17,11 +18,11 @@ use Rattle.bounds.specs.Places.{outside}
 use Rattle.bounds.specs.declared.Refusal.{Refusal}
 use Rattle.model.specs.declared.Answer.{Answer}
 use Rattle.model.specs.Basics.{firstPlace}
-use Rattle.model.specs.Entry.{Entry, voidEntry, orderOf, isVoided, sameOrder, Lent, entriesIn, room}
+use Rattle.model.specs.Entry.{Entry, voidEntry, orderOf, isVoided, sameOrder, isNoItem, Lent, entriesIn, room, isPaired}
 use Rattle.model.specs.Printing.{Printing, blank, size, compositionAt, transitionTo, lowest, placeOf, serialAt}
 
 -- the document's look; take, of a serial for an order; spoil, of a serial; document 02, (v): the bundle, which "names a first serial and 1 to 40 order
--- numbers"
+-- numbers", and (vi): "an item line for each order"
 pub data Call : Type 0 where
   peek : Call
   claim : ℕ → Entry → Call
@@ -38,6 +39,10 @@ next p l = serialAt p (length l)
 abbrev pub noOrder : Entry → Check
 noOrder e = check 17 (isVoided e) 0
 
+-- document 02, (vi): "25, item line 0 or over 99, directly after 17"
+abbrev pub badItem : Entry → Check
+badItem e = check 25 (isNoItem e) 0
+
 -- serial given: "0 or over N"; "s is 0 or over N"
 abbrev pub noLine : Printing → ℕ → Check
 noLine p s = outside (lowest p) (size p) s
@@ -50,7 +55,8 @@ alreadyWritten p l s = check 18 (ltb s (next p l)) (orderOf (getD l (placeOf p s
 abbrev pub aboveNext : Printing → List Entry → ℕ → Check
 aboveNext p l s = check 19 (ltb (next p l) s) (next p l)
 
--- take: "this order stands in an earlier line; detail: the lowest such serial"; "o stands in the list, detail the lowest serial it stands at"
+-- take: "this order stands in an earlier line; detail: the lowest such serial"; "o stands in the list, detail the lowest serial it stands at"; document
+-- 02, (vi): "when number and item line both stand already"
 abbrev pub standsEarlier : Printing → List Entry → Entry → Check
 standsEarlier p l e = check 20 (ltb (firstPlace (sameOrder e) l) (length l)) (serialAt p (firstPlace (sameOrder e) l))
 
@@ -58,15 +64,15 @@ standsEarlier p l e = check 20 (ltb (firstPlace (sameOrder e) l) (length l)) (se
 abbrev pub allWritten : Printing → List Entry → Check
 allWritten p l = check 21 (ltb (size p) (next p l)) 0
 
--- document 02, (v): "24, a bundle of 0 or over 40"
+-- document 02, (v): "24, a bundle of 0 or over 40"; (vi): "A bundle names an item line for each order; another number of them is 24"
 abbrev pub badBundle : Lent → Check
-badBundle b = check 24 (either (eqb (room b) 0) (ltb 40 (room b))) 0
+badBundle b = check 24 (either (not (isPaired b)) (either (eqb (room b) 0) (ltb 40 (room b)))) 0
 
 -- ---- a call
 
 -- the checks of an order, and those of a serial
 abbrev pub orderChecks : Entry → List Check
-orderChecks e = noOrder e ∷ []
+orderChecks e = noOrder e ∷ badItem e ∷ []
 
 abbrev pub placeChecks : Printing → List Entry → ℕ → List Check
 placeChecks p l s = noLine p s ∷ alreadyWritten p l s ∷ aboveNext p l s ∷ []
@@ -101,8 +107,8 @@ abbrev pub rowsBefore : ℕ → List Check → List Check
 rowsBefore n [] = []
 rowsBefore n (c ∷ cs) = cond (eqb (c .number) n) [] (c ∷ rowsBefore n cs)
 
--- for example, of a claim 17 and 6 stand before 18
-before-18 : (p : Printing) (l : List Entry) (s : ℕ) (e : Entry) → rowsBefore 18 (callChecks p l (claim s e)) ≡ noOrder e ∷ noLine p s ∷ []
+-- for example, of a claim 17, 25 and 6 stand before 18
+before-18 : (p : Printing) (l : List Entry) (s : ℕ) (e : Entry) → rowsBefore 18 (callChecks p l (claim s e)) ≡ noOrder e ∷ badItem e ∷ noLine p s ∷ []
 before-18 p l s e = refl
 
 -- an accepted call answers a serial "and its mix"
@@ -122,7 +128,8 @@ answer p l c = answerBy (firstRefusal (callChecks p l c)) p (granted p l c)
 abbrev pub accepted : Answer → Bool
 accepted a = eqb (a .number) 0
 
--- the lines that an accepted call appends: "Otherwise it is accepted, o is appended"; a spoil "appends 0"; of a bundle all the orders
+-- the lines that an accepted call appends: "Otherwise it is accepted, o is appended"; a spoil "appends 0", and 0 for the item line; of a bundle all the
+-- orders
 abbrev pub appended : Call → List Entry
 appended peek = []
 appended (claim s e) = e ∷ []

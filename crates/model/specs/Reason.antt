@@ -7,7 +7,7 @@ use mathlib.Core.List.{List, [], _∷_, _++_, List·Memᴰ}
 use Prim.Native.Nat.{ℕ, suc, _≤_, _<_}
 use lib.ListN.{length}
 use Rattle.model.specs.declared.Answer.{Answer}
-use Rattle.model.specs.Entry.{Entry, orderOf, Lent, entriesIn, room}
+use Rattle.model.specs.Entry.{Entry, orderOf, itemOf, Lent, entriesIn, room, Paired}
 use Rattle.model.specs.Printing.{Printing, size, lowest, serialAt}
 use Rattle.model.specs.Model.{Call, peek, claim, void, claim-all, given, refusedWith, Event, event}
 use Rattle.model.specs.Trace.{named, entryOf, writers}
@@ -16,11 +16,13 @@ use Rattle.model.specs.Trace.{named, entryOf, writers}
 
 -- an order that a claim may name, and why one is refused
 abbrev pub GoodOrder : Entry → Type 0
-GoodOrder e = orderOf e ≢ 0
+GoodOrder e = (orderOf e ≢ 0) × (itemOf e ≢ 0) × (itemOf e ≤ 99)
 
 pub data OrderReason (e : Entry) (a : Answer) : Type 0 where
   -- "17, o is 0"
   no-order : orderOf e ≡ 0 → a ≡ refusedWith 17 0 → OrderReason e a
+  -- document 02, (vi): "25, item line 0 or over 99, directly after 17"
+  no-item : orderOf e ≢ 0 → (itemOf e ≡ 0) ⊎ (99 < itemOf e) → a ≡ refusedWith 25 0 → OrderReason e a
 
 -- ---- a call; p is what the ledger was opened for, past the calls so far with their answers
 
@@ -85,7 +87,9 @@ module _ (p : Printing) (past : List Event) where
   pub data ClaimAllReason (s : ℕ) (b : Lent) (a : Answer) : Type 0 where
     -- "24, a bundle of 0 or over 40"
     wrong-size : (room b ≡ 0) ⊎ (40 < room b) → a ≡ refusedWith 24 0 → ClaimAllReason s b a
-    right-size : room b ≢ 0 → room b ≤ 40 → TakesReason p s past s (entriesIn b) a → ClaimAllReason s b a
+    -- document 02, (vi): "A bundle names an item line for each order; another number of them is 24"
+    wrong-items : length (b .items) ≢ length (b .orders) → a ≡ refusedWith 24 0 → ClaimAllReason s b a
+    right-size : Paired b → room b ≢ 0 → room b ≤ 40 → TakesReason p s past s (entriesIn b) a → ClaimAllReason s b a
 
   abbrev pub Reason : Call → Answer → Type 0
   Reason peek a = PeekReason p past a

@@ -1,5 +1,5 @@
 -- Document 01, "The register", and "Refusals", places 'opening' and 'register calls': what each call does, as a function of the record and the
--- column alone.
+-- columns alone. `col` is both columns (specs/Entry `Lent`).
 use mathlib.Core.Bool.{Bool, cond, not}
 use mathlib.Core.List.{List, [], _∷_, _++_}
 use Prim.Native.Nat.{ℕ, _+_}
@@ -18,7 +18,7 @@ use Rattle.model.specs.declared.Ledger.{Ledger}
 use Rattle.model.specs.declared.Opened.{Opened}
 use Rattle.model.specs.declared.Peeked.{Peeked}
 use Rattle.model.specs.Basics.{all}
-use Rattle.model.specs.Entry.{Entry, soldIn, voidedIn, Lent, room, firstEntries, put}
+use Rattle.model.specs.Entry.{Entry, soldIn, voidedIn, unsoundIn, Lent, room, firstEntries, put}
 use Rattle.model.specs.Printing.{Printing, blank, placeOf, capacity, nextComposition}
 use Rattle.model.specs.Model.{Call, peek, callChecks, granted, answerBy, accepted, appended, told, Event, event}
 
@@ -34,7 +34,7 @@ printingOf r = record { bounds = upperOf (r .bounds); total = r .bounds .total }
 
 -- ---- opening
 
--- "column shorter than N", of a column with room for so many lines
+-- "column shorter than N", of columns with room for so many lines: document 02, (vi), "The opening check of 15 covers both columns"
 abbrev pub shortColumn : Printing → ℕ → Check
 shortColumn p lines = check 15 (ltb lines (capacity p)) 0
 
@@ -72,11 +72,12 @@ opening p col = openedBy (firstRefusal (openingChecks p (room col))) p
 
 -- ---- number 16
 
--- the lines written, as they stand in the column
+-- the lines written, as they stand in the columns
 abbrev pub written : Ledger → Lent → List Entry
 written r col = firstEntries (r .entries) col
 
--- what number 16 tests, in the order of its row; the last two are "the mix or spare cells"
+-- what number 16 tests, in the order of its row, "the mix or spare cells" at its end; then document 02, (vi), of the lines written. An item column that
+-- is too short has no room either.
 abbrev pub tests : Ledger → Lent → List Bool
 tests r col =
     let p = printingOf r in
@@ -88,9 +89,10 @@ tests r col =
     ∷ eqb (r .voided) (voidedIn (written r col))
     ∷ same (r .next) (nextComposition p (r .entries))
     ∷ same (r .bounds .upper) (cellsOf (upperOf (r .bounds)))
+    ∷ eqb (unsoundIn (written r col)) 0
     ∷ []
 
--- a record and a column that belong together
+-- a record and columns that belong together
 unfoldable pub consistent : Ledger → Lent → Bool
 consistent r col = all (tests r col)
 
@@ -137,7 +139,7 @@ advanced r es =
       next = nextComposition (printingOf r) (r .entries + length es);
     }
 
--- what an accepted call makes of the record, and of the column: its lines stand from the entry of the serial that it answers on. A peek appends
+-- what an accepted call makes of the record, and of the columns: its lines stand from the entry of the serial that it answers on. A peek appends
 -- none, and leaves both as they were (proofs/Records `calling-peek`).
 abbrev pub counted : Ledger → Call → Ledger
 counted r c = advanced r (appended c)
@@ -152,7 +154,7 @@ recordAfter r col c = cond (accepted (answered r col c)) (counted r c) r
 unfoldable pub columnAfter : Ledger → Lent → Call → Lent
 columnAfter r col c = cond (accepted (answered r col c)) (entered r col c) col
 
--- a claim, a void or a bundle: what it hands back, and the column that it leaves
+-- a claim, a void or a bundle: what it hands back, and the columns that it leaves
 unfoldable pub calling : Ledger → Lent → Call → Claimed × Lent
 calling r col c = (record { answer = answered r col c; ledger = recordAfter r col c }, columnAfter r col c)
 
@@ -162,7 +164,7 @@ entriesOf r col = cond (consistent r col) (written r col) []
 
 -- ---- a list of calls
 
--- the calls with their answers, and the record and the column that they leave
+-- the calls with their answers, and the record and the columns that they leave
 pub record Run : Type 0 where
   pub trace : List Event
   pub ledger : Ledger

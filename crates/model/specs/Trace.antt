@@ -33,7 +33,7 @@ named (claim s e) = s
 named (void s) = s
 named (claim-all s b) = s
 
--- the line that an accepted claim or void writes
+-- the line that an accepted claim or void writes; those of a bundle are the lines of its takes (`countedAs`)
 abbrev pub entryOf : Call → Entry
 entryOf peek = voidEntry
 entryOf (claim s e) = e

@@ -14,7 +14,7 @@ use Rattle.bounds.specs.Refusal.{firstRefusal}
 use Rattle.bounds.specs.Edition.{cellsOf, boundsOf}
 use Rattle.model.specs.declared.Answer.{Answer}
 use Rattle.model.specs.Basics.{Distinct, Once}
-use Rattle.model.specs.Entry.{Entry, voidEntry, DistinctOrders, soldIn, voidedIn, Lent, entriesIn, firstEntries, room, over}
+use Rattle.model.specs.Entry.{Entry, voidEntry, DistinctOrders, soldIn, voidedIn, Lent, entriesIn, firstEntries, room, Paired, over}
 use Rattle.model.specs.Printing.{Printing, blank, compositionAt, lowest, serialAt, capacity, stock, nextComposition}
 use Rattle.model.specs.Model.{Call, peek, claim, void, claim-all, callChecks, rowsBefore, given, accepted, Event, Book, bookFrom}
 use Rattle.model.specs.Record.{opened, answered, Run, run}
@@ -22,14 +22,14 @@ use Rattle.model.specs.Trace.{writes, isClaim, isVoid, named, those, wri
 use Rattle.model.specs.Trace.{peeked, Foretold, countFrom}
 use Rattle.model.specs.Reason.{GoodOrder, Reason}
 
--- the list of calls on the record and the column of an opened ledger, and on the model
+-- the list of calls on the record and the columns of an opened ledger, and on the model
 abbrev pub ran : Printing → Lent → List Call → Run
 ran p col cs = run (opened p) col cs
 
 abbrev pub book : Printing → List Call → Book
 book p cs = bookFrom p [] cs
 
--- the lines that a run leaves: the beginning of its column, as many as its record counts
+-- the lines that a run leaves: the beginnings of its columns, as many as its record counts
 abbrev pub lines : Run → List Entry
 lines w = firstEntries (w .ledger .entries) (w .column)
 
@@ -37,7 +37,7 @@ lines w = firstEntries (w .ledger .entries) (w .column)
 abbrev pub secondList : Printing → Run → List Call
 secondList p w = peeked (writers p (w .trace))
 
--- Of an opening for p over the column col: w is the run of the list cs, v the run of its second list. First what document 01 says by the paper
+-- Of an opening for p over the columns col: w is the run of the list cs, v the run of its second list. First what document 01 says by the paper
 -- register, then what it comes to by the calls and their answers alone.
 pub record Whole (p : Printing) (col : Lent) (cs : List Call) (w v : Run) : Type 0 where
   -- "The answer of each call (number and detail, serial, mix) is the paper register's"; document 02, (i): "the paper register's look answers the pair
@@ -49,7 +49,8 @@ pub record Whole (p : Printing) (col : Lent) (cs : List Call) (w v : Run) : Type
       → Carries (length (p .bounds)) (compositionAt p (x .reply .serial - 1)) (x .reply .composition) (x .transition)
   -- "serial 1 has 0 and 0, and so has a refused call", whose serial is 0; the other calls have no pair
   pub pair-none : (x : Event) → List·Memᴰ x (w .trace) → (x .reply .serial < 2) ⊎ (x .call ≢ peek) → x .transition ≡ none
-  -- "the column begins with the paper register's list"; "Other entries of the column keep their values."
+  -- "the column begins with the paper register's list"; "Other entries of the column keep their values." Document 02, (vi): "what is promised of the
+  -- column holds of both columns"
   pub column : w .column ≡ over col (book p cs .entries)
   -- "the record's three counts are that register's"
   pub entries : w .ledger .entries ≡ length (book p cs .entries)
@@ -73,7 +74,8 @@ pub record Whole (p : Printing) (col : Lent) (cs : List Call) (w v : Run) : Type
   pub written : w .ledger .entries ≡ length (those isClaim (writers p (w .trace))) + length (those isVoid (writers p (w .trace)))
   pub claims : w .ledger .sold ≡ length (those isClaim (writers p (w .trace)))
   pub voids : w .ledger .voided ≡ length (those isVoid (writers p (w .trace)))
-  -- in turn they are what these calls wrote: the order of a claim, 0 for a void; no order stands in two of them
+  -- in turn they are what these calls wrote: number and item line of a claim, 0 and 0 for a void; no number stands in two of them with the same item
+  -- line
   pub line-orders : lines w ≡ entriesBy (writers p (w .trace))
   pub orders-once : DistinctOrders (lines w)
   -- they were written from serial 1 up; "A line holds the mix of its serial, a spoilt line too."
@@ -94,7 +96,7 @@ pub record Whole (p : Printing) (col : Lent) (cs : List Call) (w v : Run) : Type
       → answered (w .ledger) (w .column) (claim (serialAt p (w .ledger .entries)) e) ≡ given p (serialAt p (w .ledger .entries))
   pub next-void : w .ledger .entries < capacity p
       → answered (w .ledger) (w .column) (void (serialAt p (w .ledger .entries))) ≡ given p (serialAt p (w .ledger .entries))
-  pub next-claim-all : (b : Lent) → room b ≢ 0 → room b ≤ 40 → w .ledger .entries + room b ≤ capacity p
+  pub next-claim-all : (b : Lent) → Paired b → room b ≢ 0 → room b ≤ 40 → w .ledger .entries + room b ≤ capacity p
       → ((k : ℕ) → k < room b → GoodOrder (getD (entriesIn b) k voidEntry))
       → DistinctOrders (lines w ++ entriesIn b)
       → answered (w .ledger) (w .column) (claim-all (serialAt p (w .ledger .entries)) b) ≡ given p (serialAt p (w .ledger .entries))

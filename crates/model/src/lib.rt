@@ -2,7 +2,7 @@
 // has the calls.
 use bounds::Bounds;
 
-// The record of a ledger. The orders themselves stand in the column that the caller lends.
+// The record of a ledger. The lines themselves stand in the two columns that the caller lends.
 #[repr(C)]
 pub struct Ledger {
     pub bounds: Bounds,

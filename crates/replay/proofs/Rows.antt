@@ -5,44 +5,47 @@ use mathlib.Core.List.{List, [], _∷_, _++_, map, append-assoc, append-nil}
 use Prim.Native.Nat.{ℕ, suc, _+_, _-_, _*_, _/_, _≤_, _<_}
 use native.Mathlib.Omega.{arith}
 use lib.ListN.{length, getD, take, drop, set, length-append, length-set, drop-of-length-le}
-use lib.Seq.{drop-cons, drop-drop, drop-set-add, getD-append-add, drop-append-add, length-take-le, take-at, drop-at}
+use lib.Seq.{drop-cons, drop-drop, getD-drop, drop-set-add, getD-append-add, drop-append-add, length-take-le, take-at, drop-at}
 use lib.Seq.{take-append-seam, drop-append-seam}
 use borrow.Author.Tests.{eq-eqb, ne-eqb}
 use Rattle.bounds.specs.Places.{copied}
 use Rattle.bounds.proofs.Cells.{copied-same}
 use Rattle.model.specs.Basics.{replaced}
-use Rattle.model.specs.Entry.{voidEntry, Lent, entriesIn, room}
+use Rattle.model.specs.Entry.{entry, orderOf, itemOf, Lent, columns}
 use Rattle.model.specs.Model.{Call, peek, claim, void, claim-all, Event}
-use Rattle.replay.specs.Rows.{callWidth, callOf, uses, callsIn, namedIn, rowWidth, rowOf, rowsOf, shown}
+use Rattle.replay.specs.Rows.{callWidth, ordersColumn, itemsColumn, callOf, uses, nextOf, leftOf, callsIn, namedIn}
+use Rattle.replay.specs.Rows.{rowWidth, rowOf, rowsOf, shown}
 
 -- ---- the script
 
 -- the call of each number
-module _ (k s : ℕ) (os : Lent) where
-  pub call-peek : k ≡ 0 → callOf k s os ≡ Call.peek
+module _ (k s : ℕ) (b : Lent) where
+  pub call-peek : k ≡ 0 → callOf k s b ≡ Call.peek
   call-peek p = rw (eq-eqb k 0 p)
 
-  pub call-claim : k ≢ 0 → k ≡ 1 → callOf k s os ≡ Call.claim s (getD (entriesIn os) 0 voidEntry)
+  pub call-claim : k ≢ 0 → k ≡ 1 → callOf k s b ≡ Call.claim s (entry (getD (b .orders) 0 0) (getD (b .items) 0 0))
   call-claim n p = rw (ne-eqb k 0 n, eq-eqb k 1 p)
 
-  pub call-claim-all : k ≢ 0 → k ≢ 1 → k ≡ 3 → callOf k s os ≡ Call.claim-all s os
+  pub call-claim-all : k ≢ 0 → k ≢ 1 → k ≡ 3 → callOf k s b ≡ Call.claim-all s b
   call-claim-all n n′ p = rw (ne-eqb k 0 n, ne-eqb k 1 n′, eq-eqb k 3 p)
 
-  pub call-void : k ≢ 0 → k ≢ 1 → k ≢ 3 → callOf k s os ≡ Call.void s
+  pub call-void : k ≢ 0 → k ≢ 1 → k ≢ 3 → callOf k s b ≡ Call.void s
   call-void n n′ n″ = rw (ne-eqb k 0 n, ne-eqb k 1 n′, ne-eqb k 3 n″)
 
-pub calls-count : (rows : List ℕ) (os : Lent) → length (callsIn rows os) ≡ length rows / callWidth
-calls-count [] os = refl
-calls-count (k ∷ []) os = refl
-calls-count (k ∷ s ∷ []) os = refl
-calls-count (k ∷ s ∷ n ∷ rows) os = omega (arith, calls-count rows (drop (uses k n) os))
+pub calls-count : (rows : List ℕ) (pool : Lent) → length (callsIn rows pool) ≡ length rows / callWidth
+calls-count [] pool = refl
+calls-count (k ∷ []) pool = refl
+calls-count (k ∷ s ∷ []) pool = refl
+calls-count (k ∷ s ∷ n ∷ []) pool = refl
+calls-count (k ∷ s ∷ n ∷ m ∷ rows) pool = omega (arith, calls-count rows (leftOf (uses k n) (uses k m) pool))
 
 -- fewer numbers than a row
-pub named-none : (rows : List ℕ) → length rows < callWidth → namedIn rows ≡ 0
-named-none [] h = refl
-named-none (k ∷ []) h = refl
-named-none (k ∷ s ∷ []) h = refl
-named-none (k ∷ s ∷ n ∷ rows) h = absurd (omega (arith, h))
+pub named-none : (c : ℕ) (rows : List ℕ) → length rows < callWidth → namedIn c rows ≡ 0
+named-none c [] h = refl
+named-none c (k ∷ []) h = refl
+named-none c (k ∷ s ∷ []) h = refl
+named-none c (k ∷ s ∷ n ∷ []) h = refl
+named-none c (k ∷ s ∷ n ∷ m ∷ rows) h = absurd (omega (arith, h))
 
 -- the row at a place, and those after it
 module _ (rows : List ℕ) (i : ℕ) where
@@ -52,61 +55,86 @@ module _ (rows : List ℕ) (i : ℕ) where
   abbrev pub serialIn : ℕ
   serialIn = getD rows (i * callWidth + 1) 0
 
-  abbrev pub usesAt : ℕ
-  usesAt = uses whichAt (getD rows (i * callWidth + 2) 0)
+  -- what it uses up, by the number in that column
+  abbrev pub usesAt : (column : ℕ) → ℕ
+  usesAt c = uses whichAt (getD rows (i * callWidth + c) 0)
 
   module _ (h : i * callWidth + callWidth ≤ length rows) where
-    rows-next : drop (i * callWidth) rows ≡ whichAt ∷ serialIn ∷ getD rows (i * callWidth + 2) 0 ∷ drop ((i + 1) * callWidth) rows
+    abbrev rowThen : List ℕ → List ℕ
+    rowThen l = whichAt ∷ serialIn ∷ getD rows (i * callWidth + ordersColumn) 0 ∷ getD rows (i * callWidth + itemsColumn) 0 ∷ l
+
+    rows-next : drop (i * callWidth) rows ≡ rowThen (drop ((i + 1) * callWidth) rows)
     rows-next =
         let n = i * callWidth in
         let second : n + 1 ≡ suc n = omega arith in
         let third : n + 2 ≡ suc (suc n) = omega arith in
-        let after : (i + 1) * callWidth ≡ suc (suc (suc n)) = omega arith in
+        let fourth : n + 3 ≡ suc (suc (suc n)) = omega arith in
+        let after : (i + 1) * callWidth ≡ suc (suc (suc (suc n))) = omega arith in
         rw (
           second,
           third,
+          fourth,
           after,
           drop-cons rows n 0 (omega arith),
           drop-cons rows (suc n) 0 (omega arith),
           drop-cons rows (suc (suc n)) 0 (omega arith),
+          drop-cons rows (suc (suc (suc n))) 0 (omega arith),
         )
 
-    pub named-next : namedIn (drop (i * callWidth) rows) ≡ usesAt + namedIn (drop ((i + 1) * callWidth) rows)
-    named-next = rw rows-next
+    pub named-next : (c : ℕ) → namedIn c (drop (i * callWidth) rows) ≡ usesAt c + namedIn c (drop ((i + 1) * callWidth) rows)
+    named-next c =
+        let after = drop ((i + 1) * callWidth) rows in
+        let same : getD (rowThen after) c 0 ≡ getD rows (i * callWidth + c) 0 =
+        ap (λ (l : List ℕ). getD l c 0) (sym rows-next) ∙ getD-drop (i * callWidth) rows c 0 in
+        ap (λ (l : List ℕ). namedIn c l) rows-next ∙ ap (λ (n : ℕ). uses whichAt n + namedIn c after) same
 
-    pub calls-next : (os : Lent) (used : ℕ)
-        → callsIn (drop (i * callWidth) rows) (drop used os)
-        ≡ callOf whichAt serialIn (take usesAt (drop used os)) ∷ callsIn (drop ((i + 1) * callWidth) rows) (drop (used + usesAt) os)
-    calls-next os used = rw (rows-next, drop-drop usesAt used os)
+    pub calls-next : (pool : Lent) (n m : ℕ)
+        → callsIn (drop (i * callWidth) rows) (leftOf n m pool)
+        ≡ callOf whichAt serialIn (nextOf (usesAt ordersColumn) (usesAt itemsColumn) (leftOf n m pool))
+        ∷ callsIn (drop ((i + 1) * callWidth) rows) (leftOf (n + usesAt ordersColumn) (m + usesAt itemsColumn) pool)
+    calls-next pool n m =
+        rw (rows-next, drop-drop (usesAt ordersColumn) n (pool .orders), drop-drop (usesAt itemsColumn) m (pool .items))
 
--- every list of calls can be lent so, its second list too, with a pool that fits
+-- every list of calls can be lent so, its second list too, with pools that fit
 abbrev pub rowsFor : List Call → List ℕ
 rowsFor [] = []
-rowsFor (peek ∷ cs) = 0 ∷ 0 ∷ 0 ∷ rowsFor cs
-rowsFor (claim s o ∷ cs) = 1 ∷ s ∷ 1 ∷ rowsFor cs
-rowsFor (void s ∷ cs) = 2 ∷ s ∷ 0 ∷ rowsFor cs
-rowsFor (claim-all s b ∷ cs) = 3 ∷ s ∷ room b ∷ rowsFor cs
+rowsFor (peek ∷ cs) = 0 ∷ 0 ∷ 0 ∷ 0 ∷ rowsFor cs
+rowsFor (claim s e ∷ cs) = 1 ∷ s ∷ 1 ∷ 1 ∷ rowsFor cs
+rowsFor (void s ∷ cs) = 2 ∷ s ∷ 0 ∷ 0 ∷ rowsFor cs
+rowsFor (claim-all s b ∷ cs) = 3 ∷ s ∷ length (b .orders) ∷ length (b .items) ∷ rowsFor cs
 
-abbrev pub ordersFor : List Call → Lent
-ordersFor [] = []
-ordersFor (peek ∷ cs) = ordersFor cs
-ordersFor (claim s o ∷ cs) = o ∷ ordersFor cs
-ordersFor (void s ∷ cs) = ordersFor cs
-ordersFor (claim-all s b ∷ cs) = entriesIn b ++ ordersFor cs
+abbrev pub poolFor : List Call → Lent
+poolFor [] = columns [] []
+poolFor (peek ∷ cs) = poolFor cs
+poolFor (claim s e ∷ cs) = columns (orderOf e ∷ poolFor cs .orders) (itemOf e ∷ poolFor cs .items)
+poolFor (void s ∷ cs) = poolFor cs
+poolFor (claim-all s b ∷ cs) = columns (b .orders ++ poolFor cs .orders) (b .items ++ poolFor cs .items)
 
-pub every-list : (cs : List Call) → callsIn (rowsFor cs) (ordersFor cs) ≡ cs
+pub every-list : (cs : List Call) → callsIn (rowsFor cs) (poolFor cs) ≡ cs
 every-list [] = refl
 every-list (peek ∷ cs) = ap (λ (l : List Call). Call.peek ∷ l) (every-list cs)
-every-list (claim s o ∷ cs) = ap (λ (l : List Call). Call.claim s o ∷ l) (every-list cs)
+every-list (claim s e ∷ cs) = ap (λ (l : List Call). Call.claim s e ∷ l) (every-list cs)
 every-list (void s ∷ cs) = ap (λ (l : List Call). Call.void s ∷ l) (every-list cs)
-every-list (claim-all s b ∷ cs) = rw (take-append-seam b (ordersFor cs), drop-append-seam b (ordersFor cs), every-list cs)
+every-list (claim-all s b ∷ cs) =
+    let rest = poolFor cs in
+    rw (
+      take-append-seam (b .orders) (rest .orders),
+      drop-append-seam (b .orders) (rest .orders),
+      take-append-seam (b .items) (rest .items),
+      drop-append-seam (b .items) (rest .items),
+      every-list cs,
+    )
 
-pub every-pool : (cs : List Call) → namedIn (rowsFor cs) ≡ length (ordersFor cs)
-every-pool [] = refl
-every-pool (peek ∷ cs) = omega (arith, every-pool cs)
-every-pool (claim s o ∷ cs) = omega (arith, every-pool cs)
-every-pool (void s ∷ cs) = omega (arith, every-pool cs)
-every-pool (claim-all s b ∷ cs) = omega (arith, every-pool cs, length-append b (ordersFor cs))
+pub every-pool : (cs : List Call)
+    → (length (poolFor cs .orders) ≡ namedIn ordersColumn (rowsFor cs)) × (length (poolFor cs .items) ≡ namedIn itemsColumn (rowsFor cs))
+every-pool [] = (refl, refl)
+every-pool (peek ∷ cs) = let p = every-pool cs in (omega (arith, p .0), omega (arith, p .1))
+every-pool (claim s e ∷ cs) = let p = every-pool cs in (omega (arith, p .0), omega (arith, p .1))
+every-pool (void s ∷ cs) = let p = every-pool cs in (omega (arith, p .0), omega (arith, p .1))
+every-pool (claim-all s b ∷ cs) =
+    let p = every-pool cs in
+    let rest = poolFor cs in
+    (omega (arith, p .0, length-append (b .orders) (rest .orders)), omega (arith, p .1, length-append (b .items) (rest .items)))
 
 -- ---- the answers
 

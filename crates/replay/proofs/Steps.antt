@@ -16,16 +16,18 @@ use Rattle.walsh.specs.declared.Transition.{Transition}
 use Rattle.model.specs.declared.Ledger.{Ledger}
 use Rattle.model.proofs.Lists.{length-snoc, snoc-append, length-replaced}
 use Rattle.model.proofs.Records.{each}
-use Rattle.replay.specs.Rows.{callWidth, callOf, callsIn, namedIn, rowWidth, rowOf, rowsOf, shown}
+use Rattle.replay.specs.Rows.{callWidth, ordersColumn, itemsColumn, callOf, nextOf, leftOf, callsIn, namedIn}
+use Rattle.replay.specs.Rows.{rowWidth, rowOf, rowsOf, shown}
 use Rattle.replay.specs.Replay.{Script, Buffers, callsOf, sizes, Ran}
 use Rattle.replay.proofs.Rows.{calls-count, whichAt, serialIn, usesAt, named-next, calls-next}
 use Rattle.replay.proofs.Rows.{Full, full-snoc, rows-length, rows-more, read-back}
 
--- whole rows, as many of the answers as of the calls, and the orders that these name
+-- whole rows, as many of the answers as of the calls, and the orders and item lines that these name
 pub record Fit (x : Script) (b : Buffers) : Type 0 where
   pub whole : length (x .rows) % callWidth ≡ 0
   pub room : length (b .answers) ≡ length (x .rows) / callWidth * rowWidth
-  pub pool : length (x .orders) ≡ namedIn (x .rows)
+  pub orders : length (x .pool .orders) ≡ namedIn ordersColumn (x .rows)
+  pub items : length (x .pool .items) ≡ namedIn itemsColumn (x .rows)
 
 pub fit-of : (x : Script) (b : Buffers) → all (sizes x b) ≡ true → Fit x b
 fit-of x b t =
@@ -34,8 +36,9 @@ fit-of x b t =
       whole = eqb-true (length (x .rows) % callWidth) 0 (p .0);
       room =
           eqb-true (length (b .answers)) (length (callsOf x) * rowWidth) (p .1 .0)
-          ∙ ap (λ (n : ℕ). n * rowWidth) (calls-count (x .rows) (x .orders));
-      pool = eqb-true (length (x .orders)) (namedIn (x .rows)) (p .1 .1 .0);
+          ∙ ap (λ (n : ℕ). n * rowWidth) (calls-count (x .rows) (x .pool));
+      orders = eqb-true (length (x .pool .orders)) (namedIn ordersColumn (x .rows)) (p .1 .1 .0);
+      items = eqb-true (length (x .pool .items)) (namedIn itemsColumn (x .rows)) (p .1 .1 .1 .0);
     }
 
 -- a run that comes after the calls of a trace
@@ -56,42 +59,52 @@ unfolding run
 run-calls r col [] = refl
 run-calls r col (c ∷ cs) = ap {B = List Call} (λ l. c ∷ l) (run-calls (recordAfter r col c) (columnAfter r col c) cs)
 
--- i calls are made, and so many orders of the pool used up: the run is that of the calls so far and of those to come, and what is left of the pool is
--- what these name
-pub record Progress (r : Ledger) (x : Script) (b b′ : Buffers) (l : Ledger) (used i : ℕ) : Type 0 where
+-- what is left of a pool behind n entries is what the calls from call i on name
+abbrev pub Left : (column : ℕ) (rows : List ℕ) (n i : ℕ) → Type 0
+Left c rows n i = n + namedIn c (drop (i * callWidth) rows) ≡ namedIn c rows
+
+-- i calls are made, and n orders and m item lines of the pools used up: the run is that of the calls so far and of those to come
+pub record Progress (r : Ledger) (x : Script) (b b′ : Buffers) (l : Ledger) (n m i : ℕ) : Type 0 where
   pub trace : List Event
   pub so-far : run r (b .column) (callsOf x)
-      ≡ behind trace (run l (b′ .column) (callsIn (drop (i * callWidth) (x .rows)) (drop used (x .orders))))
+      ≡ behind trace (run l (b′ .column) (callsIn (drop (i * callWidth) (x .rows)) (leftOf n m (x .pool))))
   pub rows : b′ .answers ≡ replaced (b .answers) (rowsOf trace)
   pub full : Full trace
   pub count : length trace ≡ i
-  pub left : used + namedIn (drop (i * callWidth) (x .rows)) ≡ length (x .orders)
-  pub for-column : length (b′ .column) ≡ length (b .column)
+  pub left : Left ordersColumn (x .rows) n i
+  pub left-items : Left itemsColumn (x .rows) m i
+  pub for-column : length (b′ .column .orders) ≡ length (b .column .orders)
+  pub for-items : length (b′ .column .items) ≡ length (b .column .items)
   pub for-answers : length (b′ .answers) ≡ length (b .answers)
 
-pub start : (r : Ledger) (x : Script) (b : Buffers) → Fit x b → Progress r x b b r 0 0
-start r x b f =
+pub start : (r : Ledger) (x : Script) (b : Buffers) → Progress r x b b r 0 0 0
+start r x b =
     record {
       trace = [];
       so-far = refl;
       rows = refl;
       full = tt;
       count = refl;
-      left = omega (arith, f .pool);
+      left = omega arith;
+      left-items = omega arith;
       for-column = refl;
+      for-items = refl;
       for-answers = refl;
     }
 
--- the orders of the next call are there
-pub enough : (r : Ledger) (x : Script) (b b′ : Buffers) (l : Ledger) (used i : ℕ) → Progress r x b b′ l used i → i < length (x .rows) / callWidth
-    → used + usesAt (x .rows) i ≤ length (x .orders)
-enough r x b b′ l used i w h = omega (arith, w .left, named-next (x .rows) i (omega arith))
+-- what the next call names is there, and behind it what those after it name
+module _ (c : ℕ) (rows : List ℕ) (n i : ℕ) (w : Left c rows n i) (h : i < length rows / callWidth) where
+  pub enough : n + usesAt rows i c ≤ namedIn c rows
+  enough = omega (arith, w, named-next rows i (omega arith) c)
+
+  left-next : (n′ : ℕ) → n′ ≡ n + usesAt rows i c → Left c rows n′ (i + 1)
+  left-next n′ up = omega (arith, w, up, named-next rows i (omega arith) c)
 
 -- a call more, of which the code did a step and put the answer into its row
-module _ (r : Ledger) (x : Script) (b b′ b″ : Buffers) (l : Ledger) (used i : ℕ) (t : Claimed) (x′ : Transition) (os : Lent) (used′ : ℕ)
+module _ (r : Ledger) (x : Script) (b b′ b″ : Buffers) (l : Ledger) (n m i : ℕ) (t : Claimed) (x′ : Transition) (lines : Lent) (n′ m′ : ℕ)
     (part : List ℕ) where
   abbrev made : Call
-  made = callOf (whichAt (x .rows) i) (serialIn (x .rows) i) os
+  made = callOf (whichAt (x .rows) i) (serialIn (x .rows) i) lines
 
   -- how long the part for the row is, as the code has it
   abbrev long : ℕ
@@ -99,25 +112,30 @@ module _ (r : Ledger) (x : Script) (b b′ b″ : Buffers) (l : Ledger) (used i 
 
   pub onward :
       Fit x b
-      → Progress r x b b′ l used i
+      → Progress r x b b′ l n m i
       → i < length (x .rows) / callWidth
-      → used′ ≡ used + usesAt (x .rows) i
+      → n′ ≡ n + usesAt (x .rows) i ordersColumn
+      → m′ ≡ m + usesAt (x .rows) i itemsColumn
       → _≡_ {A = Claimed × Lent} (t, b″ .column) (calling l (b′ .column) made)
       → x′ ≡ told (printingOf l) made (t .answer)
-      → os ≡ take (used′ - used) (drop used (x .orders))
+      → lines ≡ nextOf (n′ - n) (m′ - m) (leftOf n m (x .pool))
       → part ≡ rowOf (t .answer) x′
       → length part ≡ length (take long (drop (i * rowWidth) (b′ .answers)))
       → b″ .answers ≡ take (i * rowWidth) (b′ .answers) ++ (part ++ drop long (drop (i * rowWidth) (b′ .answers)))
-      → length (b″ .column) ≡ length (b′ .column)
-      → Progress r x b b″ (t .ledger) used′ (i + 1)
+      → length (b″ .column .orders) ≡ length (b′ .column .orders)
+      → length (b″ .column .items) ≡ length (b′ .column .items)
+      → Progress r x b b″ (t .ledger) n′ m′ (i + 1)
   unfolding calling
-  onward f w h up g pair of is wide put kept =
+  onward f w h up up-items g pair of is wide put kept kept-items =
       let col = b′ .column in
       let whole-row : i * callWidth + callWidth ≤ length (x .rows) = omega arith in
-      let wanted : used + usesAt (x .rows) i - used ≡ usesAt (x .rows) i = omega arith in
-      let cs = callsIn (drop ((i + 1) * callWidth) (x .rows)) (drop used′ (x .orders)) in
-      let ahead : callsIn (drop (i * callWidth) (x .rows)) (drop used (x .orders)) ≡ made ∷ cs =
-      rw (of, up, wanted) (calls-next (x .rows) i whole-row (x .orders) used) in
+      let named = usesAt (x .rows) i ordersColumn in
+      let named-items = usesAt (x .rows) i itemsColumn in
+      let wanted : n + named - n ≡ named = omega arith in
+      let wanted-items : m + named-items - m ≡ named-items = omega arith in
+      let cs = callsIn (drop ((i + 1) * callWidth) (x .rows)) (leftOf n′ m′ (x .pool)) in
+      let ahead : callsIn (drop (i * callWidth) (x .rows)) (leftOf n m (x .pool)) ≡ made ∷ cs =
+      rw (of, up, up-items, wanted, wanted-items) (calls-next (x .rows) i whole-row (x .pool) n m) in
       let answer : t .answer ≡ answered l col made = ap (λ (p : Claimed × Lent). p .0 .answer) g in
       let ledger : t .ledger ≡ recordAfter l col made = ap (λ (p : Claimed × Lent). p .0 .ledger) g in
       let column : b″ .column ≡ columnAfter l col made = ap (λ (p : Claimed × Lent). p .1) g in
@@ -140,17 +158,19 @@ module _ (r : Ledger) (x : Script) (b b′ b″ : Buffers) (l : Ledger) (used i 
         rows = rows;
         full = full;
         count = count;
-        left = omega (arith, w .left, up, named-next (x .rows) i whole-row);
+        left = left-next ordersColumn (x .rows) n i (w .left) h n′ up;
+        left-items = left-next itemsColumn (x .rows) m i (w .left-items) h m′ up-items;
         for-column = kept ∙ w .for-column;
+        for-items = kept-items ∙ w .for-items;
         for-answers = ap length rows ∙ length-replaced (b .answers) (rowsOf trace) (omega (arith, rows-length trace full, f .room));
       }
 
 -- after the last call
-pub finished : (r : Ledger) (x : Script) (b b′ : Buffers) (l : Ledger) (used i : ℕ) → Fit x b → Progress r x b b′ l used i
+pub finished : (r : Ledger) (x : Script) (b b′ : Buffers) (l : Ledger) (n m i : ℕ) → Fit x b → Progress r x b b′ l n m i
     → length (x .rows) / callWidth ≤ i
     → Ran r (callsOf x) b b′ l
 unfolding run
-finished r x b b′ l used i f w h =
+finished r x b b′ l n m i f w h =
     let t = w .trace in
     let cs = callsOf x in
     let over : length (x .rows) ≤ i * callWidth = omega (arith, f .whole) in

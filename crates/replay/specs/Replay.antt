@@ -10,29 +10,29 @@ use lib.ListN.{length}
 use Rattle.walsh.specs.Transition.{none}
 use Rattle.bounds.specs.Refusal.{Check, check, firstRefusal}
 use Rattle.model.specs.Basics.{all}
-use Rattle.model.specs.Entry.{Lent, room}
+use Rattle.model.specs.Entry.{Lent, columns, room}
 use Rattle.model.specs.Printing.{Printing}
 use Rattle.model.specs.Model.{Call, refusedWith}
 use Rattle.model.specs.Record.{opened, blankLedger, openingChecks, Run, run}
 use Rattle.model.specs.Whole.{ran, secondList, Whole}
 use Rattle.model.specs.declared.Ledger.{Ledger}
 use Rattle.model.specs.declared.Opened.{Opened}
-use Rattle.replay.specs.Rows.{callWidth, callsIn, namedIn, rowWidth, rowOf, rowsOf, shown}
+use Rattle.replay.specs.Rows.{callWidth, ordersColumn, itemsColumn, callsIn, namedIn, rowWidth, rowOf, rowsOf, shown}
 
 -- ---- what is lent
 
--- the rows of the calls, and the pool of orders
+-- the rows of the calls, and the pools: orders, and item lines
 pub record Script : Type 0 where
   pub rows : List ℕ
-  pub orders : Lent
+  pub pool : Lent
 
-abbrev pub scripted : (rows : List ℕ) (orders : Lent) → Script
-scripted rows orders = record { rows = rows; orders = orders }
+abbrev pub scripted : (rows : List ℕ) (pool : Lent) → Script
+scripted rows pool = record { rows = rows; pool = pool }
 
 abbrev pub callsOf : Script → List Call
-callsOf x = callsIn (x .rows) (x .orders)
+callsOf x = callsIn (x .rows) (x .pool)
 
--- the column, and the rows of the answers
+-- the two columns, and the rows of the answers
 pub record Buffers : Type 0 where
   pub column : Lent
   pub answers : List ℕ
@@ -40,34 +40,49 @@ pub record Buffers : Type 0 where
 abbrev pub buffers : (column : Lent) (answers : List ℕ) → Buffers
 buffers column answers = record { column = column; answers = answers }
 
--- a run as the record, the column and the rows show it
+-- a run as the record, the columns and the rows show it
 abbrev pub seen : List Call → Ledger → Buffers → Run
 seen cs l b = record { trace = shown cs (b .answers); ledger = l; column = b .column }
 
 -- ---- refusals: those of the opening, then the place 'lent part'
 
--- a script of so many numbers has whole rows, a buffer of so many a row for each call, and a pool of so many orders just those that the calls name
-abbrev pub sizesOf : (rows calls answers orders named : ℕ) → List Bool
-sizesOf rows calls answers orders named = eqb (rows % callWidth) 0 ∷ eqb answers (calls * rowWidth) ∷ eqb orders named ∷ []
+-- such rows are whole ones, a buffer of so many numbers has a row for each call, and pools of so many orders and item lines just those that the calls
+-- name
+abbrev pub sizesOf : (rows : List ℕ) (calls answers orders items : ℕ) → List Bool
+sizesOf rows calls answers orders items =
+    eqb (length rows % callWidth) 0
+    ∷ eqb answers (calls * rowWidth)
+    ∷ eqb orders (namedIn ordersColumn rows)
+    ∷ eqb items (namedIn itemsColumn rows)
+    ∷ []
 
 abbrev pub sizes : Script → Buffers → List Bool
-sizes x b = sizesOf (length (x .rows)) (length (callsOf x)) (length (b .answers)) (length (x .orders)) (namedIn (x .rows))
+sizes x b = sizesOf (x .rows) (length (callsOf x)) (length (b .answers)) (length (x .pool .orders)) (length (x .pool .items))
 
--- for example, with a bundle of two and a buffer of one row a pool of two orders fits, and one of one or of three does not
-fitting : (orders : Lent) → Bool
-fitting orders = all (sizes (scripted (3 ∷ 1 ∷ 2 ∷ []) orders) (buffers [] (rowOf (refusedWith 18 1007) none)))
+-- for example, with a bundle of two orders and one item line and a buffer of one row pools of two and one fit, and those in which one of either is
+-- missing or over do not
+fitting : (pool : Lent) → Bool
+fitting pool = all (sizes (scripted (3 ∷ 1 ∷ 2 ∷ 1 ∷ []) pool) (buffers (columns [] []) (rowOf (refusedWith 18 1007) none)))
 
-just-two : fitting (1007 ∷ 1014 ∷ []) ≡ true
+just-those : fitting (columns (1007 ∷ 1014 ∷ []) (1 ∷ [])) ≡ true
 unfolding fitting
-just-two = refl
+just-those = refl
 
-one-missing : fitting (1007 ∷ []) ≡ false
+one-missing : fitting (columns (1007 ∷ []) (1 ∷ [])) ≡ false
 unfolding fitting
 one-missing = refl
 
-one-over : fitting (1007 ∷ 1014 ∷ 1021 ∷ []) ≡ false
+one-over : fitting (columns (1007 ∷ 1014 ∷ 1021 ∷ []) (1 ∷ [])) ≡ false
 unfolding fitting
 one-over = refl
+
+item-missing : fitting (columns (1007 ∷ 1014 ∷ []) []) ≡ false
+unfolding fitting
+item-missing = refl
+
+item-over : fitting (columns (1007 ∷ 1014 ∷ []) (1 ∷ 1 ∷ [])) ≡ false
+unfolding fitting
+item-over = refl
 
 abbrev pub sizeChecks : Script → Buffers → List Check
 sizeChecks x b = check 13 (not (all (sizes x b))) 0 ∷ []
@@ -82,8 +97,8 @@ pub record Ran (r : Ledger) (cs : List Call) (b b′ : Buffers) (l : Ledger) : T
   pub rows : b′ .answers ≡ rowsOf (run r (b .column) cs .trace)
   pub same-run : seen cs l b′ ≡ run r (b .column) cs
 
--- They are run from the opened record, with all that is said of the list as a whole, of what is seen. What the column holds besides the entries is
--- in `Whole .column`.
+-- They are run from the opened record, with all that is said of the list as a whole, of what is seen. What the columns hold besides the entries
+-- is in `Whole .column`.
 pub record Replayed (p : Printing) (cs : List Call) (b b′ : Buffers) (l : Ledger) : Type 0 where
   pub done : Ran (opened p) cs b b′ l
   pub whole : Whole p (b .column) cs (seen cs l b′) (ran p (b .column) (secondList p (seen cs l b′)))

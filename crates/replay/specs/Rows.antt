@@ -1,5 +1,5 @@
--- The rows that the caller lends for a list of calls: a script with a row for each call and a pool of the orders that the calls name, and a buffer
--- with a row for each answer.
+-- The rows that the caller lends for a list of calls: a script with a row for each call, pools of the orders that the calls name and of their item
+-- lines, and a buffer with a row for each answer.
 use mathlib.Core.Path.{_≡_, refl}
 use mathlib.Core.Bool.{cond}
 use mathlib.Core.List.{List, [], _∷_, _++_}
@@ -8,50 +8,87 @@ use lib.Dec.{eqb}
 use lib.ListN.{length, getD, take, drop}
 use Rattle.walsh.specs.Transition.{none}
 use Rattle.walsh.specs.declared.Transition.{Transition}
-use Rattle.model.specs.Entry.{voidEntry, Lent, entriesIn}
+use Rattle.model.specs.Entry.{entry, Lent, columns}
 use Rattle.model.specs.Model.{Call, peek, claim, void, claim-all, refusedWith, Event}
 use Rattle.model.specs.declared.Answer.{Answer}
 
 -- ---- the script
 
--- the columns of a call: which call, its serial, and how many orders it names
+-- the columns of a call: which call, its serial, how many orders it names and how many item lines
 abbrev pub callWidth : ℕ
-callWidth = 3
+callWidth = 4
 
--- 0 is a peek, 1 a claim, 3 a bundle, any other a void, with the list of the orders that it names: a claim is for the first of them
-abbrev pub callOf : (which serial : ℕ) (orders : Lent) → Call
-callOf k s os = cond (eqb k 0) peek (cond (eqb k 1) (claim s (getD (entriesIn os) 0 voidEntry)) (cond (eqb k 3) (claim-all s os) (void s)))
+abbrev pub ordersColumn : ℕ
+ordersColumn = 2
 
--- how many orders a call names: the number in its row counts for a bundle alone; a claim names one, a peek and a void none
-abbrev pub uses : (which orders : ℕ) → ℕ
+abbrev pub itemsColumn : ℕ
+itemsColumn = 3
+
+-- 0 is a peek, 1 a claim, 3 a bundle, any other a void, with the orders and the item lines that it names: a claim is for the first of each
+abbrev pub callOf : (which serial : ℕ) (lines : Lent) → Call
+callOf k s b =
+    cond (eqb k 0) peek
+    (cond (eqb k 1) (claim s (entry (getD (b .orders) 0 0) (getD (b .items) 0 0))) (cond (eqb k 3) (claim-all s b) (void s)))
+
+-- how many orders a call names, or item lines: the number in its row counts for a bundle alone; a claim names one, a peek and a void none
+abbrev pub uses : (which number : ℕ) → ℕ
 uses k n = cond (eqb k 1) 1 (cond (eqb k 3) n 0)
 
--- the calls in turn, each for the next orders of the pool, which it uses up. Numbers that make no whole row are no call.
-abbrev pub callsIn : (rows : List ℕ) (orders : Lent) → List Call
-callsIn [] os = []
-callsIn (k ∷ []) os = []
-callsIn (k ∷ s ∷ []) os = []
-callsIn (k ∷ s ∷ n ∷ rows) os = callOf k s (take (uses k n) os) ∷ callsIn rows (drop (uses k n) os)
+-- the first orders and the first item lines of the pools, and what is left of both behind them
+abbrev pub nextOf : (orders items : ℕ) → Lent → Lent
+nextOf n m pool = columns (take n (pool .orders)) (take m (pool .items))
 
--- how many orders they name in all
-abbrev pub namedIn : (rows : List ℕ) → ℕ
-namedIn [] = 0
-namedIn (k ∷ []) = 0
-namedIn (k ∷ s ∷ []) = 0
-namedIn (k ∷ s ∷ n ∷ rows) = uses k n + namedIn rows
+abbrev pub leftOf : (orders items : ℕ) → Lent → Lent
+leftOf n m pool = columns (drop n (pool .orders)) (drop m (pool .items))
 
--- for example, a claim, a peek, a void, a bundle of two, a claim and a bundle of none; of the last number in a row that of the bundles alone counts
+-- the calls in turn, each for the next orders and item lines of the pools, which it uses up. Numbers that make no whole row are no call.
+abbrev pub callsIn : (rows : List ℕ) (pool : Lent) → List Call
+callsIn [] pool = []
+callsIn (k ∷ []) pool = []
+callsIn (k ∷ s ∷ []) pool = []
+callsIn (k ∷ s ∷ n ∷ []) pool = []
+callsIn (k ∷ s ∷ n ∷ m ∷ rows) pool = callOf k s (nextOf (uses k n) (uses k m) pool) ∷ callsIn rows (leftOf (uses k n) (uses k m) pool)
+
+-- how many orders they name in all, or item lines: by the numbers in that column
+abbrev pub namedIn : (column : ℕ) (rows : List ℕ) → ℕ
+namedIn c [] = 0
+namedIn c (k ∷ []) = 0
+namedIn c (k ∷ s ∷ []) = 0
+namedIn c (k ∷ s ∷ n ∷ []) = 0
+namedIn c (k ∷ s ∷ n ∷ m ∷ rows) = uses k (getD (k ∷ s ∷ n ∷ m ∷ rows) c 0) + namedIn c rows
+
+-- for example, a claim, a peek, a void, a bundle of two, an uneven one of two orders and one item line, a claim and a bundle of none; of the last
+-- two numbers in a row those of the bundles alone count
 someRows : List ℕ
-someRows = 1 ∷ 1 ∷ 9 ∷ 0 ∷ 9 ∷ 9 ∷ 2 ∷ 2 ∷ 9 ∷ 3 ∷ 3 ∷ 2 ∷ 1 ∷ 5 ∷ 0 ∷ 3 ∷ 6 ∷ 0 ∷ []
+someRows =
+    1 ∷ 1 ∷ 9 ∷ 9
+    ∷ 0 ∷ 9 ∷ 9 ∷ 9
+    ∷ 2 ∷ 2 ∷ 9 ∷ 9
+    ∷ 3 ∷ 3 ∷ 2 ∷ 2
+    ∷ 3 ∷ 5 ∷ 2 ∷ 1
+    ∷ 1 ∷ 5 ∷ 0 ∷ 0
+    ∷ 3 ∷ 6 ∷ 0 ∷ 0
+    ∷ []
 
-in-turn : callsIn someRows (1007 ∷ 1014 ∷ 1021 ∷ 1028 ∷ [])
-    ≡ claim 1 1007 ∷ peek ∷ void 2 ∷ claim-all 3 (1014 ∷ 1021 ∷ []) ∷ claim 5 1028 ∷ claim-all 6 [] ∷ []
+in-turn : callsIn someRows (columns (1007 ∷ 1014 ∷ 1014 ∷ 1021 ∷ 1035 ∷ 1028 ∷ []) (4 ∷ 1 ∷ 2 ∷ 5 ∷ 3 ∷ []))
+    ≡ claim 1 (entry 1007 4)
+    ∷ peek
+    ∷ void 2
+    ∷ claim-all 3 (columns (1014 ∷ 1014 ∷ []) (1 ∷ 2 ∷ []))
+    ∷ claim-all 5 (columns (1021 ∷ 1035 ∷ []) (5 ∷ []))
+    ∷ claim 5 (entry 1028 3)
+    ∷ claim-all 6 (columns [] [])
+    ∷ []
 unfolding someRows
 in-turn = refl
 
-four-named : namedIn someRows ≡ 4
+six-orders : namedIn ordersColumn someRows ≡ 6
 unfolding someRows
-four-named = refl
+six-orders = refl
+
+five-items : namedIn itemsColumn someRows ≡ 5
+unfolding someRows
+five-items = refl
 
 -- ---- the answers
 

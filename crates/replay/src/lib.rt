@@ -7,19 +7,24 @@ use model::Opened;
 use walsh::Transition;
 ghost use mathlib.Core.Path.{_≡_};
 ghost use mathlib.Core.Bool.{true};
-ghost use Prim.Native.Nat.{_/_};
+ghost use Prim.Native.Nat.{_/_, _<_};
 ghost use lib.Dec.{eqb};
 ghost use lib.ListN.{length, getD};
 ghost use Rattle.bounds.specs.Places.{copied};
 ghost use Rattle.model.specs.Basics.{all};
+ghost use Rattle.model.specs.Entry.{columns};
 ghost use Rattle.walsh.specs.Transition.{none};
 ghost use Rattle.model.specs.Model.{Call, told};
 ghost use Rattle.model.specs.Record.{printingOf, answered, calling};
 ghost use Rattle.replay.specs.Rows.{callWidth, callOf, uses, namedIn, rowWidth, rowOf};
 ghost use Rattle.replay.specs.Replay.{scripted, buffers, callsOf, sizesOf, sizes, Ran, Replays};
 
-// The columns of a call in the script: which call, serial, how many orders it names.
-const CALL: usize = 3;
+// The columns of a call in the script: which call, serial, how many orders it names, how many item lines.
+const CALL: usize = 4;
+
+const ORDERS: usize = 2;
+
+const ITEMS: usize = 3;
 
 // The columns of an answer: number, detail, serial, the 24 cells of the composition, gain and loss.
 const ROW: usize = 29;
@@ -31,12 +36,12 @@ struct Called {
 }
 
 // A peek's answer and its pair, with the record as it is.
-fn look(ledger: Ledger, column: &[u32]) -> Called
+fn look(ledger: Ledger, column: &[u32], items: &[u8]) -> Called
     ensures { λ r.
-        ⌜ (r .claimed ≡ record { answer = answered ledger (now (column .entry)) Call.peek; ledger = ledger })
+        ⌜ (r .claimed ≡ record { answer = answered ledger (columns (now (column .entry)) (now (items .entry))) Call.peek; ledger = ledger })
         × (r .pair ≡ told (printingOf ledger) Call.peek (r .claimed .answer)) ⌝ }
 {
-    let seen = ledger::peek(ledger, column);
+    let seen = ledger::peek(ledger, column, items);
     let composition = seen.composition;
     let answer = Answer {
         number: seen.number,
@@ -70,25 +75,48 @@ fn first_order(orders: &[u32]) -> u32
     orders[0]
 }
 
-// One call with the orders that it names: 0 is a peek, 1 a claim, 3 a bundle, any other a void.
-fn call(ledger: Ledger, column: &mut [u32], which: u64, serial: u64, orders: &[u32]) -> Called
-    ensures { λ r.
-        ⌜ ((r .claimed, now (column .exit)) ≡ calling ledger (now (column .entry)) (callOf which serial (now (orders .entry))))
-        × (r .pair ≡ told (printingOf ledger) (callOf which serial (now (orders .entry))) (r .claimed .answer)) ⌝ }
+// The first of its item lines; 0 where it names none.
+fn first_item(itemlines: &[u8]) -> u8
+    ensures { λ r. ⌜ r ≡ getD (now (itemlines .entry)) 0 0 ⌝ }
 {
-    if which == 0 {
-        return look(ledger, column);
+    if itemlines.len() == 0 {
+        return 0;
     }
-    if which == 1 {
-        return unpaired(ledger::claim(ledger, column, serial, first_order(orders)));
-    }
-    if which == 3 {
-        return unpaired(ledger::claim_all(ledger, column, serial, orders));
-    }
-    unpaired(ledger::void(ledger, column, serial))
+    itemlines[0]
 }
 
-// How many orders of the pool a call uses up, with the number in its row.
+// One call with the orders and the item lines that it names: 0 is a peek, 1 a claim, 3 a bundle, any other a void.
+fn call(
+    ledger: Ledger,
+    column: &mut [u32],
+    items: &mut [u8],
+    which: u64,
+    serial: u64,
+    orders: &[u32],
+    itemlines: &[u8],
+) -> Called
+    ensures { λ r.
+        ⌜ ((r .claimed, columns (now (column .exit)) (now (items .exit)))
+        ≡ calling ledger (columns (now (column .entry)) (now (items .entry)))
+        (callOf which serial (columns (now (orders .entry)) (now (itemlines .entry)))))
+        × (r .pair
+        ≡ told (printingOf ledger) (callOf which serial (columns (now (orders .entry)) (now (itemlines .entry)))) (r .claimed .answer)) ⌝ }
+{
+    if which == 0 {
+        return look(ledger, column, items);
+    }
+    if which == 1 {
+        let order = first_order(orders);
+        let item = first_item(itemlines);
+        return unpaired(ledger::claim(ledger, column, items, serial, order, item));
+    }
+    if which == 3 {
+        return unpaired(ledger::claim_all(ledger, column, items, serial, orders, itemlines));
+    }
+    unpaired(ledger::void(ledger, column, items, serial))
+}
+
+// How many orders of the pool a call uses up, or item lines, with the number in its row.
 fn uses(kind: u64, n: u64) -> usize
     ensures { λ r. ⌜ r ≡ uses kind n ⌝ }
 {
@@ -124,47 +152,64 @@ fn put(answer: Answer, pair: Transition, row: &mut [u64])
     widen(&cells, &mut row[3..27]);
 }
 
-// The calls in turn, each on the record and the column as the one before it left them.
+// The calls in turn, each on the record and the columns as the one before it left them.
 fn run(
     ledger: Ledger,
     script: &[u64],
     orders: &[u32],
+    itemlines: &[u8],
     column: &mut [u32],
+    items: &mut [u8],
     answers: &mut [u64],
 ) -> Ledger
-    requires { ⌜ all (sizes (scripted (now script) (now orders)) (buffers (now column) (now answers))) ≡ true ⌝ }
+    requires { ⌜ all
+        (sizes (scripted (now script) (columns (now orders) (now itemlines))) (buffers (columns (now column) (now items)) (now answers)))
+        ≡ true ⌝ }
     ensures { λ l.
-        ⌜ Ran ledger (callsOf (scripted (now (script .entry)) (now (orders .entry))))
-        (buffers (now (column .entry)) (now (answers .entry))) (buffers (now (column .exit)) (now (answers .exit))) l ⌝ }
+        ⌜ Ran ledger (callsOf (scripted (now (script .entry)) (columns (now (orders .entry)) (now (itemlines .entry)))))
+        (buffers (columns (now (column .entry)) (now (items .entry))) (now (answers .entry)))
+        (buffers (columns (now (column .exit)) (now (items .exit))) (now (answers .exit))) l ⌝ }
 {
     let mut l = ledger;
     let mut next: usize = 0;
+    let mut next_item: usize = 0;
     let mut i: usize = 0;
     while i < script.len() / CALL {
         let from = i * CALL;
         let which = script[from];
-        let end = next + uses(which, script[from + 2]);
-        let done = call(l, column, which, script[from + 1], &orders[next..end]);
+        let end = next + uses(which, script[from + ORDERS]);
+        let end_item = next_item + uses(which, script[from + ITEMS]);
+        let done = call(
+            l,
+            column,
+            items,
+            which,
+            script[from + 1],
+            &orders[next..end],
+            &itemlines[next_item..end_item],
+        );
         let claimed = done.claimed;
         let at = i * ROW;
         let row = at + ROW;
         put(claimed.answer, done.pair, &mut answers[at..row]);
         l = claimed.ledger;
         next = end;
+        next_item = end_item;
         i += 1;
     }
     l
 }
 
-// Whether a pool of so many orders has just those that the calls name.
-fn pool_fits(rows: &[u64], pool: usize) -> bool
-    ensures { λ r. ⌜ r ≡ eqb pool (namedIn (now (rows .entry))) ⌝ }
+// Whether a pool of so many entries has just those that the calls name, by the numbers in that column of their rows.
+fn pool_fits(rows: &[u64], counts: usize, pool: usize) -> bool
+    requires { ⌜ counts < callWidth ⌝ }
+    ensures { λ r. ⌜ r ≡ eqb pool (namedIn counts (now (rows .entry))) ⌝ }
 {
     let mut left = pool;
     let mut k: usize = 0;
     while k < rows.len() / CALL {
         let start = k * CALL;
-        let used = uses(rows[start], rows[start + 2]);
+        let used = uses(rows[start], rows[start + counts]);
         if left < used {
             return false;
         }
@@ -174,10 +219,11 @@ fn pool_fits(rows: &[u64], pool: usize) -> bool
     left == 0
 }
 
-// Whether a script has whole rows, a buffer of so many numbers a row for each call, and a pool of so many orders those that the calls name.
-fn fits(script: &[u64], answers: usize, orders: usize) -> bool
+// Whether a script has whole rows, a buffer of so many numbers a row for each call, and pools of so many orders and item lines those that the calls
+// name.
+fn fits(script: &[u64], answers: usize, orders: usize, itemlines: usize) -> bool
     ensures { λ r.
-        ⌜ r ≡ all (sizesOf (length (now (script .entry))) (length (now (script .entry)) / callWidth) answers orders (namedIn (now (script .entry)))) ⌝ }
+        ⌜ r ≡ all (sizesOf (now (script .entry)) (length (now (script .entry)) / callWidth) answers orders itemlines) ⌝ }
 {
     if script.len() % CALL != 0 {
         return false;
@@ -188,33 +234,40 @@ fn fits(script: &[u64], answers: usize, orders: usize) -> bool
     if answers / ROW != script.len() / CALL {
         return false;
     }
-    pool_fits(script, orders)
+    if !pool_fits(script, ORDERS, orders) {
+        return false;
+    }
+    pool_fits(script, ITEMS, itemlines)
 }
 
-// A list of calls on a newly opened ledger over `column`. The script has a row of three numbers for each call, and the pool `orders` just the orders
-// that the calls name, in turn: a claim one, a bundle as many as its row says. The answers go into the lent buffer, a row of 29 numbers each. A refusal
-// writes nothing.
+// A list of calls on a newly opened ledger over `column` and, beside it, `items`. The script has a row of four numbers for each call, and the pools
+// `orders` and `itemlines` just the orders and the item lines that the calls name, in turn: a claim one of each, a bundle as many of either as its
+// row says. The answers go into the lent buffer, a row of 29 numbers each. A refusal writes nothing.
 pub fn replay(
     upper: &[u8],
     total: u32,
     script: &[u64],
     orders: &[u32],
+    itemlines: &[u8],
     column: &mut [u32],
+    items: &mut [u8],
     answers: &mut [u64],
 ) -> Opened
     ensures { λ r.
-        ⌜ Replays (record { bounds = now (upper .entry); total = total }) (scripted (now (script .entry)) (now (orders .entry)))
-        (buffers (now (column .entry)) (now (answers .entry))) (buffers (now (column .exit)) (now (answers .exit))) r ⌝ }
+        ⌜ Replays (record { bounds = now (upper .entry); total = total })
+        (scripted (now (script .entry)) (columns (now (orders .entry)) (now (itemlines .entry))))
+        (buffers (columns (now (column .entry)) (now (items .entry))) (now (answers .entry)))
+        (buffers (columns (now (column .exit)) (now (items .exit))) (now (answers .exit))) r ⌝ }
 {
-    let opened = ledger::open(upper, total, column);
+    let opened = ledger::open(upper, total, column, items);
     if opened.number != 0 {
         return opened;
     }
-    if !fits(script, answers.len(), orders.len()) {
+    if !fits(script, answers.len(), orders.len(), itemlines.len()) {
         return ledger::unopened(13, 0);
     }
     let first = opened.ledger;
-    let last = run(first, script, orders, column, answers);
+    let last = run(first, script, orders, itemlines, column, items, answers);
     Opened {
         number: 0,
         detail: 0,

@@ -7,11 +7,13 @@ use Prim.Native.Nat.{ℕ, _+_, _≤_, _<_}
 use native.Mathlib.Omega.{arith}
 use lib.ListN.{length, getD}
 use borrow.Author.Tests.{eq-eqb}
-use Rattle.model.specs.Entry.{Entry, voidEntry, orderOf, Lent, entriesIn}
+use Rattle.bounds.specs.Refusal.{refused, firstRefusal}
+use Rattle.bounds.proofs.Chains.{Accepts}
+use Rattle.model.specs.Entry.{Entry, voidEntry, Lent, entriesIn}
 use Rattle.model.specs.Printing.{Printing, size, serialAt}
-use Rattle.model.specs.Model.{Call, badBundle, refusedWith, answer}
+use Rattle.model.specs.Model.{Call, badBundle, orderChecks, refusedWith, answer}
 use Rattle.model.specs.declared.Answer.{Answer}
-use Rattle.model.proofs.Answers.{order-none, order-good, placed, placed-high, placed-next, claim-none, claim-refused, claim-again}
+use Rattle.model.proofs.Answers.{placed, placed-high, placed-next, claim-none, claim-refused, claim-again}
 use Rattle.model.proofs.Calls.{InTurn, in-turn, accepting}
 use Rattle.model.proofs.Bundles.{orderAt, linesAt, Before, lines-at, turn-at, good-take, all-taken, fails-at, fails-first}
 use Rattle.integrity.specs.Again.{firstAgain, placeAgain}
@@ -27,14 +29,15 @@ module _ (p : Printing) (l : List Entry) (s : ℕ) (b : Lent) (small : badBundle
   -- ---- the first take
 
   module _ (some : length es ≢ 0) where
-    pub first-unordered : orderOf (getD es 0 voidEntry) ≡ 0 → whole ≡ refusedWith 17 0
-    first-unordered z =
-        let e = claim-none p l s (getD es 0 voidEntry) 17 0 (omega arith) (order-none (getD es 0 voidEntry) z) in
-        fails-first p l s b small some (rw e (omega arith)) ∙ e
+    -- its order is refused by its own checks
+    pub first-unordered : (n d : ℕ) → n ≢ 0 → firstRefusal (orderChecks (getD es 0 voidEntry)) ≡ refused n d → whole ≡ refusedWith n d
+    first-unordered n d z q =
+        let e = claim-none p l s (getD es 0 voidEntry) n d z q in
+        fails-first p l s b small some (rw e z) ∙ e
 
-    pub first-misplaced : orderOf (getD es 0 voidEntry) ≢ 0 → placed p l s .number ≢ 0 → whole ≡ placed p l s
+    pub first-misplaced : Accepts (orderChecks (getD es 0 voidEntry)) → placed p l s .number ≢ 0 → whole ≡ placed p l s
     first-misplaced n f =
-        let e = claim-refused p l s (getD es 0 voidEntry) (order-good (getD es 0 voidEntry) n) f in
+        let e = claim-refused p l s (getD es 0 voidEntry) n f in
         fails-first p l s b small some (rw e f) ∙ e
 
   -- ---- in turn
@@ -46,16 +49,16 @@ module _ (p : Printing) (l : List Entry) (s : ℕ) (b : Lent) (small : badBundle
     pub serial-inside : s ≤ size p
     serial-inside = omega (arith, accepted-place .serial, accepted-place .inside)
 
-    -- the takes before place k have orders, serials are left for them, and they stand in no earlier line
+    -- the takes before place k have orders that pass their own checks, serials are left for them, and they stand in no earlier line
     pub record Passed (k : ℕ) : Type 0 where
       pub most : k ≤ length es
-      pub orders : (j : ℕ) → j < k → orderOf (getD es j voidEntry) ≢ 0
+      pub orders : (j : ℕ) → j < k → Accepts (orderChecks (getD es j voidEntry))
       pub serials : (j : ℕ) → j < k → s + j ≤ size p
       pub new : k ≤ firstAgain l es
 
     before : (k : ℕ) → Passed k → Before p l s es k
     before k h j i =
-        good-take p l s es j (omega (arith, i, h .most)) (accepted-place .serial) (h .serials j i) (order-good _ (h .orders j i))
+        good-take p l s es j (omega (arith, i, h .most)) (accepted-place .serial) (h .serials j i) (h .orders j i)
         (again-new l es j (omega (arith, i, h .new)))
 
     pub all-passed : (k : ℕ) → length es ≤ k → Passed k → whole ≡ placed p l s
@@ -71,14 +74,14 @@ module _ (p : Printing) (l : List Entry) (s : ℕ) (b : Lent) (small : badBundle
       by-take : (n d : ℕ) → n ≢ 0 → answer p lines (Call.claim (s + k) e) ≡ refusedWith n d → whole ≡ refusedWith n d
       by-take n d some q = fails-at p l s b small k i (before k h) (rw q some) ∙ q
 
-      pub unordered : orderOf e ≡ 0 → whole ≡ refusedWith 17 0
-      unordered q = by-take 17 0 (omega arith) (claim-none p lines (s + k) e 17 0 (omega arith) (order-none e q))
+      pub unordered : (n d : ℕ) → n ≢ 0 → firstRefusal (orderChecks e) ≡ refused n d → whole ≡ refusedWith n d
+      unordered n d z q = by-take n d z (claim-none p lines (s + k) e n d z q)
 
-      module _ (good : orderOf e ≢ 0) where
+      module _ (good : Accepts (orderChecks e)) where
         pub none-left : size p < s + k → whole ≡ refusedWith 6 0
         none-left m =
             let high = placed-high p lines (s + k) m in
-            by-take 6 0 (omega arith) (claim-refused p lines (s + k) e (order-good e good) (rw high (omega arith)) ∙ high)
+            by-take 6 0 (omega arith) (claim-refused p lines (s + k) e good (rw high (omega arith)) ∙ high)
 
         -- the line that an order stands in is one before it
         pub line-before : k ≡ firstAgain l es → placeAgain l es < length l + k
@@ -92,5 +95,5 @@ module _ (p : Printing) (l : List Entry) (s : ℕ) (b : Lent) (small : badBundle
             let there = placed-next p lines (s + k) (omega (arith, turn)) m turn in
             let found = rw (← q) at (again-here l es (omega (arith, i, q))) in
             by-take 20 _ (omega arith)
-            (claim-again p lines (s + k) e (order-good e good) (ap (λ (a : Answer). a .number) there) (rw (found .0) at (found .1))
+            (claim-again p lines (s + k) e good (ap (λ (a : Answer). a .number) there) (rw (found .0) at (found .1))
             ∙ ap (λ (n : ℕ). refusedWith 20 (serialAt p n)) (sym (found .0)))

@@ -5,11 +5,18 @@ ghost use lib.ListN.{length};
 // What room holds before something is stored there: not 0, so that what a call leaves as it was shows.
 const FILL: u32 = 7;
 
-// For a column, and for the pool of a script, in which bundles name several orders a call.
+// For an order column, and for the orders of a script's pool, in which bundles name several a call.
 pub(crate) fn words() -> [u32; 2048]
     ensures { λ r. ⌜ 2048 ≡ length r ⌝ }
 {
     [FILL; 2048]
+}
+
+// For an item column, and for the item lines of a script's pool.
+pub(crate) fn bytes() -> [u8; 2048]
+    ensures { λ r. ⌜ 2048 ≡ length r ⌝ }
+{
+    [7; 2048]
 }
 
 // For 2,048 rows of answers, and for a script of as many calls and more.

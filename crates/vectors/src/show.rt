@@ -66,6 +66,12 @@ pub(crate) fn words(list: &[u32]) {
     end();
 }
 
+pub(crate) fn listed(list: &[u8]) {
+    first(list.len() as u64);
+    bytes(list);
+    end();
+}
+
 pub(crate) fn longs(list: &[u64]) {
     first(list.len() as u64);
     let mut i = 0;

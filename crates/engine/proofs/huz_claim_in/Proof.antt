@@ -4,10 +4,11 @@ use mathlib.Core.Bool.{not}
 use mathlib.Core.List.{List, [], _∷_}
 use Prim.Native.Nat.{ℕ}
 use lib.Dec.{T, eqb}
-use mir.Syntax.{Width, w32, w64}
+use mir.Syntax.{Width, w8, w32, w64}
 use contract.Running.{givenOf, tables, tablesOf}
 use denote.Triple.Spec.{tripleOf}
 use denote.Triple.Table.{entered, cited}
+use Rattle.model.specs.Entry.{entry}
 use Rattle.model.specs.Model.{Call}
 use Rattle.ledger.proofs.claim.Symbol as core-def
 use Rattle.ledger.proofs.claim.Symbol.{name as #ledger·claim}
@@ -19,16 +20,16 @@ use Rattle.engine.proofs.huz_claim_in as here
 use Rattle.engine.proofs.huz_claim_in.Statement as stated
 use Rattle.engine.proofs.huz_claim_in.Code as code
 
--- serial and order, and the call that is promised of them
+-- serial, order and item line, and the call that is promised of them
 abbrev numbers : List Width
-numbers = w64 ∷ w32 ∷ []
+numbers = w64 ∷ w32 ∷ w8 ∷ []
 
 abbrev promised : Numbers numbers → Call
-promised ns = Call.claim (ns .0) (ns .1 .0)
+promised ns = Call.claim (ns .0) (entry (ns .1 .0) (ns .1 .1 .0))
 
 -- what the program chooses: what it asks the core for, and where it stores the record that comes back
 abbrev asks : Sources numbers
-asks = (passed, (passed, tt))
+asks = (passed, (passed, (passed, tt)))
 
 abbrev accepted : Test
 accepted = is 0 tt

@@ -19,7 +19,7 @@ use Rattle.engine.proofs.huz_void_in as here
 use Rattle.engine.proofs.huz_void_in.Statement as stated
 use Rattle.engine.proofs.huz_void_in.Code as code
 
--- the serial, and the call that is promised of them
+-- the serial, and the call that is promised of it
 abbrev numbers : List Width
 numbers = w64 ∷ []
 

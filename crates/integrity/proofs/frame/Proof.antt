@@ -1,5 +1,6 @@
 -- `integrity::frame` meets its contract: each way out is a law of proofs/Checks.antt.
 use mathlib.Core.Path.{sym, _∙_}
+use native.Mathlib.Omega.{arith}
 use lib.Arith.{le-zero}
 use borrow.Author.Needs.{needs}
 use borrow.Author.Tests.{not-true, not-false}
@@ -21,15 +22,16 @@ returns-3 : tie.Need-returns-3
 returns-3 c = too-many _ _ (c .unseen3 .ensures) (known (c .before .before)) (c .before .if3 .taken)
 
 returns-4 : tie.Need-returns-4
-returns-4 c = no-room _ _ (c .unseen4 .ensures) (known (c .before .before .before)) (c .before .if4 .taken)
+returns-4 c =
+    no-room _ _ (c .unseen4 .ensures) (known (c .before .before .before .before)) (omega (arith, c .before .before .lesser .ensures, c .before .if4 .taken))
 
 returns-5 : tie.Need-returns-5
-returns-5 c = past-end _ _ (c .unseen5 .ensures) (known (c .before .before .before .before)) (c .before .if5 .taken)
+returns-5 c = past-end _ _ (c .unseen5 .ensures) (known (c .before .before .before .before .before)) (c .before .if5 .taken)
 
 returns-6 : tie.Need-returns-6
 returns-6 c =
     let e = c .before .before in
-    other-next _ _ (c .unseen6 .ensures) (known (e .before .before .before .before .before .before))
+    other-next _ _ (c .unseen6 .ensures) (known (e .before .before .before .before .before .before .before))
     (sym (e .equal .ensures) ∙ not-true _ (c .before .if6 .taken))
 
 returns-7 : tie.Need-returns-7
@@ -39,7 +41,7 @@ returns-8 : tie.Need-returns-8
 returns-8 c =
     let next = c .before .before in
     let inside = next .before .before .before .before in
-    frame-passes _ _ (known (inside .before .before .before)) (inside .before .before .if3 .left) (inside .before .if4 .left) (inside .if5 .left)
+    frame-passes _ _ (known (inside .before .before .before .before)) (inside .before .before .before .if3 .left) (omega (arith, inside .before .before .lesser .ensures, inside .before .if4 .left)) (inside .if5 .left)
     (sym (next .before .equal .ensures) ∙ not-false _ (next .if6 .left)) (sym (c .before .packed .ensures) ∙ not-false _ (c .if7 .left))
 
 pub frame-spec : {M : Type 1} → statement M
@@ -55,13 +57,14 @@ frame-spec =
     (λ c κs. search needs)
     returns-3
     (λ c κs. search needs)
+    (λ c κs. search needs)
     returns-4
     (λ c κs. search needs)
     returns-5
     (λ c κs. search needs)
     (λ c κs. search needs)
     returns-6
-    (λ c κs. known (c .before .before .before .before .before .before .before) .few)
+    (λ c κs. known (c .before .before .before .before .before .before .before .before) .few)
     (λ c κs. search needs)
     returns-7
     returns-8)

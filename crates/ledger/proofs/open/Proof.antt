@@ -1,5 +1,6 @@
 -- `ledger::open` meets its contract.
 use mathlib.Core.Path.{_∙_}
+use native.Mathlib.Omega.{arith}
 use lib.Arith.{le-zero}
 use borrow.Author.Needs.{needs}
 use Rattle.ledger.proofs.Openings.{opening-edition, opening-many, opening-short, opening-good}
@@ -16,15 +17,16 @@ returns-2 c =
 
 returns-3 : tie.Need-returns-3
 returns-3 c =
-    let e = c .before .before .before .before in
+    let e = c .before .before .before .before .before in
     c .unopened3 .ensures
-    ∙ opening-short _ _ (e .before .before .locate .ensures) (le-zero (e .if1 .left)) (c .before .before .if2 .left) (c .before .if3 .taken)
+    ∙ opening-short _ _ (e .before .before .locate .ensures) (le-zero (e .if1 .left)) (c .before .before .before .if2 .left)
+    (omega (arith, c .before .before .lesser .ensures, c .before .if3 .taken))
 
 returns-4 : tie.Need-returns-4
 returns-4 c =
-    let e = c .before .before .before .before .before in
-    opening-good _ _ (e .before .before .locate .ensures) (le-zero (e .if1 .left)) (c .before .before .before .if2 .left) _
-    (c .before .before .if3 .left) (c .«record» .ensures)
+    let e = c .before .before .before .before .before .before in
+    opening-good _ _ (e .before .before .locate .ensures) (le-zero (e .if1 .left)) (c .before .before .before .before .if2 .left) _
+    (omega (arith, c .before .before .before .lesser .ensures, c .before .before .if3 .left)) (c .«record» .ensures)
 
 pub open-spec : {M : Type 1} → statement M
 open-spec =
@@ -35,6 +37,7 @@ open-spec =
     returns
     (λ c κs. search needs)
     returns-2
+    (λ c κs. search needs)
     (λ c κs. search needs)
     returns-3
     (λ c κs. search needs)

@@ -8,7 +8,7 @@ use Rattle.replay.proofs.look.Tie as tie
 
 returns : tie.Need-returns
 returns c =
-    let l = c .before .before .before .args .ledger in
+    let l = c .before .before .before .before .args .ledger in
     let e = c .before .peek .ensures in
     (ap (λ (a : Answer). record { answer = a; ledger = l }) (peeking-answer _ _ _ _ e), peeking-pair _ _ _ _ e)
 

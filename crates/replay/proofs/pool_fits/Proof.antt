@@ -14,23 +14,23 @@ use Rattle.replay.proofs.pool_fits.Statement.{statement}
 use Rattle.replay.proofs.pool_fits.Tie as tie
 
 abbrev Inv-loop : tie.InvT-loop
-Inv-loop rows pool left₀ k₀ left k = pool + namedIn (drop (k * callWidth) rows) ≡ left + namedIn rows
+Inv-loop rows counts pool left₀ k₀ left k = pool + namedIn counts (drop (k * callWidth) rows) ≡ left + namedIn counts rows
 
 abbrev μ-loop : tie.MeasureT-loop
-μ-loop rows pool left₀ k₀ left k = length rows / callWidth - k
+μ-loop rows counts pool left₀ k₀ left k = length rows / callWidth - k
 
 returns : tie.Need-returns Inv-loop μ-loop
 returns c =
     let test = c .before .before .before .before in
     let a = test .before .before .before .args in
-    let next = named-next (now (a .rows)) (test .before .loop .k) (omega (arith, test .loop-test .taken)) in
-    sym (ne-eqb (a .pool) (namedIn (now (a .rows))) (λ e. absurd (omega (arith, e, next, test .before .loop .inv, c .before .uses .ensures, c .if1 .taken))))
+    let next = named-next (now (a .rows)) (test .before .loop .k) (omega (arith, test .loop-test .taken)) (a .counts) in
+    sym (ne-eqb (a .pool) (namedIn (a .counts) (now (a .rows))) (λ e. absurd (omega (arith, e, next, test .before .loop .inv, c .before .uses .ensures, c .if1 .taken))))
 
 loop-again : tie.Need-loop-again Inv-loop μ-loop
 loop-again c =
     let test = c .before .before .before .before in
     let a = test .before .before .before .args in
-    let next = named-next (now (a .rows)) (test .before .loop .k) (omega (arith, test .loop-test .taken)) in
+    let next = named-next (now (a .rows)) (test .before .loop .k) (omega (arith, test .loop-test .taken)) (a .counts) in
     omega (arith, next, test .before .loop .inv, c .before .uses .ensures, c .if1 .left)
 
 -- nothing is left just where the pool has what is named
@@ -45,8 +45,8 @@ returns-2 c =
     let a = c .before .before .before .args in
     let rows = now (a .rows) in
     let over = length-drop (at .k * callWidth) rows in
-    let none = named-none (drop (at .k * callWidth) rows) (omega (arith, over, c .loop-test .left)) in
-    none-left (at .left) (a .pool) (namedIn rows) (omega (arith, at .inv, none))
+    let none = named-none (a .counts) (drop (at .k * callWidth) rows) (omega (arith, over, c .loop-test .left)) in
+    none-left (at .left) (a .pool) (namedIn (a .counts) rows) (omega (arith, at .inv, none))
 
 pub pool-fits-spec : {M : Type 1} → statement M
 pool-fits-spec =

@@ -8,6 +8,7 @@ use lib.Seq.{length-take-le}
 use denote.Ref.{now}
 use borrow.Author.Needs.{needs}
 use borrow.Author.Tests.{not-true, not-false}
+use Rattle.model.specs.Entry.{columns}
 use Rattle.model.specs.Printing.{size}
 use Rattle.model.specs.Record.{printingOf, consistent}
 use Rattle.model.proofs.Records.{parts, answered-16}
@@ -17,10 +18,10 @@ use Rattle.integrity.proofs.Checks.{seen-fits, seen-count}
 use Rattle.reply.proofs.peek.Statement.{statement}
 use Rattle.reply.proofs.peek.Tie as tie
 
-fits : (c : tie.Else1) → let s = c .before .before .before .before in consistent (s .args .ledger) (now (s .args .orders)) ≡ true
+fits : (c : tie.Else1) → let a = c .before .before .before .before .before .args in consistent (a .ledger) (columns (now (a .orders)) (now (a .items))) ≡ true
 fits c = sym (seen-fits _ (c .before .before .examine .ensures)) ∙ not-false _ (c .if1 .left)
 
-left : (c : tie.Else2) → let s = c .before .before .before .before .before .before .before in
+left : (c : tie.Else2) → let s = c .before .before .before .before .before .before .before .before in
     s .args .ledger .entries < size (printingOf (s .args .ledger))
 left c =
     let e = c .before .before .before in
@@ -45,14 +46,14 @@ long s = search needs
 long-next : (s : tie.Start) → length (s .args .ledger .next) ≡ 24
 long-next s = search needs
 
-few : (c : tie.Else2) → let s = c .before .before .before .before .before .before .before in s .args .ledger .bounds .parts ≤ 24
+few : (c : tie.Else2) → let s = c .before .before .before .before .before .before .before .before in s .args .ledger .bounds .parts ≤ 24
 few c = parts _ _ (fits (c .before .before .before)) .few
 
-few-upper : (c : tie.Else2) → let b = c .before .before .before .before .before .before .before .args .ledger .bounds in b .parts ≤ length (b .upper)
-few-upper c = omega (arith, few c, long (c .before .before .before .before .before .before .before))
+few-upper : (c : tie.Else2) → let b = c .before .before .before .before .before .before .before .before .args .ledger .bounds in b .parts ≤ length (b .upper)
+few-upper c = omega (arith, few c, long (c .before .before .before .before .before .before .before .before))
 
-few-next : (c : tie.Else2) → let l = c .before .before .before .before .before .before .before .args .ledger in l .bounds .parts ≤ length (l .next)
-few-next c = omega (arith, few c, long-next (c .before .before .before .before .before .before .before))
+few-next : (c : tie.Else2) → let l = c .before .before .before .before .before .before .before .before .args .ledger in l .bounds .parts ≤ length (l .next)
+few-next c = omega (arith, few c, long-next (c .before .before .before .before .before .before .before .before))
 
 add-serial : tie.Need-add-serial
 add-serial c = omega (arith, left (c .before), parts _ _ (fits (c .before .before .before .before)) .small)

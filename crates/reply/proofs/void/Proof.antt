@@ -4,13 +4,14 @@ use mathlib.Core.Bool.{true}
 use denote.Ref.{now}
 use borrow.Author.Needs.{needs}
 use borrow.Author.Tests.{not-true, not-false}
+use Rattle.model.specs.Entry.{columns}
 use Rattle.model.specs.Record.{consistent}
 use Rattle.model.proofs.Records.{answered-16, answered-by}
 use Rattle.integrity.proofs.Checks.{seen-fits, seen-count}
 use Rattle.reply.proofs.void.Statement.{statement}
 use Rattle.reply.proofs.void.Tie as tie
 
-fits : (c : tie.Else1) → let s = c .before .before .before .before in consistent (s .args .ledger) (now (s .args .orders)) ≡ true
+fits : (c : tie.Else1) → let a = c .before .before .before .before .before .args in consistent (a .ledger) (columns (now (a .orders)) (now (a .items))) ≡ true
 fits c = sym (seen-fits _ (c .before .before .examine .ensures)) ∙ not-false _ (c .if1 .left)
 
 returns : tie.Need-returns

@@ -5,15 +5,14 @@ use native.Mathlib.Omega.{arith}
 use lib.ListN.{length, take}
 use denote.Ref.{now}
 use borrow.Author.Needs.{needs}
-use Rattle.model.specs.Basics.{howMany}
-use Rattle.model.specs.Entry.{isVoided, sameOrder, voidedIn}
-use Rattle.integrity.proofs.Places.{many-more, many-all}
+use Rattle.walsh.specs.Tests.{times}
+use Rattle.integrity.proofs.Places.{equals, many-more, many-all}
 use Rattle.integrity.proofs.pass.count.Statement.{statement}
 use Rattle.integrity.proofs.pass.count.Tie as tie
 
 abbrev Inv-loop : tie.InvT-loop
 Inv-loop block order zeros₀ hits₀ i₀ zeros hits i =
-    (zeros ≡ voidedIn (take i block)) × (hits ≡ howMany (sameOrder order) (take i block)) × (zeros ≤ i) × (hits ≤ i) × (i ≤ length block)
+    (zeros ≡ times 0 (take i block)) × (hits ≡ times order (take i block)) × (zeros ≤ i) × (hits ≤ i) × (i ≤ length block)
 
 abbrev μ-loop : tie.MeasureT-loop
 μ-loop block order zeros₀ hits₀ i₀ zeros hits i = length block - i
@@ -23,8 +22,8 @@ loop-again c =
     let at = c .before .before .before .before .loop in
     let a = c .before .before .before .before .before .before .args in
     let l = c .before .before .before .loop-test .taken in (
-      many-more isVoided (now (a .block)) (at .i) _ _ 0 l (at .inv .0) (c .before .one .ensures .0),
-      many-more (sameOrder (a .order)) (now (a .block)) (at .i) _ _ 0 l (at .inv .1) (c .one2 .ensures .0),
+      many-more (equals 0) (now (a .block)) (at .i) _ _ 0 l (at .inv .0) (c .before .one .ensures .0),
+      many-more (equals (a .order)) (now (a .block)) (at .i) _ _ 0 l (at .inv .1) (c .one2 .ensures .0),
       omega (arith, c .before .one .ensures .1),
       omega (arith, c .one2 .ensures .1),
       omega arith,
@@ -35,8 +34,8 @@ returns c =
     let at = c .before .loop in
     let a = c .before .before .before .args in
     let l = c .loop-test .left in (
-      many-all isVoided (now (a .block)) (at .i) _ l (at .inv .0),
-      many-all (sameOrder (a .order)) (now (a .block)) (at .i) _ l (at .inv .1),
+      many-all (equals 0) (now (a .block)) (at .i) _ l (at .inv .0),
+      many-all (equals (a .order)) (now (a .block)) (at .i) _ l (at .inv .1),
     )
 
 pub count-spec : {M : Type 1} → statement M

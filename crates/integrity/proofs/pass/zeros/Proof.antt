@@ -1,45 +1,45 @@
--- `integrity::pass::zeros` meets its contract: an odd number of lines has one more than its halves.
-use Prim.Native.Nat.{_+_, _/_, _≤_}
+-- `integrity::pass::zeros` meets its contract: the first i orders are counted.
+use mathlib.Core.Path.{_≡_, refl}
+use Prim.Native.Nat.{_-_, _≤_}
 use native.Mathlib.Omega.{arith}
-use lib.ListN.{length}
+use lib.ListN.{length, take}
 use denote.Ref.{now}
 use borrow.Author.Needs.{needs}
-use Rattle.model.specs.Entry.{isVoided}
-use Rattle.integrity.proofs.Places.{many-more, many-all, many-few}
+use Rattle.walsh.specs.Tests.{times}
+use Rattle.integrity.proofs.Places.{equals, many-more, many-all}
 use Rattle.integrity.proofs.pass.zeros.Statement.{statement}
 use Rattle.integrity.proofs.pass.zeros.Tie as tie
 
--- so many lines have both halves
-even : (c : tie.After-halves) → let n = length (now (c .before .before .args .lines)) in c .halves .result ≤ n / 2 + n / 2
-even c = many-few isVoided (now (c .before .before .args .lines)) _ _ (c .halves .ensures)
+abbrev Inv-loop : tie.InvT-loop
+Inv-loop orders voided₀ i₀ voided i = (voided ≡ times 0 (take i orders)) × (voided ≤ i) × (i ≤ length orders)
 
-add-result : tie.Need-add-result
-add-result c =
-    let h = c .before .before .before in
-    omega (arith, even h, c .one .ensures .1, h .before .before .pre, c .before .before .if1 .taken)
+abbrev μ-loop : tie.MeasureT-loop
+μ-loop orders voided₀ i₀ voided i = length orders - i
 
-returns : tie.Need-returns
+loop-again : tie.Need-loop-again Inv-loop μ-loop
+loop-again c =
+    let at = c .before .before .before .loop in
+    let a = c .before .before .before .before .before .args in
+    let l = c .before .before .loop-test .taken in
+    (many-more (equals 0) (now (a .orders)) (at .i) _ _ 0 l (at .inv .0) (c .one .ensures .0), omega (arith, c .one .ensures .1), omega arith)
+
+returns : tie.Need-returns Inv-loop μ-loop
 returns c =
-    let h = c .before .before .before in
-    let lines = now (h .before .before .args .lines) in
-    let n = length lines in
-    many-all isVoided lines (n / 2 + n / 2 + 1) _ (omega arith)
-    (many-more isVoided lines (n / 2 + n / 2) _ _ 0 (c .before .before .if1 .taken) (h .halves .ensures) (c .one .ensures .0))
-
-returns-2 : tie.Need-returns-2
-returns-2 c = many-all isVoided _ _ _ (c .if1 .left) (c .before .halves .ensures)
+    let at = c .before .loop in
+    many-all (equals 0) (now (c .before .before .before .args .orders)) (at .i) _ (c .loop-test .left) (at .inv .0)
 
 pub zeros-spec : {M : Type 1} → statement M
 zeros-spec =
     tie.close
     (tie.spec
+    Inv-loop
+    μ-loop
+    (λ c. (refl, omega arith, omega arith))
+    (λ c. search needs)
+    (λ c. search needs)
     (λ c κs. search needs)
+    (λ c. omega (arith, c .one .ensures .1))
     (λ c. search needs)
     (λ c. search needs)
-    (λ c. search needs)
-    (λ c κs. search needs)
-    add-result
-    (λ c. search needs)
-    returns
-    (λ c. search needs)
-    returns-2)
+    loop-again
+    returns)

@@ -6,10 +6,11 @@ use Rattle.vectors.proofs.interleave.scripted.Tie as tie
 
 returns : tie.Need-returns
 returns c =
-    let size = c .before .before .before .before .before .before .before .before .before .before .before .before .before .before .before .before .before .before .before in
-    let o = size .before .before in
+    let size = c .before .before .before .before .before .before .before .before .before .before .before .before .before .before .before .before .before .before .before .before .before .before .before .before .before .before in
+    let i = size .before .before in
+    let o = i .before .before .before in
     let k = o .before .before .before in
-    omega (arith, k .longs3 .ensures, o .words2 .ensures, size .number .ensures)
+    omega (arith, k .longs3 .ensures, o .words2 .ensures, i .list .ensures .0, size .number .ensures)
 
 pub scripted-spec : {M : Type 1} → statement M
 scripted-spec =
@@ -18,10 +19,6 @@ scripted-spec =
     (λ c κs. search needs)
     (λ c κs. search needs)
     (λ c κs. search needs)
-    (λ c. search needs)
-    (λ c κs. search needs)
-    (λ c. search needs)
-    (λ c κs. search needs)
     (λ c κs. search needs)
     (λ c. search needs)
     (λ c κs. search needs)
@@ -30,8 +27,19 @@ scripted-spec =
     (λ c. search needs)
     (λ c κs. search needs)
     (λ c κs. search needs)
+    (λ c. search needs)
+    (λ c κs. search needs)
+    (λ c. search needs)
+    (λ c κs. search needs)
+    (λ c. search needs)
+    (λ c κs. search needs)
+    (λ c. search needs)
     (λ c κs. search needs)
     (λ c κs. search needs)
     (λ c κs. search needs)
+    (λ c κs. search needs)
+    (λ c κs. search needs)
+    (λ c κs. search needs)
+    (λ c. search needs)
     (λ c. search needs)
     returns)

@@ -6,12 +6,11 @@ use Rattle.vectors.proofs.record.call.Tie as tie
 
 returns : tie.Need-returns
 returns c =
-    let orders = c .before .before .before .before .before .before .before .before .before .before .before .before .before .before .before .before in
-    let serial = orders .before .before in
-    let which = serial .before in
-    let column = which .before .before in
+    let rest = c .before .before .before .before .before .before .before .before .before .before in
+    let items = rest .before .before .before .before .before .before .before .before .before .before .before .before .before .before .before .before .before in
+    let column = items .before .before .before in
     let r = column .before .before in
-    omega (arith, r .record .ensures, column .words3 .ensures, which .number .ensures, serial .number2 .ensures, orders .words4 .ensures)
+    omega (arith, r .record .ensures, column .words2 .ensures, items .list .ensures .0, rest .called-with .ensures)
 
 pub call-spec : {M : Type 1} → statement M
 call-spec =
@@ -22,15 +21,16 @@ call-spec =
     (λ c κs. search needs)
     (λ c. search needs)
     (λ c κs. search needs)
-    (λ c κs. search needs)
-    (λ c κs. search needs)
     (λ c. search needs)
     (λ c κs. search needs)
     (λ c. search needs)
     (λ c κs. search needs)
-    (λ c κs. search needs)
-    (λ c κs. search needs)
     (λ c. search needs)
+    (λ c κs. search needs)
+    (λ c κs. search needs)
+    (λ c κs. search needs)
+    (λ c κs. search needs)
+    (λ c κs. search needs)
     (λ c κs. search needs)
     (λ c κs. search needs)
     (λ c κs. search needs)
