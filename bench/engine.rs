@@ -20,16 +20,7 @@ mod c {
         pub fn huz_major_code(u: Bounds, n: usize, r: u32, given: *const u8, len: usize, out: *mut u8, out_len: usize) -> Refusal;
         pub fn huz_open(u: Bounds, n: usize, r: u32, orders: *const u32, len: usize, items: *const u8, items_len: usize) -> Opened;
         pub fn huz_peek(ledger: Ledger, orders: *const u32, len: usize, items: *const u8, items_len: usize) -> Peeked;
-        pub fn huz_claim(
-            ledger: Ledger,
-            orders: *mut u32,
-            len: usize,
-            items: *mut u8,
-            items_len: usize,
-            serial: u64,
-            order: u32,
-            item: u8,
-        ) -> Claimed;
+        pub fn huz_claim(l: Ledger, orders: *mut u32, len: usize, items: *mut u8, items_len: usize, serial: u64, order: u32, item: u8) -> Claimed;
         pub fn huz_void(ledger: Ledger, orders: *mut u32, len: usize, items: *mut u8, items_len: usize, serial: u64) -> Claimed;
         pub fn huz_claim_all(
             ledger: Ledger,
