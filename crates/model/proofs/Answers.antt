@@ -10,6 +10,8 @@ use lib.ListN.{length, getD}
 use borrow.Author.Tests.{lt-ltb, le-ltb, eqb-true, eq-eqb, ne-eqb}
 use Rattle.walsh.proofs.Cases.{on-test, on-less}
 use Rattle.digits.specs.Digits.{weightedSum, Passes}
+use Rattle.digits.specs.Slips.{Mistyped}
+use Rattle.digits.proofs.Slips.{one-digit}
 use Rattle.bounds.specs.Refusal.{refused, firstRefusal}
 use Rattle.bounds.specs.Places.{isOutside}
 use Rattle.bounds.specs.declared.Refusal.{Refusal}
@@ -35,6 +37,13 @@ order-none e z = refusal-here (noOrder e) _ (is-voided e z)
 
 pub order-mistyped : (e : Entry) → orderOf e ≢ 0 → ¬ Passes (orderOf e) → firstRefusal (orderChecks e) ≡ refused 26 0
 order-mistyped e n w = refusal-next (noOrder e) _ (not-voided e n) ∙ refusal-here (mistyped e) _ (rw (ne-eqb (weightedSum (orderOf e) % 10) 0 w))
+
+-- a number that passes, with one digit mistyped: it is not 0 either, which passes
+pub order-slip : (e d : Entry) (k : ℕ) → Passes (orderOf e) → Mistyped (orderOf e) (orderOf d) k → firstRefusal (orderChecks d) ≡ refused 26 0
+unfolding weightedSum
+order-slip e d k s m =
+    let wrong = one-digit (orderOf e) (orderOf d) k m s in
+    order-mistyped d (λ z. wrong (rw z)) wrong
 
 -- 17 and 26 refuse nothing
 numbered : (e : Entry) → orderOf e ≢ 0 → Passes (orderOf e) → firstRefusal (orderChecks e) ≡ firstRefusal (badItem e ∷ [])
