@@ -16,7 +16,7 @@ digitAt n k = n / 10 ^ k % 10
 abbrev pub weightAt : ℕ → ℕ
 weightAt k = cond (isOdd k) 3 1
 
--- document 01: "An order number has 32 bits", so ten places are all (`all-digits` in proofs/Slips)
+-- document 01: "An order number has 32 bits", so ten places are all (`all-digits` in proofs/Places)
 abbrev pub places : ℕ
 places = 10
 

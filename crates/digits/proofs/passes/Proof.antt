@@ -12,44 +12,6 @@ use Rattle.digits.specs.Digits.{weightAt, places}
 use Rattle.digits.proofs.Places.{quotients}
 use Rattle.digits.proofs.passes.Statement.{statement}
 use Rattle.digits.proofs.passes.Tie as tie
-use Rattle.digits.proofs.passes.Reads as reads
-use Rattle.digits.proofs.passes.Lts as lts
-
--- src/lib.rt:11:16
-add-once : tie.Need-add-once
-add-once c = search needs
-
--- src/lib.rt:11:16
-add-once-2 : tie.Need-add-once-2
-add-once-2 c = search needs
-
--- src/lib.rt:11:16
-add-once-3 : tie.Need-add-once-3
-add-once-3 c = search needs
-
--- src/lib.rt:11:16
-add-once-4 : tie.Need-add-once-4
-add-once-4 c = search needs
-
--- src/lib.rt:12:18
-add-thrice : tie.Need-add-thrice
-add-thrice c = search needs
-
--- src/lib.rt:12:18
-add-thrice-2 : tie.Need-add-thrice-2
-add-thrice-2 c = search needs
-
--- src/lib.rt:12:18
-add-thrice-3 : tie.Need-add-thrice-3
-add-thrice-3 c = search needs
-
--- src/lib.rt:12:18
-add-thrice-4 : tie.Need-add-thrice-4
-add-thrice-4 c = search needs
-
--- src/lib.rt:13:13
-mul-result : tie.Need-mul-result
-mul-result c = search needs
 
 -- no quotient is larger than the number
 small : (n a b c d e : ℕ) → a ≤ n → b ≤ n → c ≤ n → d ≤ n → e ≤ n → a + b + c + d + e ≤ 5 * n
@@ -78,14 +40,14 @@ pub passes-spec : {M : Type 1} → statement M
 passes-spec =
     tie.close
     (tie.spec
-    add-once
-    add-once-2
-    add-once-3
-    add-once-4
-    add-thrice
-    add-thrice-2
-    add-thrice-3
-    add-thrice-4
-    mul-result
+    (λ c. search needs)
+    (λ c. search needs)
+    (λ c. search needs)
+    (λ c. search needs)
+    (λ c. search needs)
+    (λ c. search needs)
+    (λ c. search needs)
+    (λ c. search needs)
+    (λ c. search needs)
     add-result
     returns)
