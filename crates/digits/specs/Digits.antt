@@ -23,6 +23,7 @@ places = 10
 unfoldable pub weightedSum : ℕ → ℕ
 weightedSum n = sum (λ k. weightAt k * digitAt n k) places
 
+-- "sum to a multiple of ten"; the same as a test
 abbrev pub Passes : ℕ → Type 0
 Passes n = weightedSum n % 10 ≡ 0
 

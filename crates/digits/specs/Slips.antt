@@ -1,5 +1,5 @@
 -- Document 02, (vii): "Workers mistype a digit and the parcel goes to a stranger." What a slip does to a number that passes: one digit mistyped is
--- always found, two neighbours exchanged unless they are five apart (`one-digit`, `exchange` in proofs/Slips).
+-- always found, two neighbours exchanged unless they are the same or five apart (`one-digit`, `exchange` in proofs/Slips).
 use mathlib.Core.Path.{_≡_, refl}
 use mathlib.Core.Logic.{_≢_}
 use mathlib.Core.Bool.{true, false}

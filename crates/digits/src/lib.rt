@@ -2,8 +2,8 @@
 ghost use mathlib.Core.Path.{_≡_};
 ghost use Rattle.digits.specs.Digits.{passes};
 
-// A digit is what is left of order / 10^k when tens are taken off, and the sum matters up to tens alone: so the quotients stand for the digits, and
-// nothing waits for the digit before.
+// order / 10^k differs from the digit at place k by tens, and tens do not matter to the sum: so the quotients stand for the digits, and none waits for
+// the one before.
 pub fn passes(order: u32) -> bool
     ensures { λ r. ⌜ r ≡ passes order ⌝ }
 {

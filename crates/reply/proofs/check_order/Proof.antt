@@ -1,12 +1,12 @@
 -- `reply::check_order` meets its contract.
-use mathlib.Core.Path.{_≡_, refl, sym, _∙_}
+use mathlib.Core.Path.{refl, sym, _∙_}
 use mathlib.Core.Logic.{_≢_, inl, inr}
 use borrow.Author.Needs.{needs}
 use borrow.Author.Tests.{eqb-true, eqb-false, not-true, not-false}
 use Rattle.digits.specs.Digits.{Passes}
 use Rattle.bounds.proofs.Refusals.{refusal-none}
 use Rattle.model.proofs.Answers.{order-none, order-mistyped, order-bad, order-good}
-use Rattle.model.specs.Entry.{Entry, entry}
+use Rattle.model.specs.Entry.{entry}
 use Rattle.model.specs.Model.{orderChecks}
 use Rattle.reply.proofs.check_order.Statement.{statement}
 use Rattle.reply.proofs.check_order.Tie as tie
