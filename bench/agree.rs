@@ -19,6 +19,11 @@ impl Random {
         self.next() % n
     }
 
+    /// An order number with a right check digit, one of so many.
+    fn order(&mut self, many: u64) -> u32 {
+        peer::numbered(1 + self.below(many) as u32)
+    }
+
     /// In some editions bounds of 0: before a part, from it on, or now and then.
     fn withdraw(&mut self, upper: &mut [u8]) {
         let at = self.below(upper.len() as u64 + 1) as usize;
@@ -93,6 +98,7 @@ fn case(random: &mut Random) {
     );
     assert_eq!((x, &a, x, &a), (y, &b, z, &c), "batch {u:?} {r} {serial} {copies} {size}");
     orders(random, &u, r, &g);
+    check_digits(random);
     if 0 < count && count < 5000 {
         calls(random, &u, r, count);
     }
@@ -129,6 +135,28 @@ fn orders(random: &mut Random, u: &[u8], r: u32, g: &[u8]) {
     }
 }
 
+/// Both go by quotients, so the digits themselves are asked too.
+fn check_digits(random: &mut Random) {
+    for order in [random.next() as u32 >> random.below(32), random.order(ORDERS)] {
+        let digits = order.to_string().into_bytes();
+        let sum: u32 = digits.iter().rev().zip([1, 3].iter().cycle()).map(|(d, w)| (d - b'0') as u32 * w).sum();
+        assert_eq!((engine::order_passes(order), peer::order_passes(order)), (sum % 10 == 0, sum % 10 == 0), "order {order}");
+    }
+}
+
+/// How many order numbers of more than one digit have a right check digit.
+const ORDERS: u64 = u32::MAX as u64 / 10;
+
+/// Another order number with a right check digit and the same slot in a bundle's marks.
+fn twin(random: &mut Random, order: u32) -> u32 {
+    loop {
+        let other = order ^ (random.next() as u32 & !8191);
+        if peer::order_passes(other) && other != order {
+            return other;
+        }
+    }
+}
+
 /// The two columns of a register.
 #[derive(Clone, PartialEq, Debug)]
 struct Columns {
@@ -137,10 +165,12 @@ struct Columns {
 }
 
 impl Columns {
-    /// Some lines spoilt; orders that now repeat and now do not, with few item lines or many.
+    /// Some lines spoilt; orders that now repeat and now do not, with few item lines or many; in some registers check digits of which most are wrong.
     fn of(random: &mut Random, count: u64) -> Columns {
-        let (most, last) = ([50, 5_000, u32::MAX as u64][random.below(3) as usize], [2, 99][random.below(2) as usize]);
-        let orders: Vec<u32> = (0..count).map(|_| if random.below(9) == 0 { 0 } else { random.below(most) as u32 }).collect();
+        let (many, last) = ([50, 5_000, ORDERS][random.below(3) as usize], [2, 99][random.below(2) as usize]);
+        let wrong = random.below(5) == 0;
+        let drawn = |random: &mut Random| if wrong { random.below(many) as u32 } else { random.order(many) };
+        let orders: Vec<u32> = (0..count).map(|_| if random.below(9) == 0 { 0 } else { drawn(random) }).collect();
         let items = orders.iter().map(|&o| if o == 0 { 0 } else { 1 + random.below(last) as u8 }).collect();
         Columns { orders, items }
     }
@@ -159,14 +189,15 @@ impl Columns {
         columns
     }
 
-    /// A line of the columns, or one with another item line or another order.
+    /// A line of the columns, or one with another item line or another order, or with a check digit that is mostly wrong.
     fn line(&self, random: &mut Random) -> (u32, u8) {
         let at = random.below(self.orders.len() as u64) as usize;
         let (order, item) = (self.orders[at], self.items.get(at).copied().unwrap_or(1));
-        match random.below(5) {
+        match random.below(6) {
             0 => (order, 1 + random.below(99) as u8),
-            1 => (random.below(60) as u32, item),
-            2 => (random.next() as u32, [1, 2, 99, 0, 100, 255][random.below(6) as usize]),
+            1 => (random.order(60), item),
+            2 => (random.order(ORDERS), [1, 2, 99, 0, 100, 255][random.below(6) as usize]),
+            3 => ([order ^ 1, random.next() as u32][random.below(2) as usize], [item, 0][random.below(2) as usize]),
             _ => (order, item),
         }
     }
@@ -207,12 +238,14 @@ fn bundle(random: &mut Random, columns: &Columns) -> (Vec<u32>, Vec<u8>) {
     let mut bundle: Vec<(u32, u8)> = Vec::new();
     for _ in 0..size {
         let (last, item) = *bundle.last().unwrap_or(&(columns.orders[0], 1));
-        let new = random.next() as u32;
-        bundle.push([(new, item), (new, 1), (last ^ 8192 << random.below(19), item), (last, item % 99 + 1)][random.below(4) as usize]);
+        let new = random.order(ORDERS);
+        bundle.push([(new, item), (new, 1), (twin(random, last), item), (last, item % 99 + 1)][random.below(4) as usize]);
     }
     if size > 0 && random.below(2) == 0 {
         let at = random.below(size) as usize;
-        bundle[at] = [(0, 1), columns.line(random), bundle[random.below(size) as usize], (bundle[at].0, 100)][random.below(4) as usize];
+        let (order, item) = bundle[at];
+        let other = bundle[random.below(size) as usize];
+        bundle[at] = [(0, 1), columns.line(random), other, (order, 100), (order ^ 1, item)][random.below(5) as usize];
     }
     let (orders, mut items): (Vec<u32>, Vec<u8>) = bundle.into_iter().unzip();
     match random.below(20) {

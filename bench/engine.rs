@@ -18,6 +18,7 @@ mod c {
         pub fn huz_inversions(u: Bounds, n: usize, r: u32, given: *const u8, len: usize, out: *mut u8, out_len: usize) -> Refusal;
         pub fn huz_major_permutation(u: Bounds, n: usize, r: u32, given: *const u8, len: usize, out: *mut u8, out_len: usize) -> Refusal;
         pub fn huz_major_code(u: Bounds, n: usize, r: u32, given: *const u8, len: usize, out: *mut u8, out_len: usize) -> Refusal;
+        pub fn huz_order_passes(order: u32) -> bool;
         pub fn huz_open(u: Bounds, n: usize, r: u32, orders: *const u32, len: usize, items: *const u8, items_len: usize) -> Opened;
         pub fn huz_peek(ledger: Ledger, orders: *const u32, len: usize, items: *const u8, items_len: usize) -> Peeked;
         pub fn huz_claim(l: Ledger, orders: *mut u32, len: usize, items: *mut u8, items_len: usize, serial: u64, order: u32, item: u8) -> Claimed;
@@ -75,6 +76,10 @@ pub fn major_permutation(upper: &[u8], total: u32, g: &[u8], out: &mut [u8]) -> 
 
 pub fn major_code(upper: &[u8], total: u32, p: &[u8], out: &mut [u8]) -> Refusal {
     unsafe { c::huz_major_code(upper.as_ptr(), upper.len(), total, p.as_ptr(), p.len(), out.as_mut_ptr(), out.len()) }
+}
+
+pub fn order_passes(order: u32) -> bool {
+    unsafe { c::huz_order_passes(order) }
 }
 
 pub fn open(upper: &[u8], total: u32, orders: &[u32], items: &[u8]) -> Opened {

@@ -73,6 +73,18 @@ fn counts(table: &mut Table, e: &Edition) {
     table.row(&format!("count: {}", e.name), beside(ours, theirs));
 }
 
+/// One number a call, of those that are drawn.
+fn check_digits(table: &mut Table) {
+    const DRAWN: usize = 1_024;
+    let mut random = agree::Random::new();
+    let numbers: Vec<u32> = (0..DRAWN).map(|_| random.next() as u32).collect();
+    assert!(numbers.iter().all(|&order| engine::order_passes(order) == peer::order_passes(order)));
+    let number = |i: usize| black_box(numbers[i % DRAWN]);
+    let ours = |i| seen(engine::order_passes(number(i)));
+    let theirs = |i| seen(peer::order_passes(number(i)));
+    table.row("order passes: numbers of 32 bits", beside(ours, theirs));
+}
+
 /// Of a function with a row for the same work done in another way too: whether that is printed.
 #[derive(Clone, Copy, PartialEq)]
 enum Rows {
@@ -327,6 +339,7 @@ fn main() {
     let mut upper = vec![1; 12];
     upper.extend([2, 3, 3, 3, 3, 5, 60, 60, 60, 60, 60, 60]);
     let long = edition("24 kinds, N = 999476", upper, 7);
+    check_digits(&mut table);
     register::rows(&mut table, &million, &[1, 1_000, 999_999]);
     register::claims(&mut table, &long, 1);
     for entries in [1, 1_000, 999_000] {

@@ -9,11 +9,12 @@ pub fn with(call: &str, entries: u64) -> String {
     format!("{call} with {entries} {} written", if entries == 1 { "entry" } else { "entries" })
 }
 
-/// An order that stands in no line.
-pub const NEW: u32 = u32::MAX;
+/// An order that stands in no line: the greatest number with a right check digit, and the digits before it.
+pub const NEW: u32 = peer::numbered(LAST);
+const LAST: u32 = u32::MAX / 10;
 
 fn order(i: u32) -> u32 {
-    i * 3 + 7
+    peer::numbered(i * 3 + 7)
 }
 
 fn item(i: u32) -> u8 {
@@ -29,7 +30,7 @@ pub struct Bundle {
 impl Bundle {
     /// So many orders, which stand in no line.
     fn new(size: u32) -> Bundle {
-        Bundle { orders: (0..size).map(|i| NEW - 1000 * i).collect(), items: (0..size).map(item).collect() }
+        Bundle { orders: (0..size).map(|i| peer::numbered(LAST - 100 * i)).collect(), items: (0..size).map(item).collect() }
     }
 
     fn lent(&self) -> (&[u32], &[u8]) {

@@ -6,7 +6,7 @@ use std::time::{Duration, Instant};
 
 use crate::measure::{RUNS, Spread, Table, run, shown, turns};
 use crate::register::{NEW, Opened, with};
-use crate::{Edition, clock};
+use crate::{Edition, clock, peer};
 
 unsafe extern "C" {
     fn dlopen(name: *const c_char, flags: c_int) -> *mut c_void;
@@ -85,8 +85,8 @@ impl Claims<'_> {
     fn claim(&self, serial: u64) {
         unsafe {
             (self.sqlite.bind)(self.insert, 1, serial as i64);
-            // an order number that no other line has, in no order
-            (self.sqlite.bind)(self.insert, 2, (serial as u32).wrapping_mul(2_654_435_761) as i64);
+            // an order number that no other line has, in no order: no divisor is common to the two
+            (self.sqlite.bind)(self.insert, 2, peer::numbered((serial * 2_654_435_761 % 429_496_729) as u32) as i64);
             (self.sqlite.bind)(self.insert, 3, 1);
             assert_eq!((self.sqlite.step)(self.insert), 101);
             (self.sqlite.reset)(self.insert);

@@ -15,7 +15,7 @@ static void sell(huz_ledger *ledger, uint32_t *orders, uint8_t *items, uint64_t 
 
 int main(void) {
     const uint8_t upper[N] = {1, 1, 1, 1};
-    const uint32_t club[2] = {1021, 1028};
+    const uint32_t club[2] = {1021, 1038};
     const uint8_t club_items[2] = {1, 1};
     uint32_t orders[N] = {0};
     uint8_t items[N] = {0};

@@ -18,5 +18,5 @@ seen = register.peek()  # two workers look, and both see serial 1
 sell(seen.serial, 1007, 1)  # the first takes it for order 1007
 sell(seen.serial, 1014, 1)  # the second is refused, and learns who has it
 sell(2, 1007, 2)  # the second copy in the basket of order 1007
-first, _ = register.claim_all(3, [1021, 1028], [1, 1])  # a club takes two, or neither
+first, _ = register.claim_all(3, [1021, 1038], [1, 1])  # a club takes two, or neither
 print("serials", first, "to", first + 1, "are for the club")

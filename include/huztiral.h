@@ -13,6 +13,7 @@
  */
 #ifndef HUZTIRAL_H
 #define HUZTIRAL_H
+#include <stdbool.h>
 #include <stddef.h>
 #include <stdint.h>
 
@@ -20,7 +21,7 @@
 extern "C" {
 #endif
 
-#define HUZ_VERSION 1400 /* of this header, 0.14.0: major * 10000 + minor * 100 + patch */
+#define HUZ_VERSION 1500 /* of this header, 0.15.0: major * 10000 + minor * 100 + patch */
 #define HUZ_PARTS 24 /* the most kinds of an edition; the arrays in the structures have as many cells, and those past n are 0 */
 
 /* The numbers of answers: what each means, and its detail where that is not 0. */
@@ -50,7 +51,8 @@ enum huz_number {
     HUZ_NOT_A_REQUEST = 22,         /* the slip does not have the form that the listing program reads */
     HUZ_MAJOR_INDEX_NOT_TOTAL = 23, /* the major index of the sheet order given is not the total */
     HUZ_BUNDLE_LENGTH = 24,         /* the bundle has no orders, or more than 40, or not as many item lines as orders */
-    HUZ_ITEM_LINE = 25              /* the item line is 0 or over 99 */
+    HUZ_ITEM_LINE = 25,             /* the item line is 0 or over 99 */
+    HUZ_CHECK_DIGIT = 26            /* the digits of the order number, weighted 1, 3, 1, 3 and so on from the right, do not sum to a multiple of ten */
 };
 
 /* An edition, as a record keeps it: the number of kinds n, their ceilings, the total. (bounds::Bounds) */
@@ -189,14 +191,22 @@ huz_done huz_major_code(const uint8_t *upper, size_t parts, uint32_t total, cons
  * Calls on one register come one after another, each with the record that the call before it answered or updated, and with
  * the columns as it left them: threads and processes that share a register hold a lock of the caller's over each call.
  *
+ * The last digit of an order number is a check digit, and takes and bundles refuse a number in which it is wrong (26). A
+ * register begun before they did (until version 0.14.0) goes on as it is: lines that are written are not checked.
+ *
  * A register that was kept before there were item lines (until version 0.13.0) has an order column alone. Give it an item
  * column with 1 beside each order number and 0 beside each 0; the record stays as it is. */
 
+/* Whether the check digit of an order number is right, for a form that asks before anything is sold: the digits, weighted
+ * 1, 3, 1, 3 and so on from the right, sum to a multiple of ten. 1007 passes (7 + 3 * 0 + 0 + 3 * 1 = 10), 1008 fails. One
+ * mistyped digit of a number that passes is always found, two neighbours exchanged unless they are five apart. 0 passes, but
+ * no order is numbered 0: a take refuses it, 17. */
+bool huz_order_passes(uint32_t order);
 /* Opens a register: a new record. Each column needs N entries; none is written. Refusals: 1 to 5, 14, 15. */
 huz_opened huz_open(const uint8_t *upper, size_t parts, uint32_t total, const uint32_t *orders, size_t len, const uint8_t *items, size_t items_len);
 /* Look: the next serial, its mix and its pair. Refusals: 16, 21. */
 huz_peeked huz_peek(huz_ledger ledger, const uint32_t *orders, size_t len, const uint8_t *items, size_t items_len);
-/* Take: writes the order number and the item line into the line of the serial. Refusals: 16, 17, 25, 6, 18, 19, 20. */
+/* Take: writes the order number and the item line into the line of the serial. Refusals: 16, 17, 26, 25, 6, 18, 19, 20. */
 huz_claimed huz_claim(huz_ledger ledger, uint32_t *orders, size_t len, uint8_t *items, size_t items_len, uint64_t serial, uint32_t order, uint8_t item);
 /* Spoil: writes 0 and 0 into the line of the serial. Refusals: 16, 6, 18, 19. */
 huz_claimed huz_void(huz_ledger ledger, uint32_t *orders, size_t len, uint8_t *items, size_t items_len, uint64_t serial);
@@ -204,7 +214,7 @@ huz_claimed huz_void(huz_ledger ledger, uint32_t *orders, size_t len, uint8_t *i
  * each of the `count` order numbers in `bundle`, 1 to 40, with the item line at the same place in `bundle_items`, if all of
  * them would be accepted, each after those before it. Else it answers the refusal of the first that would fail, and no line
  * is written; so an order number that stands twice in the bundle with one item line is 20, with the serial that the first of
- * the two would have had. `bundle_items_len` is `count`, else it is 24. Refusals: 16, 24, 17, 25, 6, 18, 19, 20. */
+ * the two would have had. `bundle_items_len` is `count`, else it is 24. Refusals: 16, 24, 17, 26, 25, 6, 18, 19, 20. */
 huz_claimed huz_claim_all(huz_ledger ledger, uint32_t *orders, size_t len, uint8_t *items, size_t items_len, uint64_t serial,
                           const uint32_t *bundle, size_t count, const uint8_t *bundle_items, size_t bundle_items_len);
 /* Take and spoil on a lent record: `ledger` points to it, and an accepted call updates it there (the bytes between two

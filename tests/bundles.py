@@ -1,13 +1,16 @@
 """Club orders: bundles of the compiled engine against tests/reference.py, and against single takes of the engine itself, one after another."""
 from collections import Counter
+from itertools import islice
 
 import inputs
+import mistyped
 import reference as ref
 from cases import compare, lend
 from lent import Lent, call, called, flat, ledger_of
+from records import paper_of
 
 SIZES = 1, 2, 39, 40
-FAULTS = "17", "25", "6", "20 of a line", "20 of the bundle"
+FAULTS = "17", "26", "25", "6", "20 of a line", "20 of the bundle"
 EDITIONS = ((5, 4, 3, 3), 7), ((0, 5, 4, 0, 3, 3), 7)  # the second with kinds withdrawn
 came_up = Counter()  # by number of orders, by one of the FAULTS, or another number, and by the place, from 0, of the take that fails
 uneven = Counter()  # of 24 where orders are 1 to 40: whether there are no item lines, fewer than orders, or more
@@ -16,13 +19,18 @@ met = Counter()  # in interleavings: what happened to a bundle
 
 def first_failing(record, column, items, serial, lines):
     """the number of the first take that would fail, of 20 with where the line stands, and its place in the bundle"""
-    n, upper, r, written = record[:4]
-    paper = ref.Paper(upper[:n], r, zip(column[:written], items[:written]))
+    paper = paper_of(record, column, items)
     for place, line in enumerate(lines):
         number, detail, *_ = paper.take(serial + place, *line)
         if number:
+            if number == 26 or number == 17 and some_fail(order for order, _ in lines):
+                mistyped.met("huz_claim_all", number, paper, serial + place, *line)
             return str(number) + (" of a line" if detail < serial else " of the bundle") * (number == 20), place
     return "0", None
+
+
+def some_fail(orders):
+    return not all(map(mistyped.passes, orders))
 
 
 def one_after_another(record, column, items, serial, lines):
@@ -45,6 +53,7 @@ def sell(rng, record, column, items, serial, orders, lines):
     compare("huz_claim_all", given, got, (*answer, *record_after), *zip((*lent, *bundle), (*after, orders, lines)))
     if answer[0] in (16, 24):
         came_up[len(orders), str(answer[0]), None] += 1
+        mistyped.against["huz_claim_all", answer[0]] += some_fail(orders)
         if answer[0] == 24 and 1 <= len(orders) <= ref.MOST_ORDERS:
             uneven["none" if not lines else "fewer" if len(lines) < len(orders) else "more"] += 1
         return
@@ -58,11 +67,12 @@ def any_bundle(rng):
 
 
 def register(rng, ms, r, written):
-    """the record, the columns and the lines of a register with so many lines, of which some are spoilt and some are as an earlier one"""
+    """the record, the columns and the lines of a register with so many lines, of which some are spoilt, some are as an earlier one, and some have an
+    order number that fails, from before the check"""
     lines = inputs.new_lines(rng, written)
     for at in range(1, written):
         if rng.random() < 0.3:
-            lines[at] = rng.choice((ref.SPOILT, lines[0], lines[at - 1]))
+            lines[at] = rng.choice((ref.SPOILT, lines[0], lines[at - 1], (mistyped.failing(rng), 1)))
     rest = [rng.choice(((0, 0), (7, 0), (0, 255), *lines[:2])) for _ in range(ref.number(ms, r) - written)]
     return ref.record_of(ms, r, lines), *inputs.apart(lines + rest), lines
 
@@ -78,16 +88,19 @@ def with_fault(rng, ms, r, size, fault, place):
     bundle = inputs.new_lines(rng, size, lines)
     if fault == "17":
         bundle[place] = 0, rng.choice((1, 0, 100))
+    elif fault == "26":
+        earlier = [line for line in lines if not mistyped.passes(line[0])]
+        bundle[place] = rng.choice([(mistyped.mistyped(rng, bundle[place][0]), rng.choice((1, 1, 0, 100))), *earlier[:1]])
     elif fault == "25":
-        bundle[place] = rng.choice((bundle[place], lines[0]))[0] or 1, wrong_items(rng)
+        bundle[place] = rng.choice((bundle[place], lines[0]))[0], wrong_items(rng)
     elif fault == "20 of a line":
-        bundle[place] = rng.choice([line for line in lines if line[0]])
+        bundle[place] = rng.choice([line for line in lines if line[0] and mistyped.passes(line[0])])
     elif fault == "20 of the bundle":
         bundle[place] = bundle[rng.randrange(place)]
     elif rng.random() < 0.3:  # the line past the last mix stands already
         bundle[place] = rng.choice((lines[0], bundle[0] if place else lines[0]))
     if place + 1 < size and rng.random() < 0.5:
-        bundle[rng.randrange(place + 1, size)] = rng.choice(((0, 1), (5, 0), (5, 100), lines[0], bundle[place], bundle[0]))
+        bundle[rng.randrange(place + 1, size)] = rng.choice(((0, 1), (1007, 0), (1007, 100), (1008, 1), lines[0], bundle[place], bundle[0]))
     sell(rng, *book, len(lines) + 1, *inputs.apart(bundle))
 
 
@@ -101,8 +114,8 @@ def every_place(rng):
 
 
 def edges(rng):
-    """bundles that are accepted, also up to the last mix; those that are too long, also with order 0 or a wrong item line past the last mix; 18, 19;
-    24, also where a take would be refused, and for another number of item lines; 16 before all of them"""
+    """bundles that are accepted, also up to the last mix; those that are too long, also with order 0, a mistyped one or a wrong item line past the
+    last mix; 18, 19; 24, also where a take would be refused, and for another number of item lines; 16 before all of them"""
     for ms, r in EDITIONS:
         n = ref.number(ms, r)
         for size in (0, *SIZES, 41, 42, 1000):
@@ -112,14 +125,17 @@ def edges(rng):
                 orders, given = inputs.apart(bundle)
                 for serial in following, following - 1, following + 1, 0, n, n + 1, inputs.LARGEST:
                     sell(rng, record, column, items, serial, orders, given)
+                    sell(rng, record, column, items, serial, [1008, *orders[1:]][:size], given)
+                sell(rng, record, column[:-1], items, following, [1008] * size, given)
                 sell(rng, record, column[:-1], items, following, orders, given)
                 sell(rng, record, column, items[:-1], following, orders, given)
                 sell(rng, record, column, [], following, orders, given)
                 for other in given[:-1], given[1:], given + [1], [], given + [1] * 41, [0] * (size + 1):
                     sell(rng, record, column, items, rng.choice((following, 0, n + 1)), orders, other)
-                    sell(rng, record, column, items, following, [0] * size, other)
+                    sell(rng, record, column, items, following, [rng.choice((0, 1008))] * size, other)
                 if 0 < left < size:
                     sell(rng, record, column, items, following, orders[:left] + [0] * (size - left), given)
+                    sell(rng, record, column, items, following, orders[:left] + [1008] * (size - left), given)
                     sell(rng, record, column, items, following, orders, given[:left] + [wrong_items(rng)] * (size - left))
                 if size:
                     sell(rng, record, column, items, following, [0] * size, given)
@@ -131,9 +147,9 @@ def same_slots(rng):
     """orders that differ from each other and from all lines in their highest bits alone, or in their item line alone"""
     for ms, r in EDITIONS:
         for bits in 8, 12, 13, 14, 16, 24, 32:
-            low, step = rng.randrange(1, 1 << bits), 1 << bits
-            item = lambda i: i + 1 if bits == 32 else rng.choice((1, 2))
-            both = [((low + step * i) % (1 << 32), item(i)) for i in range(60)]
+            low = mistyped.new_order(rng) % (1 << bits)
+            numbers = [*islice(filter(mistyped.passes, range(low or 1 << bits, 1 << 32, 1 << bits)), 60)]
+            both = [(numbers[i % len(numbers)], 1 + i // len(numbers)) for i in range(60)]
             lines, bundle = both[:20], both[20:]
             book = ref.record_of(ms, r, lines), *inputs.apart(lines + [(low, 1)] * (ref.number(ms, r) - len(lines)))
             sell(rng, *book, 21, *inputs.apart(bundle))
@@ -142,16 +158,19 @@ def same_slots(rng):
                     sell(rng, *book, 21, *inputs.apart(bundle[:at] + [line] + bundle[at + 1:]))
 
 
-def in_large_register(rng, ms, r, n):
-    """bundles in a register near the largest, whose lines have an order twice: accepted, or too long; refused at the last order; with several orders
-    that stand already, of which the first stands behind the others; and with orders that all stand already, with another item line"""
+def in_large_register(rng, ms, r, n, sold):
+    """bundles in a register near the largest, whose lines are the first of those sold, with an order twice: accepted, or too long; refused at the
+    last order, as one that stands already and as a mistyped one; with several orders that stand already, of which the first stands behind the others;
+    and with orders that all stand already, with another item line"""
     for written in n - 40, n - 39, n // 2:
-        lines = [(order, 1 + order % 3) for order in range(1, written + 1)]
-        lines[written // 2] = lines[-1] = 5_000_000, 99
-        book = ref.record_of(ms, r, lines), *inputs.apart(lines + [(6_000_000, 1)] * (n - written))
-        new, other = [(order, 1) for order in range(6_000_000, 6_000_040)], [(order, 4 + order % 3) for order in range(written - 50, written - 10)]
+        lines = sold[:written]
+        lines[written // 2] = lines[-1] = twice = mistyped.completed(5_000_000), 99
+        new = [(order, 1) for order in mistyped.row(6_000_000, 40)]
+        book = ref.record_of(ms, r, lines), *inputs.apart(lines + new[:1] * (n - written))
+        other = [(order, item + 3) for order, item in lines[written - 50:written - 10]]
         few = new[:9] + [lines[written - 2]] + new[10:38] + [lines[2], lines[written - 5_001]]
-        for bundle in (new, new[:39] + [(5_000_000, 99)], few, other, other[:39] + [lines[written - 7]])[:1 if written == n - 39 else 5]:
+        wrong = [new[:39] + [twice], few, other, other[:39] + [lines[written - 7]], new[:39] + [(1008, 1)]]
+        for bundle in [new] + wrong * (written != n - 39):
             sell(rng, *book, written + 1, *inputs.apart(bundle))
 
 
@@ -167,9 +186,11 @@ def watched(paper, before, serial, orders, items, answer):
         met["too late"] += 1
     elif answer[0] == 20:
         met["an order stands already"] += 1
+    elif answer[0] == 26:
+        met["an order is mistyped"] += 1
 
 
-MET = "accepted", "ends the edition", "one too long", "too late", "an order stands already", "copies on one order"
+MET = "accepted", "ends the edition", "one too long", "too late", "an order stands already", "an order is mistyped", "copies on one order"
 UNEVEN = "none", "fewer", "more"
 
 
@@ -192,5 +213,9 @@ def report():
         for (orders, fault, _), times in came_up.items():
             answers[fault] += times * (orders == size)
         print(f"huz_claim_all of {size} orders: answered", ", ".join(f"{fault} {times} times" for fault, times in sorted(answers.items()) if times))
+    mistyped_at = Counter()
+    for (_, fault, place), times in came_up.items():
+        mistyped_at["first" if place == 0 else "later"] += times * (fault == "26")
+    print("huz_claim_all: answered 26 at its first order {first} times, at a later one {later} times".format_map(mistyped_at))
     print("bundles with other item lines than orders:", ", ".join(f"{what} {uneven[what]} times" for what in UNEVEN))
     print("bundles among workers:", ", ".join(f"{what} {met[what]} times" for what in MET))

@@ -6,8 +6,9 @@
 Every lent part has guard bytes around it and is compared whole after each call. After SECONDS no further round begins, but for the FLOOR that has to
 be run. The test fails on any difference, and where an answer that a function can give (reference.ANSWERS) has not come up, or has not with a kind
 withdrawn (reference.WITHDRAWN), or something that may be wrong with a sheet order has not come up alone and with each other (conversions.FAULTS), or
-with a bundle not at each of its places (bundles.FAULTS), or no worker among several has sold a second copy on an order, or been refused it (MET). The
-last line is `differential: N cases, 0 differences`.
+with a bundle not at each of its places (bundles.FAULTS), or a mistyped order number not together with each other fault (mistyped.AGAINST), or no
+worker among several has sold a second copy on an order, or been refused it, or been refused a mistyped order number (MET). The last line is
+`differential: N cases, 0 differences`.
 """
 import argparse
 import random
@@ -19,6 +20,7 @@ import bundles
 import conversions
 import documents
 import inputs
+import mistyped
 import reference as ref
 from cases import FILL, came_up, cases, compare, differences, lend
 from lent import Lent, LentRecord, call, called, flat
@@ -101,27 +103,33 @@ def club(rng, paper):
     lines = inputs.new_lines(rng, rng.choice((size,) * 9 + (0, 41)), paper.lines)
     if lines and rng.random() < 0.3:
         at = rng.randrange(len(lines))
-        lines[at] = rng.choice(((0, 1), (lines[at][0], inputs.any_item(rng)), lines[0], *paper.lines[-2:]))
+        lines[at] = rng.choice(((0, 1), (lines[at][0], inputs.any_item(rng)), lines[0], (mistyped.slip(rng, lines[at][0]), 1), *paper.lines[-2:]))
     return inputs.uneven(rng, *inputs.apart(lines), 0.05)
 
 
 def basket(rng, paper):
-    """an order number and an item line: new ones, any, or the next copy on the order that stands last"""
+    """an order number and an item line: new ones, any, the next copy on the order that stands last, or that order mistyped"""
     order, item = paper.lines[-1] if paper.lines else (1007, 0)
-    return rng.choice(((inputs.new_order(rng), 1), (rng.randint(0, 30), inputs.any_item(rng)), (order, item), (order or 1007, item + 1),
-                       (1007, rng.randint(1, 99))))
+    return rng.choice(((inputs.new_order(rng), 1), (rng.choice((0, *inputs.FEW)), inputs.any_item(rng)), (order, item), (order or 1007, item + 1),
+                       (1007, rng.randint(1, 99)), (mistyped.slip(rng, order or 1007), rng.choice((1, 1, item)))))
 
 
-met = Counter()  # in interleavings: what came of a take on an order that stands
+met = Counter()  # in interleavings: what came of a take on an order that stands, or on such a one mistyped
 
 
-MET = "accepted with another item line", "refused 20"
+MET = "accepted with another item line", "refused 20", "refused 26 with a digit mistyped", "refused 26 with neighbours exchanged", \
+    "accepted with neighbours exchanged"
 
 
-def copies_on_one_order(before, order, item, answer):
-    standing = {i for o, i in before if o == order}
-    if order and standing and answer[0] in (0, 20):
+def on_an_order_that_stands(before, order, item, answer):
+    """counts what came of a take on an order that stands, or on one that is mistyped"""
+    standing = {o for o, _ in before if o}
+    if order in standing and answer[0] in (0, 20):
         met["accepted with another item line" if answer[0] == 0 else "refused 20"] += 1
+    elif answer[0] == 26 and standing & {*mistyped.digit_changed(order)}:
+        met["refused 26 with a digit mistyped"] += 1
+    elif answer[0] in (0, 26) and standing & {number for _, number in mistyped.neighbours_exchanged(order)}:
+        met["accepted with neighbours exchanged" if answer[0] == 0 else "refused 26 with neighbours exchanged"] += 1
 
 
 def singles(name, arguments, answer):
@@ -163,7 +171,7 @@ def interleaving(rng):
         if name == "bundle":
             bundles.watched(paper, before, *arguments, answer)
         elif name == "take":
-            copies_on_one_order(paper.lines[:before], *arguments[1:], answer)
+            on_an_order_that_stands(paper.lines[:before], *arguments[1:], answer)
     again = Running(rng, ms, r, values, items)
     for name, arguments, answer in done:
         compare("second list", (ms, r), again.call("look")[0][2], arguments[0])
@@ -174,7 +182,10 @@ def interleaving(rng):
 
 
 def large_register(rng):
-    """registers near the largest"""
+    """registers near the largest; one line in a thousand has an order number from before the check, which fails it"""
+    sold = [(order, 1 + order % 3) for order in mistyped.row(1, ref.MOST_LINES)]
+    sold[500::1000] = [(order + 1, item) for order, item in sold[500::1000]]
+    new, twice, other = ((mistyped.completed(tens), item) for tens, item in ((6_000_000, 1), (5_000_000, 99), (5_000_000, 98)))
     for ms, r in ((5, 4, 11, 6, 13, 2, 20, 18), 29), ((11, 11, 12, 3, 17, 2, 8, 7), 29):  # N is 1,000,000, and one more
         n = ref.number(ms, r)
         opening(rng, ms, r, n, n)
@@ -185,18 +196,18 @@ def large_register(rng):
             on_record(rng, record, [0] * n, [0] * n, "look")
             continue
         for written in n, n - 1, n // 2:
-            lines = [(order, 1 + order % 3) for order in range(1, written + 1)]
+            lines = sold[:written]
             lines[written // 3] = ref.SPOILT
-            lines[written // 2] = lines[written // 2 + 1] = 5_000_000, 99
-            record, (column, items) = ref.record_of(ms, r, lines), inputs.apart(lines + [(6_000_000, 1)] * (n - written))
-            for line in (6_000_000, 1), (5_000_000, 99), (5_000_000, 98), lines[-1]:
+            lines[written // 2] = lines[written // 2 + 1] = twice
+            record, (column, items) = ref.record_of(ms, r, lines), inputs.apart(lines + [new] * (n - written))
+            for line in new, twice, other, lines[-1], lines[500]:
                 on_record(rng, record, column, items, "take", written + 1, *line)
             on_record(rng, record, column, items, "spoil", written // 2 + 1)
             on_record(rng, record, column, items, "look")
             for at, item in (written // 3, 1), (written - 1, 100), (written - 2, 0):  # a line with a wrong item line, far from the others
                 on_record(rng, record, column, put(items, at, item), "look")
             lines_so_far(rng, record, column, items)
-        bundles.in_large_register(rng, ms, r, n)
+        bundles.in_large_register(rng, ms, r, n, sold)
 
 
 # ---- all of it
@@ -286,7 +297,8 @@ def missing():
         for name, numbers in answers.items():
             yield from (f"{name} has not answered {number}{WORDS[where]}" for number in numbers if not came_up[name, number, where])
     yield from (f"{name} is not expected to answer {number}{WORDS[where]}" for name, number, where in came_up if number not in KINDS[where][name])
-    yield from (f"no take on an order that stands, among workers: {what}" for what in MET if not met[what])
+    yield from (f"no take on an order that stands, or on such a one mistyped, among workers: {what}" for what in MET if not met[what])
+    yield from mistyped.missing()
     yield from conversions.missing()
     yield from bundles.missing()
 
@@ -298,7 +310,8 @@ def report(rounds):
             print(f"{name}{WORDS[where]}: answered", ", ".join(f"{number} {came_up[name, number, where]} times" for number in answers[name]))
     conversions.report()
     bundles.report()
-    print("takes on an order that stands, among workers:", ", ".join(f"{what} {met[what]} times" for what in MET))
+    mistyped.report()
+    print("takes on an order that stands, or on such a one mistyped, among workers:", ", ".join(f"{what} {met[what]} times" for what in MET))
 
 
 def main():

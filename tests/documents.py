@@ -1,5 +1,6 @@
 """What the documents print, asked of the compiled engine, and the reference against itself."""
 import inputs
+import mistyped
 import reference as ref
 import sheets
 from cases import compare, refused
@@ -112,16 +113,16 @@ def a_club_order():
     compare("document", "the two that are left", (three.claim_all(2, *first([1007, 1014])), three.entries()),
             ((2, [0, 1, 0]), [(0, 0), (1007, 1), (1014, 1)]))
     seven = huztiral.Edition([2, 2, 2], 3).open()
-    between = (seven.claim(1, 5, 1), seven.claim_all(2, *first([6, 7, 8])), refused(seven.claim, 4, 9, 1),
-               refused(seven.claim_all, 5, *first([9, 7])), seven.peek(), seven.claim_all(5, [9], [1]), seven.void(6))
+    between = (seven.claim(1, 17, 1), seven.claim_all(2, *first([24, 31, 48])), refused(seven.claim, 4, 55, 1),
+               refused(seven.claim_all, 5, *first([55, 31])), seven.peek(), seven.claim_all(5, [55], [1]), seven.void(6))
     compare("document", "between single takes", between,
-            ((1, [2, 1, 0]), (2, [1, 2, 0]), (18, 8), (20, 3), (5, [2, 0, 1], 1, 2), (5, [2, 0, 1]), (6, [1, 0, 2])))
-    compare("document", "and the lines", seven.entries(), [(5, 1), (6, 1), (7, 1), (8, 1), (9, 1), (0, 0)])
+            ((1, [2, 1, 0]), (2, [1, 2, 0]), (18, 48), (20, 3), (5, [2, 0, 1], 1, 2), (5, [2, 0, 1]), (6, [1, 0, 2])))
+    compare("document", "and the lines", seven.entries(), [(17, 1), (24, 1), (31, 1), (48, 1), (55, 1), (0, 0)])
     forty = huztiral.Edition([4, 3, 3, 2], 6)
-    register = forty.open()
-    compare("document", "an edition of 40", (forty.count, refused(register.claim_all, 1, *first(range(1, 42)))), (40, (24, 0)))
-    compare("document", "40 orders", register.claim_all(1, *first(range(1, 41))), (1, forty.unrank(1)))
-    compare("document", "all of it", register.entries(), [(order, 1) for order in range(1, 41)])
+    register, orders = forty.open(), mistyped.row(1, 41)
+    compare("document", "an edition of 40", (forty.count, refused(register.claim_all, 1, *first(orders))), (40, (24, 0)))
+    compare("document", "40 orders", register.claim_all(1, *first(orders[:40])), (1, forty.unrank(1)))
+    compare("document", "all of it", register.entries(), [(order, 1) for order in orders[:40]])
 
 
 def two_copies_on_one_order():
@@ -155,6 +156,33 @@ def sales_made_earlier():
                 (number, (0 if number else 3,)))
 
 
+def mistyped_order_numbers():
+    """request (vii)"""
+    seven = huztiral.Edition([2, 2, 2], 3).open()
+    compare("document", "1007 passes, 1008 fails", (seven.claim(1, 1007, 1), refused(seven.claim, 2, 1008, 1), seven.entries()),
+            ((1, [2, 1, 0]), (26, 0), [(1007, 1)]))
+    compare("document", "26 after 17, before 25, 6, 18 and 19", [refused(seven.claim, serial, order, item) for item in (0, 1, 100, 255)
+                                                               for serial in (0, 1, 2, 3, 8) for order in (0, 1008)], [(17, 0), (26, 0)] * 20)
+    six = [1014, 1021, 1038, 1045, 1052, 1069]  # as many as are left
+    for orders, refusal in ([1014, 1008], (26, 0)), ([1008, 1007], (26, 0)), ([1007, 1008], (20, 1)), ([0, 1008], (17, 0)), \
+            ([1014, 1008, 0], (26, 0)), ([1014, 0, 1008], (17, 0)), ([1008] * 41, (24, 0)), ([*six, 1008], (26, 0)), ([*six, 1076, 1008], (6, 0)):
+        compare("document", orders, (refused(seven.claim_all, 2, *first(orders)), seven.entries()), (refusal, [(1007, 1)]))
+    compare("document", "a bundle without an item line", refused(seven.claim_all, 2, [1008], []), (24, 0))
+    compare("document", "a spoil has no order", seven.void(2), (2, [1, 2, 0]))
+    sales_before_the_check()
+
+
+def sales_before_the_check():
+    """a register begun before stays readable: look, lines, spoil and takes with a number that passes are answered as ever; 18 has the number of its
+    line, and 26 comes before 20"""
+    lines = [(1008, 1), (0, 0), (1, 99)]
+    record, columns = ref.record_of((2, 2, 2), 3, lines), inputs.apart(lines + [(1008, 2)] * 4)
+    for name, arguments, answer in ("huz_peek", (), (0, 0, 4)), ("huz_entries", (), (3,)), ("huz_void", (4,), (0, 0, 4)), \
+            ("huz_claim", (4, 1007, 1), (0, 0, 4)), ("huz_claim", (1, 1007, 1), (18, 1008, 0)), ("huz_claim", (4, 1008, 1), (26, 0, 0)), \
+            ("huz_void", (3,), (18, 1, 0)), ("huz_claim_all", (4, Lent([1007, 1014], 4), Lent([1, 1])), (0, 0, 4)):
+        compare("document", (name, "before the check"), call(name, ledger_of(record), Lent(columns[0], 4), Lent(columns[1]), *arguments)[:3], answer)
+
+
 def the_reference():
     """it is at one with its own listing, and the rule of document 01, read with ceilings of 0, gives the same"""
     for ms, r in ((2, 2, 2), 3), ((3, 2, 1), 3), ((4, 1, 2, 3, 1), 6), ((1,) * 9, 4), ((2, 5, 3), 5), *inputs.WITHDRAWN:
@@ -171,4 +199,5 @@ def compared():
     puzzle_books()
     a_club_order()
     two_copies_on_one_order()
+    mistyped_order_numbers()
     the_reference()

@@ -1,6 +1,7 @@
 """Inputs for the tests: editions, mixes, serials, lengths and records, good ones, damaged ones and those at the ends of a range."""
 import reference as ref
 import sheets
+from mistyped import FEW, MOST, failing, mistyped, near, new_order, passes, slip
 
 LARGEST = (1 << 64) - 1
 
@@ -160,15 +161,16 @@ def any_item(rng):
     return rng.choice((1, 1, 1, 2, 2, 3, rng.randint(1, 99), rng.randint(1, 99), 99, rng.choice((0, 100, 128, 255))))
 
 
-def new_order(rng):
-    return rng.randint(1, (1 << 32) - 1)
+def any_order(rng, order):
+    """an order number: mostly one that passes, at times one at an end of the range, or this one mistyped"""
+    return rng.choice((0, rng.choice((1, MOST)), 1007, new_order(rng), new_order(rng), rng.choice(FEW), slip(rng, order), mistyped(rng, order)))
 
 
 def any_line(rng, lines):
     """an order number and an item line: any, those of a line, or one of the two that of a line"""
-    written = [line for line in lines if line[0]] or [(7, 1)]
+    written = [line for line in lines if line[0]] or [(1014, 1)]
     order, item = rng.choice((written[0], written[-1], rng.choice(written), rng.choice(written)))
-    other = rng.choice((0, 1, 1007, (1 << 32) - 1, new_order(rng), rng.randint(1, 9)))
+    other = any_order(rng, order)
     return rng.choice(((order, item), (order, item), (order, any_item(rng)), (other, item), (other, any_item(rng)), (new_order(rng), any_item(rng))))
 
 
@@ -237,15 +239,18 @@ def opening(rng, most=5000):
 
 
 def register(rng):
-    """a small edition, lines with spoilt ones and repetitions, and columns with garbage after them, each as long as it likes"""
+    """a small edition, lines with spoilt ones, repetitions and order numbers from before the check, which fail it, and columns with garbage after
+    them, each as long as it likes"""
     ms, r = sound(rng, small=True)
     n = ref.number(ms, r)
     size = rng.choice((0, n, n - 1, rng.randint(0, n), rng.randint(0, min(n, 9))))
-    lines = [rng.choice((ref.SPOILT, (rng.randint(1, 9), rng.randint(1, 3)), (new_order(rng), rng.randint(1, rng.choice((3, 99))))))
-             for _ in range(size)]
+    earlier, order_of = rng.choice((0, 0, 0.2, 1)), (lambda: 0, lambda: rng.choice(FEW), lambda: new_order(rng))
+    orders = [failing(rng) if rng.random() < earlier else rng.choice(order_of)() for _ in range(size)]
+    lines = [(order, rng.randint(1, rng.choice((3, 3, 99)))) if order else ref.SPOILT for order in orders]
     column, items = [o for o, _ in lines], [i for _, i in lines]
     more = [n - size + rng.choice((0, 0, 1, 7)) for _ in range(2)]
-    return (ref.record_of(ms, r, lines), column + [rng.choice((0, 1, 1007, rng.getrandbits(32), *column[:2])) for _ in range(more[0])],
+    return (ref.record_of(ms, r, lines),
+            column + [rng.choice((0, 1, 1007, rng.getrandbits(32), new_order(rng), *column[:2])) for _ in range(more[0])],
             items + [rng.choice((0, 1, 2, 100, rng.randrange(256), *items[:2])) for _ in range(more[1])])
 
 
@@ -311,7 +316,7 @@ def lines_of(record, column, items):
 
 def after_lines(column, items, lines):
     """what stands in the columns directly past the lines"""
-    return (column + [3] * 2000)[len(lines)], (items + [1] * 2000)[len(lines)]
+    return (column + [31] * 2000)[len(lines)], (items + [1] * 2000)[len(lines)]
 
 
 def call(rng):
@@ -327,14 +332,14 @@ def call(rng):
 
 
 def new_lines(rng, size, lines=()):
-    """lines for a bundle that differ and stand not among those lines; some differ in one bit of the number, in the number alone or in the item line
-    alone from each other or from a line"""
-    taken, found, few = {*lines}, [], [line for line in lines[:9] if line[0]][:3]
+    """lines for a bundle whose numbers pass, that differ and stand not among those lines; some differ in one bit of the number, in the number alone
+    or in the item line alone from each other or from a line"""
+    taken, found, few = {*lines}, [], [line for line in lines[:9] if line[0] and passes(line[0])][:3]
     while len(found) < size:
-        order, item = rng.choice((*found[-3:], *few, (1, 1)))
-        line = rng.choice(((new_order(rng), 1), (new_order(rng), rng.randint(1, 99)), (new_order(rng), item), (order ^ 1 << rng.randrange(32), item),
-                           (order, rng.randint(1, 99)), (order, item % 99 + 1)))
-        if line[0] and line not in taken:
+        order, item = rng.choice((*found[-3:], *few, (17, 1)))
+        new = near(rng, order) if rng.random() < 0.3 else new_order(rng)
+        line = rng.choice(((new, 1), (new, rng.randint(1, 99)), (new, item), (new, item), (order, rng.randint(1, 99)), (order, item % 99 + 1)))
+        if line not in taken:
             taken.add(line)
             found.append(line)
     return found
@@ -346,8 +351,8 @@ def apart(lines):
 
 
 def bundle(rng):
-    """a record and columns, sound or damaged, a first serial and the lines of a bundle, of which up to two have a fault, stand already or twice; one
-    bundle in ten has another number of item lines than of orders"""
+    """a record and columns, sound or damaged, a first serial and the lines of a bundle, of which up to two have a fault, are mistyped, stand already
+    or twice; one bundle in ten has another number of item lines than of orders"""
     record, column, items = register(rng)
     if rng.random() < 0.3:
         record, column, items = damaged(rng, record, column, items)
@@ -359,7 +364,7 @@ def bundle(rng):
     for _ in range(rng.choice((0, 0, 1, 2)) if bundled else 0):
         at = rng.randrange(len(bundled))
         bundled[at] = rng.choice((any_line(rng, lines), bundled[rng.randint(0, at)], bundled[rng.randint(0, at)], after_lines(column, items, lines),
-                                  (bundled[at][0], any_item(rng))))
+                                  (bundled[at][0], any_item(rng)), (any_order(rng, bundled[at][0] or 1007), any_item(rng))))
     return record, column, items, serial, *uneven(rng, *apart(bundled), 0.1)
 
 

@@ -11,7 +11,7 @@ from lent import huztiral
 
 TOP = os.path.dirname(os.path.dirname(os.path.abspath(__file__)))
 C = {"uint8_t": "u8", "uint32_t": "u32", "uint64_t": "u64", "size_t": "usize"}
-PYTHON = {ctypes.c_uint8: "u8", ctypes.c_uint32: "u32", ctypes.c_uint64: "u64"}  # c_size_t is c_uint64
+PYTHON = {ctypes.c_bool: "bool", ctypes.c_uint8: "u8", ctypes.c_uint32: "u32", ctypes.c_uint64: "u64"}  # c_size_t is c_uint64
 
 
 def read(*path):

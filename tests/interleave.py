@@ -1,16 +1,18 @@
 """Lists of ledger calls for crates/vectors, as several workers make them in turn.
 
-The lists are document 01's copies I and J, two copies on one order, bundles with a fault at each place, bundles with another number of item lines
-than of orders, editions with kinds withdrawn, openings that are refused, scripts, pools and buffers that do not fit, lines that stand in the columns
-past the lines written, the Saturday of copy 212, and interleavings of several workers, each of whom peeks and then claims, for one order or several,
-or voids what it saw, at times too late, with an order and item line that stand already, for the next copy on an order that stands, with no order,
-with an item line out of range, with an item line too few or too many, with more orders than are left, or with a serial out of nowhere. A list is
+The lists are document 01's copies I and J, two copies on one order, mistyped order numbers, bundles with a fault at each place, bundles with another
+number of item lines than of orders, editions with kinds withdrawn, openings that are refused, scripts, pools and buffers that do not fit, lines that
+stand in the columns past the lines written, the Saturday of copy 212, and interleavings of several workers, each of whom peeks and then claims, for
+one order or several, or voids what it saw, at times too late, with an order and item line that stand already, for the next copy on an order that
+stands, with no order, with a mistyped one, with an item line out of range, with an item line too few or too many, with more orders than are left, or
+with a serial out of nowhere. A list is
 (ceilings, total, order column and item column before, script, pool of orders, pool of item lines, length of the buffer for the answers). A call is
 (which, serial, line), of a bundle (which, serial, (orders, items)); a line is an order and its item line.
 """
 import random
 
 import reference as ref
+from mistyped import completed, digit_changed, row, slip
 
 PEEK, CLAIM, VOID, BUNDLE = 0, 1, 2, 3
 NONE = 0, 0  # what a call names that names no line
@@ -30,45 +32,47 @@ def answer(paper, call):
 def interleaving(ms, r, rng, workers=5):
     """calls until all is written, and thirty more"""
     paper = ref.Paper(ms, r)
-    seen, order, after = [1] * workers, 5000, 30
+    seen, tens, after = [1] * workers, 500, 30
     while after:
         if paper.next() > paper.n:
             after -= 1
         w, dice = rng.randrange(workers), rng.random()
-        standing = rng.choice(paper.lines or [(1, 1)])
+        standing, order = rng.choice(paper.lines or [(17, 1)]), completed(tens)
         call = (PEEK, 0, NONE)
         if dice < 0.38:
-            order += rng.randrange(1, 4)
-            call = (CLAIM, seen[w], (order, rng.choice([1, 1, 1, 2, 99])))
+            tens += rng.randrange(1, 4)
+            call = (CLAIM, seen[w], (completed(tens), rng.choice([1, 1, 1, 2, 99])))
         elif dice < 0.45:  # the next copy on an order that stands
             call = (CLAIM, seen[w], (standing[0] or order, standing[1] + 1))
         elif dice < 0.52:
-            call = (BUNDLE, seen[w], miscounted(apart(club(paper, order, rng)), rng))
-            order += 200
+            call = (BUNDLE, seen[w], miscounted(apart(club(paper, tens, rng)), rng))
+            tens += 50
         elif dice < 0.58:
             call = (CLAIM, seen[w], standing)
         elif dice < 0.60:
             call = (CLAIM, seen[w], rng.choice([(0, 1), (order, 0), (order, 100), (0, 0)]))
-        elif dice < 0.66:
-            call = (VOID, seen[w], NONE)
+        elif dice < 0.63:
+            call = (CLAIM, seen[w], (slip(rng, rng.choice([order, standing[0] or order])), rng.choice([1, 1, 0])))
         elif dice < 0.69:
-            call = (rng.choice([CLAIM, VOID]), rng.choice([0, paper.next() + 1, paper.n, paper.n + 1, 2 ** 64 - 1]), (1, 1))
+            call = (VOID, seen[w], NONE)
+        elif dice < 0.72:
+            call = (rng.choice([CLAIM, VOID]), rng.choice([0, paper.next() + 1, paper.n, paper.n + 1, 2 ** 64 - 1]), (rng.choice([17, 18]), 1))
         got = answer(paper, call)
         if call[0] == PEEK and got[0] == 0:
             seen[w] = got[2]
         yield call
 
 
-def club(paper, order, rng):
-    """the lines of a bundle after an order: some that are left, all of them or one more, at times none or 41, on an order each or on a few; one may
-    have a fault or stand already"""
+def club(paper, tens, rng):
+    """the lines of a bundle, on orders after these tens: some that are left, all of them or one more, at times none or 41, on an order each or on a
+    few; one may have a fault, be mistyped or stand already"""
     left = paper.n + 1 - paper.next()
     size = rng.choice([1, 2, 3, 5, min(left, 40), min(left + 1, 40), rng.choice([0, 1, 40, 41])])
     each = rng.choice([1, 1, 2, 41])
-    lines = [(order + 4 * (k // each + 1), k % each + 1) for k in range(size)]
+    lines = [(completed(tens + k // each + 1), k % each + 1) for k in range(size)]
     if lines and rng.random() < 0.3:
         at = rng.randrange(size)
-        lines[at] = rng.choice([NONE, (lines[at][0], 0), (lines[at][0], 100), lines[0], *paper.lines[-2:]])
+        lines[at] = rng.choice([NONE, (lines[at][0], 0), (lines[at][0], 100), (slip(rng, lines[at][0]), 1), lines[0], *paper.lines[-2:]])
     return lines
 
 
@@ -178,16 +182,16 @@ def two_copies():
     # bundles on one order, on two, with a line twice, with an item line out of range at each place, before and behind another fault
     yield fitting(((2, 2, 2), 3), [7] * 7, [bundle(1, [1007] * 3, [1, 2, 3]), bundle(4, [1007] * 2, [4, 1]), bundle(4, [1014, 1007], [1, 4]),
                                            bundle(6, [1014, 1014], [2, 2]), bundle(6, [1014, 1014, 1021], [2, 3, 0]), LOOK])
-    calls = [claim(1, 1000), void(2)]
+    calls = [claim(1, 1007), void(2)]
     for at in range(5):
-        for wrong in (1005, 0), (1005, 100), (0, 0), (1000, 255), (1000, 1):
-            lines = first([1001, 1002, 1003, 1004, 1006])
+        for wrong in (1069, 0), (1069, 100), (0, 0), (1007, 255), (1007, 1):
+            lines = first(row(101, 5))
             lines[at] = wrong
             calls += [bundle(3, *apart(lines)), bundle(3, *apart(lines[:4] + [(0, 1)])), bundle(9, *apart(lines))]
-    yield fitting(((1, 2, 3, 2), 4), [7] * 40, calls + [LOOK, bundle(3, [1000] * 5, range(2, 7)), LOOK])
+    yield fitting(((1, 2, 3, 2), 4), [7] * 40, calls + [LOOK, bundle(3, [1007] * 5, range(2, 7)), LOOK])
     forty = list(range(1, 41))
-    yield fitting(((8, 8, 8), 8), [7] * 45, [bundle(1, [2000] * 40, forty), bundle(41, [2000, 2000], [41, 40]),
-                                             bundle(41, [2000] * 5, range(95, 100)), LOOK])
+    yield fitting(((8, 8, 8), 8), [7] * 45, [bundle(1, [2004] * 40, forty), bundle(41, [2004, 2004], [41, 40]),
+                                             bundle(41, [2004] * 5, range(95, 100)), LOOK])
     # pools: with an item line too few or too many, also where the orders are as many as the calls name, all is 13
     for calls in two, [bundle(1, [1007, 1014]), LOOK], [LOOK]:
         orders, items = written(calls)[1:]
@@ -199,20 +203,43 @@ def two_copies():
             yield fitting(SMALL, after, calls, orders_pool=orders[:-1], items_pool=items[:-1])
 
 
+def check_digits():
+    """request (vii): 26 after 17, before 25, 6, 18 and 19; numbers at the ends of the range; each digit of 1007 mistyped; neighbours exchanged, of
+    which 611 for 161 is not found; numbers that fail where they are not looked at"""
+    after = [7, 7, 7]
+    yield fitting(SMALL, after, [claim(1, 1008), claim(1, 1007), LOOK, claim(2, 1008), void(2)])
+    faults = [claim(serial, order, item) for serial in (0, 1, 2, 3, 4) for order in (0, 1007, 1008) for item in (0, 1, 100)]
+    yield fitting(THREE, after, [claim(1, 1007), *faults, LOOK])
+    ends = [1, 9, 10, 16, 18, 2 ** 31, 2 ** 32 - 5, 2 ** 32 - 3, 2 ** 32 - 2, 2 ** 32 - 1]
+    yield fitting(THREE, after, [claim(1, order) for order in ends] + [claim(1, 2 ** 32 - 4), claim(2, 17), claim(3, 2147483645), LOOK])
+    yield fitting(THREE, after, [claim(1, 1007), *(claim(2, order) for order in digit_changed(1007)), claim(2, 1007, 2), LOOK])
+    yield fitting(((2, 2, 2), 3), [7] * 7, [claim(1, 161), claim(2, 116), claim(3, 1070), claim(3, 611), claim(4, 611), claim(4, 107), LOOK])
+    yield fitting(THREE, [1008] * 4, [claim(1, 1008), void(1), claim(2, 1007), LOOK], [1] * 4)
+    # bundles: at each place, before and behind another fault, with a serial out of place; past the last mix; 24 before it
+    five, calls = row(101, 5), [claim(1, 1007), void(2)]
+    for at in range(5):
+        for wrong in (1008, 1), (1008, 0):
+            lines = first(five)
+            lines[at] = wrong
+            calls += [bundle(3, *apart(lines)), bundle(3, *apart(lines[:4] + [(0, 1)])), bundle(9, *apart(lines)), bundle(1, *apart(lines))]
+    calls += [bundle(3, five + [1008]), bundle(3, five + [1069, 1008]), bundle(3, [1008], []), bundle(3, [1008] * 41), bundle(9, [1008, 1014], [1])]
+    yield fitting(((2, 2, 2), 3), [7] * 7, calls + [LOOK, bundle(3, five), LOOK, bundle(8, [1008])])
+
+
 def bundles():
     """request (v): none and 41, before everything but 16; at the edition's end, one too long, with order 0 there; too early, too late; a fault at
     each place, after which nothing is written; a line that stands past the lines is free"""
-    after, five = [7, 7, 7], [1007, 1014, 1021, 1028, 1035]
-    yield fitting(THREE, after, [bundle(0, []), bundle(1, range(1, 42)), bundle(9, []), LOOK, bundle(1, five[:3]), LOOK, bundle(3, [1])])
+    after, five = [7, 7, 7], [1007, 1014, 1021, 1038, 1045]
+    yield fitting(THREE, after, [bundle(0, []), bundle(1, row(1, 41)), bundle(9, []), LOOK, bundle(1, five[:3]), LOOK, bundle(3, [17])])
     yield fitting(THREE, after, [bundle(1, five[:4]), bundle(1, five[:3] + [0]), bundle(1, five), LOOK, bundle(2, five[:2]), bundle(0, five[:1])])
-    yield fitting(THREE, [1014] * 3, [bundle(1, [1007, 1014]), bundle(2, [1021]), bundle(3, [1021, 1028]), bundle(3, [1007]), LOOK], [1] * 3)
-    calls = [claim(1, 1000), void(2)]
+    yield fitting(THREE, [1014] * 3, [bundle(1, [1007, 1014]), bundle(2, [1021]), bundle(3, [1021, 1038]), bundle(3, [1007]), LOOK], [1] * 3)
+    calls = [claim(1, 2004), void(2)]
     for at in range(5):
-        wrong = [0, 1000] + [five[0]] * (at > 0) + [five[4]] * (at < 4)
+        wrong = [0, 2004] + [five[0]] * (at > 0) + [five[4]] * (at < 4)
         calls += [bundle(3, five[:at] + [order] + five[at + 1:]) for order in wrong] + [LOOK]
     yield fitting(((2, 2, 2), 3), [7] * 9, calls + [bundle(3, five), LOOK])
-    forty = [2000 + k for k in range(40)]
-    yield fitting(((8, 8, 8), 8), [7] * 45, [bundle(1, forty[:39] + [2000]), bundle(1, forty), LOOK, bundle(41, [9] + forty[:5]),
+    forty = row(200, 40)
+    yield fitting(((8, 8, 8), 8), [7] * 45, [bundle(1, forty[:39] + forty[:1]), bundle(1, forty), LOOK, bundle(41, [17] + forty[:5]),
                                              bundle(41, five), LOOK])
 
 
@@ -243,7 +270,7 @@ def uneven():
     for orders, items in ([1007, 1014], [1]), ([1007], [1, 2]), ([], [1]), ([1007], []), ([1007] * 41, range(1, 41)), ([1007] * 40, range(1, 42)), \
             ([0, 1007], [100]), ([1021], [2, 0, 1]):
         wrong = bundle(1, orders, items), bundle(9, orders, items)
-        calls = [LOOK, *wrong, claim(1, 1021, 2), bundle(2, orders, items), bundle(2, [1028, 1028], [3, 4]), *wrong, LOOK]
+        calls = [LOOK, *wrong, claim(1, 1021, 2), bundle(2, orders, items), bundle(2, [1038, 1038], [3, 4]), *wrong, LOOK]
         yield fitting(THREE, after, calls)
         pool, item_pool = written(calls)[1:]
         yield fitting(THREE, after, calls, orders_pool=(pool + [7] * len(item_pool))[:len(item_pool)])
@@ -272,7 +299,7 @@ def workers(rng):
     """the Saturday of copy 212, and interleavings of five workers and of three"""
     large = (4, 4, 3, 3, 3), 8
     n = ref.number(*large)
-    saturday = [claim(s, 2000 + s) for s in range(1, 212)] + [LOOK, LOOK, claim(212, 1007), claim(212, 1014)]
+    saturday = [claim(s, completed(200 + s)) for s in range(1, 212)] + [LOOK, LOOK, claim(212, 1007), claim(212, 1014)]
     yield fitting(large, [0] * n, saturday, [0] * n)
     # half of the lines that will be accepted stand in the columns before, past the line that they are to get
     calls, paper = list(interleaving(*large, rng)), ref.Paper(*large)
@@ -292,19 +319,22 @@ def workers(rng):
 
 
 def lists(seed=212):
+    """the longest first, so that none has to wait for the next piece of what is read (tests/vectors.py)"""
+    yield from workers(random.Random(seed))
     after = [7, 7, 7]
     yield fitting(SMALL, after, [LOOK, LOOK, claim(1, 1007), claim(1, 1014), claim(2, 1014), LOOK])
     yield fitting(SMALL, after, [void(1), claim(1, 1007)])
     yield fitting(SMALL, after, [])
     # a line that stands past the lines is free; once it stands among them, it is not
-    yield fitting(SMALL, [5, 1007, 1007], [claim(1, 1007), claim(2, 1007), LOOK, claim(2, 5), LOOK], [1] * 3)
+    yield fitting(SMALL, [1021, 1007, 1007], [claim(1, 1007), claim(2, 1007), LOOK, claim(2, 1021), LOOK], [1] * 3)
     yield fitting(SMALL, [1014, 1014], [claim(1, 1014), void(2), claim(2, 1014)], [1, 1])
-    yield fitting(SMALL, [0, 0, 0], [void(1), claim(2, 9)], [0, 0, 0])
+    yield fitting(SMALL, [0, 0, 0], [void(1), claim(2, 93)], [0, 0, 0])
     yield from pools()
     # any other number is a void
     yield fitting(SMALL, after, [(4, 1, NONE), (2 ** 64 - 1, 2, NONE), (256, 2, NONE)])
     yield from bundles()
     yield from two_copies()
+    yield from check_digits()
     yield from uneven()
     # kinds withdrawn: in front, between, behind; all of them, with a register of one line
     for edition in ((0, 1, 0, 1, 0), 1), ((0, 0, 1, 1), 1), ((1, 1, 0), 1):
@@ -319,4 +349,3 @@ def lists(seed=212):
             ((0, 0), 1), ((0, 61), 1), ((0,) + (9,) * 8, 36), ((0,) * 25, 0), ((0,), 256), ((0,) + (60,) * 23, 255):
         yield fitting(edition, after, [LOOK])
     yield from buffers()
-    yield from workers(random.Random(seed))

@@ -13,9 +13,10 @@ import typing
 import unittest
 from array import array
 
+import mistyped
 import report
 from lent import huztiral
-from huztiral import Edition, Number, Refused, Register
+from huztiral import Edition, Number, Refused, Register, check_digit_ok
 
 SEVEN = Edition([2, 2, 2], 3)  # seven mixes, of which [0, 2, 1] is the third
 PUZZLE = Edition([2, 1], 1)
@@ -69,9 +70,11 @@ class Sentences(unittest.TestCase):
         register.claim(1, 1007, 1)
         register.void(2)
         self.refused(17, 0, "an order number is not 0", register.claim, 3, 0, 1)
+        self.refused(26, 0, "order number 1008 is mistyped: its check digit is wrong", register.claim, 3, 1008, 1)
+        self.refused(26, 0, "order number 4294967295 is mistyped: its check digit is wrong", register.claim, 8, (1 << 32) - 1, 0)
         self.refused(25, 0, "an item line is 1 to 99, and this one is 0", register.claim, 3, 1007, 0)
         self.refused(25, 0, "an item line is 1 to 99, and this one is 255", register.claim, 8, 1007, 255)
-        self.refused(6, 0, "there is no serial 8: the edition has 1 to 7", register.claim, 8, 5, 1)
+        self.refused(6, 0, "there is no serial 8: the edition has 1 to 7", register.claim, 8, 1038, 1)
         self.refused(18, 1007, "serial 1 is already written, for order 1007", register.claim, 1, 1014, 1)
         self.refused(18, 0, "serial 2 is already written, as spoilt", register.void, 2)
         self.refused(19, 3, "serial 5 is above the next serial, 3", register.void, 5)
@@ -87,20 +90,22 @@ class Sentences(unittest.TestCase):
         register.void(2)
         self.refused(24, 0, "a bundle has 1 to 40 orders, and this one has none", register.claim_all, 3, [], [])
         self.refused(24, 0, "a bundle has 1 to 40 orders, and this one has none", register.claim_all, 3, [], [1])
-        self.refused(24, 0, "a bundle has 1 to 40 orders, and this one has more", register.claim_all, 0, range(41), [1] * 41)
-        self.refused(24, 0, "a bundle has 1 to 40 orders, and this one has more", register.claim_all, 0, range(41), [])
+        self.refused(24, 0, "a bundle has 1 to 40 orders, and this one has more", register.claim_all, 0, [1008] * 41, [1] * 41)
+        self.refused(24, 0, "a bundle has 1 to 40 orders, and this one has more", register.claim_all, 0, [1007] * 41, [])
         self.refused(24, 0, "a bundle has an item line for each order, and this one has fewer", register.claim_all, 0, [1014, 0], [1])
         self.refused(24, 0, "a bundle has an item line for each order, and this one has fewer", register.claim_all, 3, [1014], [])
         self.refused(24, 0, "a bundle has an item line for each order, and this one has more", register.claim_all, 3, [1014, 1021], [1, 1, 1])
         self.refused(17, 0, "an order number is not 0", register.claim_all, 3, [1014, 0], [1, 0])
+        self.refused(26, 0, "order number 1008 is mistyped: its check digit is wrong", register.claim_all, 3, [1008, 1014, 1], [1, 1, 1])
+        self.refused(26, 0, "order number 1009 is mistyped: its check digit is wrong", register.claim_all, 3, [1014, 1009, 1008], [1, 100, 1])
         self.refused(25, 0, "an item line is 1 to 99, and this one is 100", register.claim_all, 3, [1014, 1014, 1014], [1, 100, 0])
         self.refused(6, 0, "there is no serial 8: the edition has 1 to 7", register.claim_all, 8, [1014, 1021], [1, 1])
-        self.refused(6, 0, "6 copies from serial 3 on run past the last serial, 7", register.claim_all, 3, range(1, 7), [1] * 6)
+        self.refused(6, 0, "6 copies from serial 3 on run past the last serial, 7", register.claim_all, 3, [1014] * 6, range(1, 7))
         self.refused(18, 1007, "serial 1 is already written, for order 1007", register.claim_all, 1, [1014, 1021], [1, 1])
         self.refused(18, 0, "serial 2 is already written, as spoilt", register.claim_all, 2, [1014, 1021], [1, 1])
         self.refused(19, 3, "serial 5 is above the next serial, 3", register.claim_all, 5, [1014, 1021], [1, 1])
         self.refused(20, 1, "order 1007, item line 1, already has serial 1", register.claim_all, 3, [1014, 1007, 1007], [1, 2, 1])
-        twice = [1014, 1021, 1028, 1021], [1, 3, 1, 3]
+        twice = [1014, 1021, 1038, 1021], [1, 3, 1, 3]
         self.refused(20, 4, "order 1021, item line 3, stands twice in the bundle, first for serial 4", register.claim_all, 3, *twice)
         self.assertEqual((register.entries(), register.peek()), ([(1007, 1), (0, 0)], (3, [0, 2, 1], 3, 1)))
 
@@ -186,6 +191,41 @@ class SheetOrders(unittest.TestCase):
                 self.assertEqual((edition.major_permutation(edition.unrank(1)), edition.major_code(order)), (order, edition.unrank(1)))
 
 
+class OrderNumbers(unittest.TestCase):
+    """the check digit, as a form asks for it"""
+
+    def test_what_passes(self):
+        for order in 0, 1, 17, 1007, 1008, 1000000007, 1000000008, (1 << 32) - 4, (1 << 32) - 1:
+            self.assertIs(check_digit_ok(order), mistyped.passes(order))
+        self.assertEqual([order for order in range(1000, 1050) if check_digit_ok(order)], [1007, 1014, 1021, 1038, 1045])
+        self.assertEqual([check_digit_ok(order) for order in (1008, 1, (1 << 32) - 1, 0, 161, 611)], [False, False, False, True, True, True])
+
+    def test_other_values(self):
+        """a whole number of 32 bits, as claim takes it; True is 1 there too"""
+        register = SEVEN.open()
+        for wrong, error in (-1, OverflowError), (1 << 32, OverflowError), (1 << 70, OverflowError), (1.5, TypeError), (1007.0, TypeError), \
+                ("1007", TypeError), (None, TypeError), ([1007], TypeError), (b"1007", TypeError):
+            with self.subTest(wrong):
+                self.assertRaises(error, check_digit_ok, wrong)
+                self.assertRaises(error, register.claim, 1, wrong, 1)
+        self.assertRaises(TypeError, check_digit_ok)
+        self.assertIs(check_digit_ok(True), False)
+        self.assertIs(check_digit_ok(False), True)
+        for order, number in (True, Number.CHECK_DIGIT), (False, Number.NO_ORDER):
+            with self.assertRaises(Refused) as caught:
+                register.claim(1, order, 1)
+            self.assertEqual(caught.exception.number, number)
+        self.assertEqual(register.entries(), [])
+
+    def test_a_claim_says_the_same(self):
+        for order in range(1, 2000):
+            register = SEVEN.open()
+            try:
+                self.assertTrue(register.claim(1, order, 1)[0] == 1 and check_digit_ok(order), order)
+            except Refused as refused:
+                self.assertEqual((refused.number, check_digit_ok(order)), (Number.CHECK_DIGIT, False), order)
+
+
 class Values(unittest.TestCase):
     def test_a_number_is_no_mix(self):
         for wrong in 3, 3.0, None, [0, 2.0, 1], "021", ["0", "2", "1"]:
@@ -214,15 +254,15 @@ class Values(unittest.TestCase):
             self.assertRaises(OverflowError, SEVEN.unrank, wrong)
             self.assertRaises(OverflowError, SEVEN.batch, wrong, 1)
             self.assertRaises(OverflowError, SEVEN.batch, 1, wrong)
-            self.assertRaises(OverflowError, register.claim, wrong, 5, 1)
+            self.assertRaises(OverflowError, register.claim, wrong, 1007, 1)
             self.assertRaises(OverflowError, register.void, wrong)
         for wrong in -1, 1 << 32:
             self.assertRaises(OverflowError, Edition, [2, 2], wrong)
             self.assertRaises(OverflowError, register.claim, 1, wrong, 1)
         for wrong in -1, 256, 1 << 70:
-            self.assertRaises(OverflowError, register.claim, 1, 5, wrong)
-        for function, *arguments in (SEVEN.unrank, 1.0), (SEVEN.batch, 1, "2"), (register.claim, 1, None, 1), (register.claim, 1, 5, None), \
-                (register.claim, 1, 5, 1.0), (register.void, 1.0), (Edition, [2], 1.0):
+            self.assertRaises(OverflowError, register.claim, 1, 1007, wrong)
+        for function, *arguments in (SEVEN.unrank, 1.0), (SEVEN.batch, 1, "2"), (register.claim, 1, None, 1), (register.claim, 1, 1007, None), \
+                (register.claim, 1, 1007, 1.0), (register.void, 1.0), (Edition, [2], 1.0):
             self.assertRaises(TypeError, function, *arguments)
         self.assertEqual(register.entries(), [])
 
@@ -276,6 +316,8 @@ class Hints(unittest.TestCase):
     def test_all_is_typed_and_described(self):
         package = huztiral._c, huztiral._editions, huztiral._refusals
         functions = [f for m in package for _, f in inspect.getmembers(m, inspect.isfunction) if f.__module__ == m.__name__]
+        functions.append(check_digit_ok)
+        self.assertTrue(check_digit_ok.__doc__)
         for owner in Edition, Register, Refused:
             functions += [value.fget if isinstance(value, property) else value for value in vars(owner).values()
                           if isinstance(value, property) or inspect.isfunction(value)]
@@ -313,7 +355,7 @@ class Library(unittest.TestCase):
             self.assertEqual((said.returncode, said.stderr.split("\n")[-2][:12]), (1, "ImportError:"))
         with tempfile.TemporaryDirectory() as folder:
             with self.assertRaisesRegex(ImportError, "undefined symbol: huz_version"):
-                huztiral.load(self.library(folder, 1400, names[1:]))
+                huztiral.load(self.library(folder, 1500, names[1:]))
             with self.assertRaisesRegex(ImportError, "no such file|cannot open"):
                 huztiral.load(os.path.join(folder, "none.so"))
 

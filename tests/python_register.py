@@ -1,5 +1,5 @@
 #!/usr/bin/env python3
-"""The register of the Python package: club orders, several copies on one order, and threads that share a register."""
+"""The register of the Python package: club orders, several copies on one order, mistyped order numbers, and threads that share a register."""
 import contextlib
 import itertools
 import os
@@ -7,6 +7,7 @@ import threading
 import unittest
 from array import array
 
+import mistyped
 import report
 from lent import huztiral
 from huztiral import Edition, Number, Refused
@@ -29,11 +30,11 @@ class Clubs(unittest.TestCase):
         self.assertEqual([single.claim(s, o, 1) for s, o in ((1, 1007), (2, 1014), (3, 1021))][0], (1, [2, 1, 0]))
         self.assertEqual((register.entries(), register.peek()), (single.entries(), single.peek()))
         with self.assertRaises(Refused):
-            register.claim_all(4, [1028, 1035, 1014], [1, 1, 1])
+            register.claim_all(4, [1038, 1045, 1014], [1, 1, 1])
         self.assertEqual((register.entries(), register.peek()), (single.entries(), single.peek()))
-        self.assertEqual((register.claim(4, 1028, 1), register.void(5)), ((4, [1, 1, 1]), (5, [2, 0, 1])))
-        self.assertEqual(register.claim_all(6, [1035, 1042], [1, 2]), (6, [1, 0, 2]))
-        self.assertEqual(register.entries(), lines_of([1007, 1014, 1021, 1028]) + [(0, 0), (1035, 1), (1042, 2)])
+        self.assertEqual((register.claim(4, 1038, 1), register.void(5)), ((4, [1, 1, 1]), (5, [2, 0, 1])))
+        self.assertEqual(register.claim_all(6, [1045, 1052], [1, 2]), (6, [1, 0, 2]))
+        self.assertEqual(register.entries(), lines_of([1007, 1014, 1021, 1038]) + [(0, 0), (1045, 1), (1052, 2)])
         with self.assertRaises(Refused) as caught:
             register.peek()
         self.assertEqual(caught.exception.number, Number.ALL_WRITTEN)
@@ -41,41 +42,41 @@ class Clubs(unittest.TestCase):
     def test_sizes(self):
         edition = Edition([9] * 3, 12)
         for size in 1, 2, 39, 40:
-            register, orders = edition.open(), range(1, size + 1)
+            register, orders = edition.open(), mistyped.row(1, size)
             self.assertEqual((register.claim_all(1, orders, [1] * size), register.entries()), ((1, edition.unrank(1)), lines_of(orders)))
             self.assertEqual(register.peek()[:2], (size + 1, edition.unrank(size + 1)))
         for size in 0, 41, 1000:
             register = edition.open()
             with self.assertRaises(Refused) as caught:
-                register.claim_all(1, range(1, size + 1), [1] * size)
+                register.claim_all(1, mistyped.row(1, size), [1] * size)
             self.assertEqual((caught.exception.number, register.entries()), (Number.BUNDLE_LENGTH, []))
 
     def test_any_whole_numbers_are_orders(self):
         for make in list, tuple, bytes, lambda v: array("I", v), lambda v: array("B", v), lambda v: memoryview(array("Q", v)), dict.fromkeys, iter, \
                 lambda v: (o for o in v):
             register = GAP.open()
-            self.assertEqual((register.claim_all(1, make([5, 6]), make([7, 8])), register.entries()), ((1, [2, 0, 1, 0]), [(5, 7), (6, 8)]))
+            self.assertEqual((register.claim_all(1, make([17, 24]), make([7, 8])), register.entries()), ((1, [2, 0, 1, 0]), [(17, 7), (24, 8)]))
 
     def test_other_values(self):
         register = SEVEN.open()
-        for wrong in 5, None, [5.0], ["5"], "5", [None], [[5]]:
+        for wrong in 17, None, [17.0], ["17"], "17", [None], [[17]]:
             self.assertRaises(TypeError, register.claim_all, 1, wrong, [1])
-            self.assertRaises(TypeError, register.claim_all, 1, [5], wrong)
-        for wrong in [-1], [1 << 32], [5, 1 << 70]:
+            self.assertRaises(TypeError, register.claim_all, 1, [17], wrong)
+        for wrong in [-1], [1 << 32], [17, 1 << 70]:
             self.assertRaises(OverflowError, register.claim_all, 1, wrong, [1, 1])
         for wrong in [-1], [256], [1, 1 << 70]:
-            self.assertRaises(OverflowError, register.claim_all, 1, [5, 6], wrong)
+            self.assertRaises(OverflowError, register.claim_all, 1, [17, 24], wrong)
         for wrong in -1, 1 << 64:
-            self.assertRaises(OverflowError, register.claim_all, wrong, [5], [1])
-        self.assertRaises(TypeError, register.claim_all, 1.0, [5], [1])
-        self.assertRaises(TypeError, register.claim_all, 1, [5])
-        self.assertRaises(ZeroDivisionError, register.claim_all, 1, (5 // n for n in (1, 0)), [1, 1])
-        self.assertRaises(ZeroDivisionError, register.claim_all, 1, [5, 6], (5 // n for n in (1, 0)))
+            self.assertRaises(OverflowError, register.claim_all, wrong, [17], [1])
+        self.assertRaises(TypeError, register.claim_all, 1.0, [17], [1])
+        self.assertRaises(TypeError, register.claim_all, 1, [17])
+        self.assertRaises(ZeroDivisionError, register.claim_all, 1, (17 // n for n in (1, 0)), [1, 1])
+        self.assertRaises(ZeroDivisionError, register.claim_all, 1, [17, 24], (5 // n for n in (1, 0)))
         self.assertEqual(register.entries(), [])
 
     def test_too_many_are_not_read(self):
         """forty-one orders say that there are too many, and of item lines one more than the orders"""
-        for few, read in (None, 42), ([5, 6], 3), ([], 1):
+        for few, read in (None, 42), ([17, 24], 3), ([], 1):
             register, orders, items = SEVEN.open(), itertools.count(1), itertools.count(1)
             with self.assertRaises(Refused) as caught:
                 register.claim_all(1, orders if few is None else few, items)
@@ -86,12 +87,12 @@ class Clubs(unittest.TestCase):
         """they are read before the call, so that what makes them may call the same register"""
         for at in 0, 1:
             register = SEVEN.open()
-            given = [[5, 6], [5, 6]]
-            given[at] = (register.claim(serial, 1000 + serial, 1)[0] for serial in (1, 2))
+            given = [[17, 24], [5, 6]]
+            given[at] = (value for serial, order, value in ((1, 1014, 17), (2, 1021, 24)) if register.claim(serial, order, 1))
             with self.assertRaises(Refused) as caught:
                 register.claim_all(1, *given)
             self.assertEqual((caught.exception.number, caught.exception.detail, register.entries()),
-                             (Number.ALREADY_WRITTEN, 1001, [(1001, 1), (1002, 1)]))
+                             (Number.ALREADY_WRITTEN, 1014, [(1014, 1), (1021, 1)]))
 
 
 class Baskets(unittest.TestCase):
@@ -121,11 +122,58 @@ class Baskets(unittest.TestCase):
         self.assertEqual((repr(line), {type(value) for value in line}), ("Entry(order=1007, item=2)", {int}))
 
 
+class Mistyped(unittest.TestCase):
+    """order numbers whose check digit is wrong"""
+
+    def refused(self, number, function, *arguments):
+        with self.assertRaises(Refused) as caught:
+            function(*arguments)
+        self.assertEqual((caught.exception.number, caught.exception.detail), (number, 0), arguments)
+
+    def test_every_digit(self):
+        register = SEVEN.open()
+        register.claim(1, 1007, 1)
+        for order in mistyped.digit_changed(1007):
+            self.refused(Number.CHECK_DIGIT, register.claim, 2, order, 1)
+            self.refused(Number.CHECK_DIGIT, register.claim_all, 2, [order, 1014], [1, 1])
+            self.refused(Number.CHECK_DIGIT, register.claim_all, 2, [1014, order], [1, 1])
+        self.assertEqual((register.entries(), register.claim(2, 1007, 2)), ([(1007, 1)], (2, [1, 2, 0])))
+
+    def test_neighbours(self):
+        """two that are exchanged are found, but for two that are five apart"""
+        register = SEVEN.open()
+        register.claim(1, 161, 1)
+        self.refused(Number.CHECK_DIGIT, register.claim, 2, 1070, 1)
+        self.assertEqual((register.claim(2, 611, 1)[0], register.claim(3, 116, 1)[0]), (2, 3))
+
+    def test_it_comes_in_its_place(self):
+        register = SEVEN.open()
+        register.claim(1, 1007, 1)
+        for serial in 0, 1, 2, 3, 8:
+            for item in 0, 1, 100:
+                self.refused(Number.NO_ORDER, register.claim, serial, 0, item)
+                self.refused(Number.CHECK_DIGIT, register.claim, serial, 1008, item)
+                self.refused(Number.CHECK_DIGIT, register.claim_all, serial, [1008], [item])
+                self.refused(Number.BUNDLE_LENGTH, register.claim_all, serial, [1008, 1008], [item])
+
+    def test_lines_from_before(self):
+        """a register begun before stays readable and goes on"""
+        register = SEVEN.open()
+        register.claim(1, 1007, 1)
+        register._orders[0] = 1008
+        self.assertEqual((register.entries(), register.peek().serial), ([(1008, 1)], 2))
+        with self.assertRaises(Refused) as caught:
+            register.void(1)
+        self.assertEqual((caught.exception.number, caught.exception.detail), (Number.ALREADY_WRITTEN, 1008))
+        self.refused(Number.CHECK_DIGIT, register.claim, 2, 1008, 1)
+        self.assertEqual((register.claim(2, 1007, 1)[0], register.claim_all(3, [1014, 1021], [1, 1])[0], register.void(5)[0]), (2, 3, 5))
+
+
 class Threads(unittest.TestCase):
     LINES = 100_000  # so many that a call takes some 20 microseconds, all of them outside the interpreter's lock
 
     def register(self):
-        """a register with LINES lines, as if each had been claimed"""
+        """a register with LINES lines, as if each had been claimed, before order numbers were checked"""
         edition = Edition([9] * 7, 30)
         register = edition.open()
         register._orders[:self.LINES] = range(1, self.LINES + 1)
@@ -139,17 +187,18 @@ class Threads(unittest.TestCase):
         accepted, each serial once, and a bundle's one after another"""
         said, start = [], threading.Barrier(threads)
 
-        def sell(serial, order):
-            if bundle and order % 2:
-                lines = [((order << 8) + k // 2, 1 + k % 2) for k in range(bundle)]  # two copies on each order
+        def sell(serial, tens):
+            if bundle and tens % 2:
+                lines = [(mistyped.completed(32 * tens + k // 2), 1 + k % 2) for k in range(bundle)]  # two copies on each order
                 return enumerate(lines, register.claim_all(serial, *zip(*lines))[0])
+            order = mistyped.completed(tens)
             return [(register.claim(serial, order, 1)[0], (order, 1))]
 
         def work(first):
             start.wait()
-            for order in range(first, first + turns):
+            for tens in range(first, first + turns):
                 try:
-                    said.extend(sell(register.peek()[0], order))
+                    said.extend(sell(register.peek()[0], tens))
                 except Refused as refused:
                     if refused.number != Number.ALREADY_WRITTEN:
                         said.append((0, refused.number))

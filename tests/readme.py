@@ -21,7 +21,7 @@ def blocks():
 class Readme(unittest.TestCase):
     def test_what_it_shows(self):
         shown = blocks()
-        self.assertEqual([language for language, _ in shown], ["sh", "text", "python", "text", "sh", "text", "python", "text", "sh", "text", "python", "text"])
+        self.assertEqual([language for language, _ in shown], ["sh", "text", "python", "text"] * 3 + ["python", "text"])
         for (language, text), (_, printed) in zip(shown[::2], shown[1::2]):
             said = subprocess.run(RUN[language], cwd=TOP, input=text, stdout=subprocess.PIPE, text=True)
             self.assertEqual((said.returncode, said.stdout), (0, printed), text)

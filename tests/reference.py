@@ -1,4 +1,4 @@
-"""Document 01, and of document 02 requests (i) to (vi), in plain Python: what every call of the engine has to answer, and what the listing program
+"""Document 01, and of document 02 requests (i) to (vii), in plain Python: what every call of the engine has to answer, and what the listing program
 has to print. Written from the documents, for comparison only: numbers are unbounded, nothing is fast, and each function follows the documents' own
 words. The answer of a call is a tuple that starts with number and detail."""
 import re
@@ -279,11 +279,8 @@ def record_of(ms, r, lines):
 
 def opening(ms, r, size, items_size):
     """of the entries of the two columns only their number is looked at"""
-    refusal = edition(ms, r)
-    if not refusal[0] and number(ms, r) > MOST_LINES:
-        refusal = 14, 0
-    if not refusal[0] and (size < number(ms, r) or items_size < number(ms, r)):
-        refusal = 15, 0
+    refusal = first(lambda: edition(ms, r), lambda: (14, 0) if number(ms, r) > MOST_LINES else (0, 0),
+                    lambda: (15, 0) if min(size, items_size) < number(ms, r) else (0, 0))
     return (*refusal, NO_RECORD if refusal[0] else record_of(ms, r, []))
 
 
@@ -304,6 +301,12 @@ def is_register(record, column, items):
         return False
     written = list(zip(column[:lines], items[:lines]))
     return not any(is_unsound(*line) for line in written) and record == record_of(ms, r, written)
+
+
+def weighted_sum(order):
+    """document 02, (vii): the digits, weighted 1, 3, 1, 3 and so on from the right"""
+    digits = str(order)[::-1]
+    return sum(map(int, digits[::2])) + 3 * sum(map(int, digits[1::2]))
 
 
 class Paper:
@@ -341,7 +344,7 @@ class Paper:
         return self.answer(serial)
 
     def take(self, serial, order, item):
-        refusal = (17, 0) if order == 0 else (25, 0) if not 1 <= item <= MOST_ITEM else self.place(serial)
+        refusal = (17, 0) if order == 0 else (26, 0) if weighted_sum(order) % 10 else (25, 0) if not 1 <= item <= MOST_ITEM else self.place(serial)
         if not refusal[0] and (order, item) in self.lowest:
             refusal = 20, self.lowest[order, item]
         return self.write(refusal, serial, (order, item))
@@ -397,10 +400,10 @@ ANSWERS = {
     "huz_major_code": (*SHAPE, 10, 11, 23, 13),
     "huz_open": (*SHAPE, 14, 15),
     "huz_peek": (0, 16, 21),
-    "huz_claim": (0, 16, 17, 25, 6, 18, 19, 20),
+    "huz_claim": (0, 16, 17, 26, 25, 6, 18, 19, 20),
     "huz_void": (0, 16, 6, 18, 19),
-    "huz_claim_all": (0, 16, 24, 17, 25, 6, 18, 19, 20),
-    "huz_claim_in": (0, 16, 17, 25, 6, 18, 19, 20),
+    "huz_claim_all": (0, 16, 24, 17, 26, 25, 6, 18, 19, 20),
+    "huz_claim_in": (0, 16, 17, 26, 25, 6, 18, 19, 20),
     "huz_void_in": (0, 16, 6, 18, 19),
 }
 # the same where a kind is withdrawn: that is no puzzle edition, and what is checked after 10 does not come up

@@ -47,7 +47,7 @@ class Words(unittest.TestCase):
     maxDiff = None
 
     def test_numbers_in_turn(self):
-        self.assertEqual(list(TABLE), list(range(26)))
+        self.assertEqual(list(TABLE), list(range(27)))
 
     def test_header(self):
         body = re.search(r"enum huz_number \{(.*?)\};", read("include", "huztiral.h"), re.DOTALL).group(1)
@@ -80,9 +80,10 @@ class Words(unittest.TestCase):
         for name in "huz_claim", "huz_void":  # "they answer what huz_claim and huz_void answer"
             self.assertIsNone(seen[name + "_in"])
             seen[name + "_in"] = seen[name]
-        self.assertIsNone(seen.pop("huz_entries"))
+        for name in "huz_entries", "huz_order_passes":
+            self.assertIsNone(seen.pop(name))
         self.assertEqual(seen, {name: checks for name, checks in CHECKS.items() if name != "list"})
-        self.assertEqual(set(huztiral.FUNCTIONS), {*seen, "huz_entries", "huz_version"})
+        self.assertEqual(set(huztiral.FUNCTIONS), {*seen, "huz_entries", "huz_order_passes", "huz_version"})
 
 
 # ---- one call for each number that the page says it gives, with as many later faults as go together with it
@@ -92,6 +93,7 @@ EDITIONS = (((), 300, 1, 0), ((61,) * 25, 300, 1, 0), ((2, 61), 300, 2, 2), ((1,
             ((0, 0), 1, 4, 0), ((2, 0, 2), 5, 4, 0), ((0,) + (60,) * 23, 255, 5, 0))
 PUZZLE, SEVEN, GAP = ((3, 2, 1), 3), ((2, 2, 2), 3), ((2, 0, 2, 2), 3)  # the last with a kind withdrawn
 LINES = [(1007, 1), (0, 0)]
+FIVE = 17, 24, 31, 48, 55  # order numbers that pass, as many as there are serials left
 NONE = (((0, 0), 0), (0,), 7), (((0, 0), 0), (0, 1), 8), (((0, 0), 0), (0, 0), 9)
 # a mix or a sheet order that would do, were the withdrawn kind not there
 NO_PUZZLES = tuple(((upper, 1), given, len(given), 10) for upper in ((2, 1, 0), (2, 0, 1), (0, 2, 1)) for given in ((1, 0, 0), (1, 0), (2, 1, 3)))
@@ -131,18 +133,23 @@ def first(*orders):
 
 def bundles_on(sound, short):
     """the same of bundles: with item line 1 each, with others, and where the bundle goes on past the last mix, of which five are left"""
-    numbers = ((short, 0, (), 16, 0), (sound, 0, (), 24, 0), (sound, 3, (0,) * 41, 24, 0), (sound, 3, (5,) * 1000, 24, 0),
-               (sound, 0, (0, 0), 17, 0), (sound, 1, (0,), 17, 0), (sound, 0, (1007,), 6, 0), (sound, 8, (1007, 0), 6, 0),
-               (sound, 1, (1007, 0), 18, 1007), (sound, 2, (1007,), 18, 0), (sound, 4, (1007, 0), 19, 3), (sound, 3, (1007, 0), 20, 1),
-               (sound, 3, (5, 0, 1007), 17, 0), (sound, 3, (5, 1007, 0), 20, 1), (sound, 3, (5, 5, 0), 20, 3), (sound, 3, (5, 6, 7, 6), 20, 4),
-               (sound, 3, (5, 6, 7, 8, 9, 1007), 6, 0), (sound, 3, (5, 6, 7, 8, 9, 5), 6, 0), (sound, 3, (5, 6, 7, 8, 9, 0), 17, 0),
-               (sound, 3, (5, 6, 7, 8, 9, 10, 0), 6, 0))
-    uneven = ((sound, 0, [0, 0], items, 24, 0) for items in ([], [0], [0] * 3, [1] * 1000))
+    numbers = ((short, 0, (), 16, 0), (short, 3, (1008,), 16, 0), (sound, 0, (), 24, 0), (sound, 3, (0,) * 41, 24, 0),
+               (sound, 3, (17,) * 1000, 24, 0), (sound, 3, (1008,) * 41, 24, 0), (sound, 0, (0, 0), 17, 0), (sound, 1, (0,), 17, 0),
+               (sound, 0, (1007,), 6, 0),
+               (sound, 8, (1007, 0), 6, 0), (sound, 1, (1007, 0), 18, 1007), (sound, 2, (1007,), 18, 0), (sound, 4, (1007, 0), 19, 3),
+               (sound, 3, (1007, 0), 20, 1), (sound, 3, (17, 0, 1007), 17, 0), (sound, 3, (17, 1007, 0), 20, 1), (sound, 3, (17, 17, 0), 20, 3),
+               (sound, 3, (17, 24, 31, 24), 20, 4), (sound, 3, (*FIVE, 1007), 6, 0), (sound, 3, (*FIVE, 17), 6, 0), (sound, 3, (*FIVE, 0), 17, 0),
+               (sound, 3, (*FIVE, 62, 0), 6, 0), *((sound, serial, (1008, 0), 26, 0) for serial in (0, 1, 2, 3, 4, 8)),
+               (sound, 3, (17, 1008, 17), 26, 0), (sound, 3, (17, 17, 1008), 20, 3), (sound, 3, (17, 0, 1008), 17, 0),
+               (sound, 3, (*FIVE, 1008), 26, 0), (sound, 3, (*FIVE, 62, 1008), 6, 0),
+               (sound, 1, (1007, 1008), 18, 1007), (sound, 4, (1007, 1008), 19, 3))
+    uneven = ((sound, 0, [order] * 2, items, 24, 0) for order in (0, 1008) for items in ([], [0], [0] * 3, [1] * 1000))
     lines = ((short, 3, ((0, 0),), 16, 0), (sound, 0, ((0, 0), (0, 0)), 17, 0), (sound, 0, ((1007, 0), (0, 1)), 25, 0),
              (sound, 1, ((1007, 100),), 25, 0), (sound, 4, ((1007, 255),), 25, 0), (sound, 3, ((1007, 2), (1007, 0)), 25, 0),
-             (sound, 3, ((1007, 2), (1007, 1), (5, 0)), 20, 1), (sound, 3, ((5, 1), (5, 2), (5, 1), (5, 100)), 20, 3),
-             (sound, 3, ((5, 1), (5, 100), (5, 1)), 25, 0), (sound, 3, ((5, 1), (6, 1), (7, 1), (8, 1), (9, 1), (10, 0)), 25, 0),
-             (sound, 3, ((5, 1), (5, 2), (5, 3), (5, 4), (5, 5), (0, 0)), 17, 0), (sound, 3, ((5, 1), (5, 2), (5, 3), (5, 4), (5, 5), (5, 5)), 6, 0))
+             (sound, 3, ((1007, 2), (1007, 1), (17, 0)), 20, 1), (sound, 3, ((17, 1), (17, 2), (17, 1), (17, 100)), 20, 3),
+             (sound, 3, ((17, 1), (17, 100), (17, 1)), 25, 0), (sound, 3, (*((order, 1) for order in FIVE), (62, 0)), 25, 0),
+             (sound, 3, (*((17, item) for item in range(1, 6)), (0, 0)), 17, 0), (sound, 3, (*((17, item) for item in range(1, 6)), (17, 5)), 6, 0),
+             (sound, 3, ((17, 1), (1008, 0)), 26, 0), (sound, 3, ((17, 0), (1008, 1)), 25, 0), (sound, 8, ((1008, 100),), 26, 0))
     return (*((book, serial, *first(*orders), *said) for book, serial, orders, *said in numbers), *uneven,
             *((book, serial, *bundled(*given), *said) for book, serial, given, *said in lines))
 
@@ -150,16 +157,20 @@ def bundles_on(sound, short):
 def on_registers(edition):
     """of calls on a register of seven mixes with these LINES, next serial 3: the record and the columns, what comes after them; number and detail"""
     record, full = ref.record_of(*edition, LINES), ref.record_of(*edition, [(5, item) for item in range(1, 8)])
+    earlier = ref.record_of(*edition, [(1008, 1), (0, 0)]), [1008, 0] + [1008] * 5, [1, 0] + [1] * 5  # from before the check, which 1008 fails
     orders, items = [1007, 0] + [9] * 5, [1, 0] + [200] * 5
     sound, short = (record, orders, items), (record, orders[:-1], items)
     others = [(record, orders, items[:6]), (record, orders, [])]
     others += [(record, orders, line + items[2:]) for line in ([100, 0], [255, 0], [0, 0], [1, 1], [1, 99], [1, 200])]
-    faults = ((sound, serial, order, item, 25 if order else 17, 0) for serial in (0, 1, 3, 4, 8) for order in (0, 1007) for item in (0, 100, 255))
-    claims = ((short, 0, 0, 0, 16, 0), *((book, 0, 0, 0, 16, 0) for book in others), (sound, 0, 0, 1, 17, 0), (sound, 1, 0, 1, 17, 0), *faults,
+    faults = ((sound, serial, order, item, number, 0) for serial in (0, 1, 3, 4, 8) for order, number in ((0, 17), (1008, 26), (1007, 25))
+              for item in (0, 100, 255))
+    mistyped = ((book, serial, 1008, item, 26, 0) for book in (sound, earlier) for serial in (0, 1, 2, 3, 4, 8) for item in (0, 1, 100))
+    claims = ((short, 0, 0, 0, 16, 0), *((book, 0, 0, 0, 16, 0) for book in others), *((book, 3, 1008, 1, 16, 0) for book in (short, *others)),
+              (sound, 0, 0, 1, 17, 0), (sound, 1, 0, 1, 17, 0), *faults, *mistyped, (earlier, 1, 1007, 1, 18, 1008), (earlier, 4, 1007, 1, 19, 3),
               (sound, 0, 1007, 1, 6, 0), (sound, 8, 1007, 1, 6, 0), (sound, 1, 1007, 1, 18, 1007), (sound, 2, 1007, 1, 18, 0),
               (sound, 1, 1007, 2, 18, 1007), (sound, 4, 1007, 1, 19, 3), (sound, 3, 1007, 1, 20, 1))
     voids = ((short, 0, 16, 0), *((book, 0, 16, 0) for book in others), (sound, 0, 6, 0), (sound, 8, 6, 0), (sound, 1, 18, 1007), (sound, 2, 18, 0),
-             (sound, 4, 19, 3))
+             (sound, 4, 19, 3), (earlier, 1, 18, 1008), (earlier, 4, 19, 3))
     bundles = (*bundles_on(sound, short), *((book, 0, [], [1], 16, 0) for book in others))
     looks = (((full, [5] * 6, [*range(1, 8)]), 16, 0), ((full, [5] * 7, [*range(1, 7)]), 16, 0), (short, 16, 0), *((book, 16, 0) for book in others),
              ((full, [5] * 7, [*range(1, 8)]), 21, 0))
@@ -206,6 +217,7 @@ class Calls(unittest.TestCase):
                     given = [Lent(a, (0, 4, 1)[at]) if isinstance(a, list) else a for at, a in enumerate(rest)]
                     self.assertEqual(self.said(name, ledger_of(record), Lent(column, 4), Lent(items), *given), (number, detail), (name, rest, items))
                 self.assertEqual({case[-2] for case in cases}, set(CHECKS[name]), name)
+            self.assertEqual(call("huz_entries", ledger_of(ref.record_of(*edition, [(1008, 1)])), Lent([1008] * 7, 4), Lent([1] * 7)), (1,))
             for (record, column, items), number, _ in registers["huz_peek"]:
                 self.assertEqual(call("huz_entries", ledger_of(record), Lent(column, 4), Lent(items)), (0 if number == 16 else 7,))
 

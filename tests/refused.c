@@ -22,9 +22,10 @@ static void expect(uint32_t number, uint32_t expected) {
     }
 }
 
-/* bundles are parts of this one: 1014 1021 1014, 1014 0, 1028 1028, 1035 1007, each with item line 1, and 1007 with 100 and 0 */
-static const uint32_t bundled[11] = {1014, 1021, 1014, 0, 1014, 1028, 1028, 1035, 1007, 1007, 1007};
-static const uint8_t lined[11] = {1, 1, 1, 1, 1, 1, 1, 1, 1, 100, 0};
+/* bundles are parts of this one: 1014 1021 1014, 1014 0, 1038 1038, 1045 1007, each with item line 1, 1007 with 100 and 0, and 1052 1008, of which
+ * 1008 fails the check of an order number */
+static const uint32_t bundled[13] = {1014, 1021, 1014, 0, 1014, 1038, 1038, 1045, 1007, 1007, 1007, 1052, 1008};
+static const uint8_t lined[13] = {1, 1, 1, 1, 1, 1, 1, 1, 1, 100, 0, 1, 1};
 
 /* three mixes, of which the first is claimed for order 1007, item line 1; the columns have room for one more */
 static void open_on(lent *page, const uint8_t *upper, size_t parts) {
@@ -58,6 +59,12 @@ static void refuse_bundles(const lent *page) {
     refuse_lines(page, 4, 4, 2, 0, 2, 1, 24);
     refuse_lines(page, 4, 4, 2, 0, 2, 3, 24);
     refuse_lines(page, 4, 4, 2, 0, 2, 0, 24);
+    refuse_lines(page, 4, 4, 2, 12, 1, 0, 24);
+    refuse_bundle(page, 2, 2, 12, 1, 16);
+    refuse_bundle(page, 4, 2, 12, 1, 26);
+    refuse_bundle(page, 4, 2, 11, 2, 26);
+    refuse_bundle(page, 4, 1, 12, 1, 26);
+    refuse_bundle(page, 4, 4, 12, 1, 26);
     refuse_bundle(page, 4, 2, 9, 1, 25);
     refuse_bundle(page, 4, 4, 10, 1, 25);
     refuse_bundle(page, 4, 2, 7, 3, 20);
@@ -85,6 +92,12 @@ static void refuse(lent *page) {
     expect(huz_claim_in(ledger, orders, 4, items, 2, 2, 1014, 1).number, 16);
     expect(huz_claim_in(ledger, orders, 4, items, 4, 2, 0, 1).number, 17);
     expect(huz_claim_in(ledger, orders, 4, items, 4, 2, 0, 0).number, 17);
+    expect(huz_claim_in(ledger, orders, 2, items, 4, 2, 1008, 1).number, 16);
+    expect(huz_claim_in(ledger, orders, 4, items, 4, 2, 1008, 1).number, 26);
+    expect(huz_claim_in(ledger, orders, 4, items, 4, 2, 1008, 0).number, 26);
+    expect(huz_claim_in(ledger, orders, 4, items, 4, 1, 1008, 1).number, 26);
+    expect(huz_claim_in(ledger, orders, 4, items, 4, 3, 1008, 1).number, 26);
+    expect(huz_claim_in(ledger, orders, 4, items, 4, 4, UINT32_MAX, 100).number, 26);
     expect(huz_claim_in(ledger, orders, 4, items, 4, 2, 1014, 0).number, 25);
     expect(huz_claim_in(ledger, orders, 4, items, 4, 4, 1014, 100).number, 25);
     expect(huz_claim_in(ledger, orders, 4, items, 4, 1, 1014, 255).number, 25);

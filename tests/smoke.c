@@ -101,7 +101,7 @@ static void club(void) {
     expect(is(items, 1, 1, 200), "the item column after huz_claim_all");
     huz_claimed second = huz_claim_all(claimed.ledger, orders, 4, items, 4, 1, bundle, 1, lines, 1);
     expect(second.number == HUZ_ALREADY_WRITTEN && second.detail == 1007 && second.ledger.entries == 2, "a second huz_claim_all");
-    const uint32_t more[2] = {1021, 1028};
+    const uint32_t more[2] = {1021, 1038};
     second = huz_claim_all(claimed.ledger, orders, 4, items, 4, 3, more, 2, lines, 2);
     expect(second.number == HUZ_SERIAL_OUT_OF_RANGE && orders[2] == 5 && items[2] == 200, "huz_claim_all past the last mix");
     expect(huz_claim_all(claimed.ledger, orders, 4, items, 4, 3, NULL, 0, NULL, 0).number == HUZ_BUNDLE_LENGTH, "huz_claim_all of no orders");
@@ -137,6 +137,34 @@ static void basket(void) {
         items[i] = orders[i] != 0;
     expect(huz_peek(ledger, orders, 3, items, 3).serial == 3, "huz_peek with a 1 beside the order");
     expect(huz_entries(ledger, orders, 3, items, 3) == 2, "huz_entries with a 1 beside the order");
+}
+
+/* mistyped order numbers, and a sale made before they were refused */
+static void mistyped(void) {
+    const uint8_t upper[3] = {1, 1, 1}, lines[2] = {1, 1};
+    const uint32_t wrong[2] = {1007, 1008}, right[2] = {1007, 1014};
+    uint32_t orders[3] = {5, 5, 5};
+    uint8_t items[3] = {200, 200, 200};
+
+    expect(huz_order_passes(1007) == true && huz_order_passes(1008) == false, "huz_order_passes");
+    expect(huz_order_passes(0) && huz_order_passes(UINT32_MAX - 3) && !huz_order_passes(UINT32_MAX), "huz_order_passes at the ends of its range");
+    huz_ledger ledger = huz_open(upper, 3, 1, orders, 3, items, 3).ledger;
+    huz_claimed claimed = huz_claim(ledger, orders, 3, items, 3, 1, 1008, 1);
+    expect(claimed.number == HUZ_CHECK_DIGIT && claimed.detail == 0 && claimed.serial == 0 && claimed.ledger.entries == 0, "huz_claim of a mistyped order");
+    expect(huz_claim_in(&ledger, orders, 3, items, 3, 9, 1008, 0).number == HUZ_CHECK_DIGIT, "huz_claim_in of a mistyped order");
+    claimed = huz_claim_all(ledger, orders, 3, items, 3, 1, wrong, 2, lines, 2);
+    expect(claimed.number == HUZ_CHECK_DIGIT && claimed.detail == 0 && claimed.ledger.entries == 0, "huz_claim_all with a mistyped order");
+    expect(orders[0] == 5 && items[0] == 200, "the columns after a mistyped order");
+    expect(huz_claim_in(&ledger, orders, 3, items, 3, 1, 1007, 1).number == 0, "huz_claim_in of the right order");
+
+    /* as it was sold before */
+    orders[0] = 1008;
+    expect(huz_peek(ledger, orders, 3, items, 3).serial == 2, "huz_peek after a sale to 1008");
+    expect(huz_entries(ledger, orders, 3, items, 3) == 1, "huz_entries after a sale to 1008");
+    huz_answer answer = huz_void_in(&ledger, orders, 3, items, 3, 1);
+    expect(answer.number == HUZ_ALREADY_WRITTEN && answer.detail == 1008, "huz_void_in of a line of 1008");
+    claimed = huz_claim_all(ledger, orders, 3, items, 3, 2, right, 2, lines, 2);
+    expect(claimed.number == 0 && claimed.ledger.entries == 3 && orders[0] == 1008, "huz_claim_all after a sale to 1008");
 }
 
 int main(void) {
@@ -193,8 +221,9 @@ int main(void) {
     major();
     club();
     basket();
+    mistyped();
     withdrawn();
     if (!failed)
-        puts("smoke: 19 functions, 18 of them with a kind withdrawn");
+        puts("smoke: 20 functions, 18 of them with a kind withdrawn");
     return failed;
 }

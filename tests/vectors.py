@@ -75,6 +75,7 @@ def fixed():
             yield command("b", ms, r, 1, copies, copies * len(ms))
     yield from by_major_index()
     yield from without_a_line()
+    yield from before_the_check()
 
 
 def by_major_index():
@@ -94,6 +95,16 @@ def without_a_line():
     for which in range(len(interleave.WORDS)):
         for orders, items in ([], []), ([1007], []), ([], [1]), ([1007], [2]), ([1007, 1014], [2]), ([1014], [1, 2]):
             yield command("k", *record, [1007, 5, 5], [1, 9, 9, 9], which, 2, orders, items)
+
+
+def before_the_check():
+    """calls on a record whose line has an order number that fails, written before there was 26: 18 and 26 before 20 of it, and nobody else looks"""
+    record = ref.record_of((1, 1, 1), 1, [(1008, 1)])
+    given = {interleave.PEEK: [(0, 1008, 1)], interleave.VOID: [(serial, 1008, 1) for serial in (0, 1, 2, 3)]}
+    takes = [(serial, order, item) for serial in (0, 1, 2, 3) for order in (0, 1007, 1008) for item in (0, 1)]
+    for which in range(len(interleave.WORDS)):
+        for serial, order, item in given.get(which, takes):
+            yield command("k", *record, [1008, 5, 5], [1, 9, 9], which, serial, [order], [item])
 
 
 class Draw:
@@ -345,6 +356,17 @@ def uneven_bundles(line):
     return sum(map(interleave.is_uneven, interleave.calls_of(read.list(), read.list(), read.list())))
 
 
+def answers_in_list(line):
+    """which calls a list that is run has, each with the number that it answers"""
+    if line[0] != "l" or answer_of(line):
+        return
+    read = Reader(line)
+    (ms, r), *_ = read.edition(), read.list(), read.list()
+    paper = ref.Paper(ms, r)
+    for call in interleave.calls_of(read.list(), read.list(), read.list()):
+        yield call[0], interleave.answer(paper, call)[0]
+
+
 def answered(text):
     """the lines that answer the commands"""
     return [" ".join(map(str, answer)) + "\n" for line in text.split("\n") if line for answer in lines_of(line)]
@@ -368,7 +390,7 @@ def path(name):
 
 def checked():
     """stdout is what the reference says, every number that a command can answer comes up, with all kinds and with a kind withdrawn, and so do uneven
-    bundles in lists"""
+    bundles in lists, and in lists every number that a call can answer but 16"""
     with open(path("stdin"), encoding="ascii") as f:
         commands = f.read()
     with open(path("stdout"), encoding="ascii") as f:
@@ -380,7 +402,13 @@ def checked():
         differences += [f"{kind} does not answer {number}{' with a kind withdrawn' * there}" for there, number in missing]
     uneven = [n for line in commands.split("\n") if line and (n := uneven_bundles(line))]
     differences += [] if uneven else ["no list has a bundle with another number of item lines than of orders"]
+    in_lists = Counter(answer for line in commands.split("\n") if line for answer in answers_in_list(line))
+    wanted = {which: sorted({*ref.ANSWERS[CALLS[f"k{which}"][0]]} - {16}) for which in range(len(interleave.WORDS))}
+    missing = [(interleave.WORDS[which], n) for which in wanted for n in wanted[which] if not in_lists[which, n]]
+    differences += [f"no {word} of a list answers {number}" for word, number in missing]
     print("\n".join(differences), end="\n" if differences else "")
+    for which in wanted:
+        print(f"l: {interleave.WORDS[which]} answered", ", ".join(f"{n} {in_lists[which, n]} times" for n in wanted[which]))
     for kind in CALLS:
         print(f"{kind} with a kind withdrawn: answered", ", ".join(f"{n} {came_up[kind, t, n]} times" for t, n in sorted(numbers(kind)) if t))
     print(f"l: {sum(uneven)} bundles with another number of item lines than of orders, in {len(uneven)} lists")

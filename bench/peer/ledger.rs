@@ -1,5 +1,6 @@
 //! A peek, a claim, a void and a claim of several: each checks the whole record, with one pass over the lines.
 use super::count::{fill, memory, shape};
+use super::digits::passes;
 use super::order::{advance, write};
 use super::types::*;
 
@@ -106,10 +107,11 @@ fn slot(order: u32) -> usize {
     order as usize % SLOTS
 }
 
-/// 17 and 25.
+/// 17, 26 and 25.
 fn fault(order: u32, item: u8) -> Result<(), Refused> {
     match () {
         _ if order == 0 => Err((17, 0)),
+        _ if !passes(order) => Err((26, 0)),
         _ if item == 0 || item > LAST => Err((25, 0)),
         _ => Ok(()),
     }

@@ -1,6 +1,6 @@
 """Huztiral: editions of boxes, each a different mix of tiles, their serial numbers, and the register in which they are sold.
 
-    from huztiral import Edition, Number, Refused
+    from huztiral import Edition, Number, Refused, check_digit_ok
 
     edition = Edition([2, 2, 2], 3)         # three kinds of tile, at most two of each, three tiles in a box
     edition.count                           # 7: so many mixes there are, and each is one copy
@@ -19,10 +19,13 @@
         register.claim(next.serial, 1007, 1)  # sell it, for order 1007, item line 1
     except Refused as refused:
         if refused.number == Number.ALREADY_WRITTEN:
-            print(refused)                  # serial 1 is already written, for order 1003
+            print(refused)                  # serial 1 is already written, for order 1014
     register.claim(2, 1007, 2)              # the second copy on that order: a number of 1 to 99, its item line, tells them apart
     register.claim_all(3, [1014, 1021], [1, 1])  # a club order: serials 3 and 4, for these two orders, item line 1 each, or neither
     register.entries()                      # [Entry(order=1007, item=1), ..]: the lines so far
+
+    check_digit_ok(1007)                    # True: the digits, weighted 1, 3, 1, 3 from the right, sum to 10
+    check_digit_ok(1008)                    # False: mistyped, and a claim for order 1008 is refused (Number.CHECK_DIGIT)
 
 A kind that is withdrawn has the ceiling 0. An `Edition` never changes. A `Register` may be shared by threads: its calls come one after another. A
 call that cannot be done raises `Refused` and changes nothing. The engine behind it is proved; this package only hands values over to it
@@ -30,12 +33,12 @@ call that cannot be done raises `Refused` and changes nothing. The engine behind
 built before.
 """
 from ._c import (C, CELLS, FUNCTIONS, Answer, Bounds, Checked, Claimed, Done, Ledger, Opened, Peeked, Ranked, Stepped, load, version_of)
-from ._editions import Edition, Entry, Look, Register, Step
+from ._editions import Edition, Entry, Look, Register, Step, check_digit_ok
 from ._refusals import Number, Refused
 
 __version__: str = version_of(C)
-__all__ = ["Edition", "Register", "Step", "Look", "Entry", "Refused", "Number", "__version__"]
+__all__ = ["Edition", "Register", "Step", "Look", "Entry", "check_digit_ok", "Refused", "Number", "__version__"]
 
-for _public in Edition, Register, Step, Look, Entry, Refused, Number:  # so that messages and pickles name them as users do
+for _public in Edition, Register, Step, Look, Entry, check_digit_ok, Refused, Number:  # so that messages and pickles name them as users do
     _public.__module__ = __name__
 del _public

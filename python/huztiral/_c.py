@@ -5,7 +5,7 @@ import ctypes
 import os
 import re
 import subprocess
-from ctypes import POINTER, Structure, c_size_t, c_uint8, c_uint32, c_uint64
+from ctypes import POINTER, Structure, c_bool, c_size_t, c_uint8, c_uint32, c_uint64
 from typing import Any, Optional
 
 TOP = os.path.dirname(os.path.dirname(os.path.dirname(os.path.abspath(__file__))))
@@ -75,6 +75,7 @@ FUNCTIONS: dict[str, tuple[Any, list[Any]]] = {
     "huz_inversions": (Done, EDITION + BYTES + BYTES),
     "huz_major_permutation": (Done, EDITION + BYTES + BYTES),
     "huz_major_code": (Done, EDITION + BYTES + BYTES),
+    "huz_order_passes": (c_bool, [c_uint32]),
     "huz_open": (Opened, EDITION + COLUMNS),
     "huz_peek": (Peeked, [Ledger] + COLUMNS),
     "huz_claim": (Claimed, [Ledger] + COLUMNS + [c_uint64, c_uint32, c_uint8]),
@@ -91,7 +92,7 @@ def _dotted(version: int) -> str:
 
 
 def version_of(library: ctypes.CDLL) -> str:
-    """the version of a library, as 0.14.0"""
+    """the version of a library, as 0.15.0"""
     return _dotted(library.huz_version())
 
 

@@ -41,6 +41,16 @@ def _lent(values: bytes) -> tuple[Any, int]:
     return (c_uint8 * len(values)).from_buffer_copy(values), len(values)
 
 
+def check_digit_ok(order: SupportsIndex) -> bool:
+    """whether the check digit of an order number is right, for a form that asks before anything is sold
+
+    The digits, weighted 1, 3, 1, 3 and so on from the right, have to sum to a multiple of ten: 1007 passes, 1008 does not. One mistyped digit of a
+    number that passes is always found, two neighbours exchanged unless they are five apart, as 3 and 8. 0 passes the sum, but no order is numbered
+    0, and a claim refuses it with 17 (`Number.NO_ORDER`).
+    """
+    return C.huz_order_passes(_fits(order, 32))
+
+
 class Step(NamedTuple):
     """A step's answer: the mix reached, and the kinds, from 1, that gain and lose a tile on the way to it from the mix given."""
 
@@ -199,8 +209,9 @@ class Edition:
 class Register:
     """The register of an edition, in memory: which order each serial was sold to. Serials are written one after another, from 1 on.
 
-    A serial is sold to an order number, 1 to 2**32 - 1, and an item line, 1 to 99. The item line tells the copies on one order apart: of two copies in
-    a basket one is sold with item line 1, the other with item line 2. An order number and an item line together stand in a register once.
+    A serial is sold to an order number, 1 to 2**32 - 1 with a right check digit (`check_digit_ok`), and an item line, 1 to 99. The item line tells
+    the copies on one order apart: of two copies in a basket one is sold with item line 1, the other with item line 2. An order number and an item
+    line together stand in a register once.
 
     Threads may share it, for each call waits until the one before it is done. It cannot be copied or pickled: a copy of a register would sell
     its serials again. Processes that share one need shared memory and a lock of their own (README, "One call after another").
@@ -264,7 +275,9 @@ class Register:
         if answer.number == Number.BUNDLE_LENGTH:
             uneven = ("more" if len(lines) > len(bundle) else "fewer") if 1 <= len(bundle) <= _MOST_ORDERS else ""
             return {"size": "more" if bundle else "none", "uneven": uneven}
-        if answer.number == Number.ITEM_LINE:  # an order before it would have been refused before
+        if answer.number == Number.CHECK_DIGIT:  # its first wrong one: the takes before it would have been accepted
+            return {"order": next(order for order in bundle if not check_digit_ok(order))}
+        if answer.number == Number.ITEM_LINE:  # likewise
             return {"item": next(item for item in lines if not 1 <= item <= _LAST_ITEM)}
         return {}
 

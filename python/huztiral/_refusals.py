@@ -44,6 +44,7 @@ class Number(IntEnum):
     MAJOR_INDEX_NOT_TOTAL = 23, "the major index of the sheet order given is not the total"
     BUNDLE_LENGTH = 24, "the bundle has no orders, or more than 40, or not as many item lines as orders"
     ITEM_LINE = 25, "the item line is 0 or over 99"
+    CHECK_DIGIT = 26, "the digits of the order number, weighted 1, 3, 1, 3 and so on from the right, do not sum to a multiple of ten"
 
 
 # What is said where the arguments of the call are known; for other numbers the meaning is said.
@@ -67,6 +68,7 @@ _SENTENCES = {
     Number.MAJOR_INDEX_NOT_TOTAL: "{given} has another major index than the total, {total}",
     Number.BUNDLE_LENGTH: "a bundle has 1 to 40 orders, and this one has {size}",
     Number.ITEM_LINE: "an item line is 1 to 99, and this one is {item}",
+    Number.CHECK_DIGIT: "order number {order} is mistyped: its check digit is wrong",
 }
 
 

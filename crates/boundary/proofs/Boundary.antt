@@ -6,6 +6,7 @@ use lib.ListN.{getD, drop}
 use Rattle.walsh.specs.Order.{listing, order, count, countOf}
 use Rattle.walsh.specs.Serial.{same, placeOf, serialOf, compositionOf}
 use Rattle.walsh.specs.Transition.{gainFrom, transitionAt}
+use Rattle.digits.specs.Digits.{weightedSum}
 use Rattle.bounds.specs.Refusal.{firstRefusal}
 use Rattle.bounds.specs.Edition.{firstOutside, cellsOf}
 use Rattle.bounds.specs.Places.{filling}
@@ -25,7 +26,7 @@ all-hold : map given rows ≡ map claimed rows
 unfolding rows same placeOf serialOf compositionOf order listing countOf count firstRefusal firstOutside cellsOf rankAnswer stepOf
     gainFrom transitionAt filling staircase isStaircase isPermutation inversions permutationOf lift inversionVector majorIndex turnRows
     majorPermutation majorCode toPermutation toComposition
-    compositions opened opening consistent answered recordAfter columnAfter run answer after bookFrom
+    compositions opened opening consistent answered recordAfter columnAfter run answer after bookFrom weightedSum
 all-hold = refl
 
 agree : (l : List Row) → map given l ≡ map claimed l → (row : Row) → List·Memᴰ row l → Holds row

@@ -1,10 +1,11 @@
 -- Document 01, "Boundary copies": the table, with the pairs of document 02, (i), and rows for the withdrawn kinds of (ii), the permutations by
--- major index of (iii), the bundles of (v) and the item lines of (vi).
+-- major index of (iii), the bundles of (v), the item lines of (vi) and the mistyped orders of (vii).
 use mathlib.Core.List.{List, [], _∷_, map}
-use Prim.Native.Nat.{ℕ, _+_}
+use Prim.Native.Nat.{ℕ, _+_, _-_, _*_, _%_}
 use lib.ListN.{replicate}
 use Rattle.walsh.specs.Order.{threeTwos, seven}
 use Rattle.walsh.specs.Withdrawn.{gapped}
+use Rattle.digits.specs.Digits.{weightedSum}
 use Rattle.mahonian.specs.Staircase.{staircase}
 use Rattle.permutation.specs.Reading.{byInversions}
 use Rattle.major.specs.Major.{upTo}
@@ -17,9 +18,9 @@ use Rattle.boundary.specs.Row.{permutations, reads, unread, noPuzzle, Ro
 abbrev row : List ℕ → ℕ → Claim → Row
 row ms r what = record { bounds = ms; total = r; claim = what }
 
--- the orders 1001 to 1000 + n
+-- n orders, 1007, 1014, 1021 and so on: 100, 101, 102 and so on, each with the digit behind it that makes the weighted sum a multiple of ten
 abbrev ordersTo : ℕ → List ℕ
-ordersTo n = map (λ (k : ℕ). 1000 + k) (upTo n)
+ordersTo n = map (λ (k : ℕ). (let m = 10 * (99 + k) in m + (10 - weightedSum m % 10) % 10)) (upTo n)
 
 -- orders with item line 1 each
 abbrev ones : List ℕ → Lent
@@ -125,17 +126,17 @@ rows =
     ∷ (peek, 0 ∷ 0 ∷ 3 ∷ 0 ∷ 2 ∷ 1 ∷ [], 3, 1)
     -- 20 of a line written before, and of the bundle's own first
     ∷ (claim-all 3 (ones (1021 ∷ 1014 ∷ [])), 20 ∷ 2 ∷ [], 0, 0)
-    ∷ (claim-all 3 (ones (1021 ∷ 1028 ∷ 1028 ∷ [])), 20 ∷ 4 ∷ [], 0, 0)
+    ∷ (claim-all 3 (ones (1021 ∷ 1038 ∷ 1038 ∷ [])), 20 ∷ 4 ∷ [], 0, 0)
     ∷ (void 3, 0 ∷ 0 ∷ 3 ∷ 0 ∷ 2 ∷ 1 ∷ [], 0, 0)
     -- five orders for the four that are left: 6, before 20 and behind 17; 20 where it comes earlier
-    ∷ (claim-all 4 (ones (1021 ∷ 1028 ∷ 1035 ∷ 1042 ∷ 1049 ∷ [])), 6 ∷ [], 0, 0)
-    ∷ (claim-all 4 (ones (1021 ∷ 1028 ∷ 1035 ∷ 1042 ∷ 1007 ∷ [])), 6 ∷ [], 0, 0)
-    ∷ (claim-all 4 (ones (1021 ∷ 1028 ∷ 1035 ∷ 1042 ∷ 0 ∷ [])), 17 ∷ [], 0, 0)
-    ∷ (claim-all 4 (ones (1021 ∷ 1028 ∷ 1007 ∷ 1042 ∷ 0 ∷ [])), 20 ∷ 1 ∷ [], 0, 0)
-    ∷ (claim-all 4 (ones (1021 ∷ 1028 ∷ 1035 ∷ 1042 ∷ [])), 0 ∷ 0 ∷ 4 ∷ 1 ∷ 1 ∷ 1 ∷ [], 0, 0)
+    ∷ (claim-all 4 (ones (1021 ∷ 1038 ∷ 1045 ∷ 1052 ∷ 1069 ∷ [])), 6 ∷ [], 0, 0)
+    ∷ (claim-all 4 (ones (1021 ∷ 1038 ∷ 1045 ∷ 1052 ∷ 1007 ∷ [])), 6 ∷ [], 0, 0)
+    ∷ (claim-all 4 (ones (1021 ∷ 1038 ∷ 1045 ∷ 1052 ∷ 0 ∷ [])), 17 ∷ [], 0, 0)
+    ∷ (claim-all 4 (ones (1021 ∷ 1038 ∷ 1007 ∷ 1052 ∷ 0 ∷ [])), 20 ∷ 1 ∷ [], 0, 0)
+    ∷ (claim-all 4 (ones (1021 ∷ 1038 ∷ 1045 ∷ 1052 ∷ [])), 0 ∷ 0 ∷ 4 ∷ 1 ∷ 1 ∷ 1 ∷ [], 0, 0)
     ∷ (peek, 21 ∷ [], 0, 0)
-    ∷ (claim-all 7 (ones (1049 ∷ [])), 18 ∷ 1042 ∷ [], 0, 0)
-    ∷ (claim-all 8 (ones (1049 ∷ [])), 6 ∷ [], 0, 0)
+    ∷ (claim-all 7 (ones (1069 ∷ [])), 18 ∷ 1052 ∷ [], 0, 0)
+    ∷ (claim-all 8 (ones (1069 ∷ [])), 6 ∷ [], 0, 0)
     ∷ []))
     -- bundles of 41, of 40 with 41 item lines, and of 40, on an edition of 45 copies, whose last 5 are then too few for 6 orders
     ∷ row (8 ∷ 8 ∷ 8 ∷ []) 8
@@ -143,9 +144,9 @@ rows =
     ((claim-all 1 (ones (ordersTo 41)), 24 ∷ [], 0, 0)
     ∷ (claim-all 1 (columns (ordersTo 40) (replicate 41 1)), 24 ∷ [], 0, 0)
     ∷ (claim-all 1 (ones (ordersTo 40)), 0 ∷ 0 ∷ 1 ∷ 8 ∷ 0 ∷ 0 ∷ [], 0, 0)
-    ∷ (claim-all 41 (ones (1041 ∷ 1042 ∷ 1043 ∷ 1044 ∷ 1045 ∷ 1046 ∷ [])), 6 ∷ [], 0, 0)
-    ∷ (claim-all 41 (ones (1041 ∷ 1042 ∷ 1043 ∷ 1044 ∷ 1040 ∷ [])), 20 ∷ 40 ∷ [], 0, 0)
-    ∷ (claim-all 41 (ones (1041 ∷ 1042 ∷ 1043 ∷ 1044 ∷ 1045 ∷ [])), 0 ∷ 0 ∷ 41 ∷ 1 ∷ 1 ∷ 6 ∷ [], 0, 0)
+    ∷ (claim-all 41 (ones (1403 ∷ 1410 ∷ 1427 ∷ 1434 ∷ 1441 ∷ 1458 ∷ [])), 6 ∷ [], 0, 0)
+    ∷ (claim-all 41 (ones (1403 ∷ 1410 ∷ 1427 ∷ 1434 ∷ 1397 ∷ [])), 20 ∷ 40 ∷ [], 0, 0)
+    ∷ (claim-all 41 (ones (1403 ∷ 1410 ∷ 1427 ∷ 1434 ∷ 1441 ∷ [])), 0 ∷ 0 ∷ 41 ∷ 1 ∷ 1 ∷ 6 ∷ [], 0, 0)
     ∷ (peek, 21 ∷ [], 0, 0)
     ∷ []))
     -- document 02, (vi), "Two copies on one order": 25 for item lines 0 and 100, behind 17 and before 6, 18 and 19; 1007 with item lines 1 and 2, and
@@ -194,6 +195,34 @@ rows =
     ∷ (columns (1007 ∷ 0 ∷ 9 ∷ []) (1 ∷ 100 ∷ 0 ∷ []), 16 ∷ [], 0, 0)
     ∷ (columns (1007 ∷ 0 ∷ 9 ∷ []) (1 ∷ 0 ∷ []), 16 ∷ [], 0, 0)
     ∷ []))
+    -- document 02, (vii), "Mistyped order numbers": 26 behind 17 and before 25, 6, 18, 19 and 20; 1007 with a digit mistyped, and with the last two
+    -- exchanged; the largest number of 32 bits, and the largest that passes; a spoil has no check
+    ∷ row (1 ∷ 1 ∷ 1 ∷ []) 1
+    (answers
+    ((claim 1 (entry 1008 1), 26 ∷ [], 0, 0)
+    ∷ (claim 1 (entry 0 100), 17 ∷ [], 0, 0)
+    ∷ (claim 1 (entry 1008 0), 26 ∷ [], 0, 0)
+    ∷ (claim 4 (entry 1008 1), 26 ∷ [], 0, 0)
+    ∷ (claim 2 (entry 1070 1), 26 ∷ [], 0, 0)
+    ∷ (claim 1 (entry 1007 1), 0 ∷ 0 ∷ 1 ∷ 1 ∷ 0 ∷ 0 ∷ [], 0, 0)
+    ∷ (claim 1 (entry 1008 1), 26 ∷ [], 0, 0)
+    ∷ (claim 2 (entry 4294967295 1), 26 ∷ [], 0, 0)
+    ∷ (claim 2 (entry 4294967292 1), 0 ∷ 0 ∷ 2 ∷ 0 ∷ 1 ∷ 0 ∷ [], 0, 0)
+    ∷ (void 3, 0 ∷ 0 ∷ 3 ∷ 0 ∷ 0 ∷ 1 ∷ [], 0, 0)
+    ∷ []))
+    -- of a bundle: 24 before 26; of the first take before 6, of a later one behind 20 of the one before it and before its own 25, and none is written
+    ∷ row (1 ∷ 1 ∷ 1 ∷ []) 1
+    (answers
+    ((claim-all 1 (columns (1008 ∷ []) []), 24 ∷ [], 0, 0)
+    ∷ (claim-all 4 (ones (1008 ∷ 1007 ∷ [])), 26 ∷ [], 0, 0)
+    ∷ (claim-all 1 (columns (1007 ∷ 1008 ∷ []) (1 ∷ 0 ∷ [])), 26 ∷ [], 0, 0)
+    ∷ (claim-all 1 (ones (1007 ∷ 1007 ∷ 1008 ∷ [])), 20 ∷ 1 ∷ [], 0, 0)
+    ∷ (claim-all 1 (ones (1007 ∷ 1014 ∷ 1021 ∷ 1008 ∷ [])), 26 ∷ [], 0, 0)
+    ∷ (peek, 0 ∷ 0 ∷ 1 ∷ 1 ∷ 0 ∷ 0 ∷ [], 0, 0)
+    ∷ []))
+    -- "Registers begun before stay readable, since 16 doesn't look at it": a line of 1008
+    ∷ row (1 ∷ 1 ∷ 1 ∷ []) 1
+    (looks (claim 1 (entry 1007 1) ∷ []) ((columns (1008 ∷ 0 ∷ 0 ∷ []) (1 ∷ 0 ∷ 0 ∷ []), 0 ∷ 0 ∷ 2 ∷ 0 ∷ 1 ∷ 0 ∷ [], 2, 1) ∷ []))
     -- document 02, (ii): the copies A to C with the second kind of 2 0 2 2 withdrawn; the kinds of a pair are the edition's
     ∷ row gapped 3
     (lists

@@ -11,6 +11,7 @@ ghost use mathlib.Core.Path.{_≡_};
 ghost use mathlib.Core.List.{List};
 ghost use Prim.Native.Nat.{ℕ};
 ghost use lib.ListN.{length};
+ghost use Rattle.digits.specs.Digits.{passes};
 ghost use Rattle.count.specs.Checked.{checkOf};
 ghost use Rattle.bounds.specs.declared.Refusal.{Refusal};
 ghost use Rattle.rank.specs.Rank.{rankAnswer};
@@ -26,7 +27,7 @@ ghost use Rattle.model.specs.Record.{opening, peeking, calling, entriesOf};
 ghost use Rattle.engine.specs.Ranks.{rankedOf};
 ghost use Rattle.engine.specs.Version.{version};
 
-const VERSION: u32 = 1400;
+const VERSION: u32 = 1500;
 
 // A serial, or a refusal's number and detail with serial 0.
 #[repr(C)]
@@ -160,6 +161,14 @@ pub extern "C" fn huz_major_code(
         (toComposition byMajor (now (upper .entry)) total (now (permutation .entry)) (now (out .entry))) ⌝ }
 {
     major::code(upper, total, permutation, out)
+}
+
+// Whether the check digit of an order number is right, for forms that ask before a claim does.
+#[no_mangle]
+pub extern "C" fn huz_order_passes(order: u32) -> bool
+    ensures { λ r. ⌜ r ≡ passes order ⌝ }
+{
+    digits::passes(order)
 }
 
 #[no_mangle]

@@ -3,12 +3,15 @@ use mathlib.Core.Path.{_≡_, refl, sym, ap, _∙_}
 use mathlib.Core.Logic.{_≢_, _⊎_}
 use mathlib.Core.Bool.{true}
 use mathlib.Core.List.{List, [], _∷_, _++_}
-use Prim.Native.Nat.{ℕ, _≤_, _<_}
+use Prim.Native.Nat.{ℕ, _%_, _≤_, _<_}
 use native.Mathlib.Omega.{arith}
 use lib.Dec.{eqb}
 use lib.ListN.{length, getD}
-use borrow.Author.Tests.{lt-ltb, le-ltb, eqb-true, ne-eqb}
+use borrow.Author.Tests.{lt-ltb, le-ltb, eqb-true, eq-eqb, ne-eqb}
 use Rattle.walsh.proofs.Cases.{on-test, on-less}
+use Rattle.digits.specs.Digits.{weightedSum, Passes}
+use Rattle.digits.specs.Slips.{Mistyped}
+use Rattle.digits.proofs.Slips.{one-digit}
 use Rattle.bounds.specs.Refusal.{refused, firstRefusal}
 use Rattle.bounds.specs.Places.{isOutside}
 use Rattle.bounds.specs.declared.Refusal.{Refusal}
@@ -18,7 +21,7 @@ use Rattle.model.specs.declared.Answer.{Answer}
 use Rattle.model.specs.Basics.{firstPlace}
 use Rattle.model.specs.Entry.{Entry, voidEntry, orderOf, itemOf, sameOrder}
 use Rattle.model.specs.Printing.{Printing, size, lowest, placeOf, serialAt}
-use Rattle.model.specs.Model.{peek, claim, void, next, noOrder, badItem, noLine, alreadyWritten, aboveNext, standsEarlier, allWritten}
+use Rattle.model.specs.Model.{peek, claim, void, next, noOrder, mistyped, badItem, noLine, alreadyWritten, aboveNext, standsEarlier, allWritten}
 use Rattle.model.specs.Model.{orderChecks, placeChecks, callChecks, given, refusedWith, answerBy, answer}
 use Rattle.model.specs.Reason.{GoodOrder}
 use Rattle.model.proofs.Entries.{is-voided, not-voided, bad-item, good-item}
@@ -32,13 +35,27 @@ answer-number v p s = on-test (eqb (v .number) 0) (λ t. rw t (sym (eqb-true (v 
 pub order-none : (e : Entry) → orderOf e ≡ 0 → firstRefusal (orderChecks e) ≡ refused 17 0
 order-none e z = refusal-here (noOrder e) _ (is-voided e z)
 
-pub order-bad : (e : Entry) → orderOf e ≢ 0 → (itemOf e ≡ 0) ⊎ (99 < itemOf e) → firstRefusal (orderChecks e) ≡ refused 25 0
-order-bad e n b = refusal-next (noOrder e) _ (not-voided e n) ∙ refusal-here (badItem e) [] (bad-item e b)
+pub order-mistyped : (e : Entry) → orderOf e ≢ 0 → ¬ Passes (orderOf e) → firstRefusal (orderChecks e) ≡ refused 26 0
+order-mistyped e n w = refusal-next (noOrder e) _ (not-voided e n) ∙ refusal-here (mistyped e) _ (rw (ne-eqb (weightedSum (orderOf e) % 10) 0 w))
+
+-- a number that passes, with one digit mistyped: it is not 0 either, which passes
+pub order-slip : (e d : Entry) (k : ℕ) → Passes (orderOf e) → Mistyped (orderOf e) (orderOf d) k → firstRefusal (orderChecks d) ≡ refused 26 0
+unfolding weightedSum
+order-slip e d k s m =
+    let wrong = one-digit (orderOf e) (orderOf d) k m s in
+    order-mistyped d (λ z. wrong (rw z)) wrong
+
+-- 17 and 26 refuse nothing
+numbered : (e : Entry) → orderOf e ≢ 0 → Passes (orderOf e) → firstRefusal (orderChecks e) ≡ firstRefusal (badItem e ∷ [])
+numbered e n s =
+    refusal-next (noOrder e) _ (not-voided e n) ∙ refusal-next (mistyped e) (badItem e ∷ []) (rw (eq-eqb (weightedSum (orderOf e) % 10) 0 s))
+
+pub order-bad : (e : Entry) → orderOf e ≢ 0 → Passes (orderOf e) → (itemOf e ≡ 0) ⊎ (99 < itemOf e) → firstRefusal (orderChecks e) ≡ refused 25 0
+order-bad e n s b = numbered e n s ∙ refusal-here (badItem e) [] (bad-item e b)
 
 pub order-good : (e : Entry) → GoodOrder e → Accepts (orderChecks e)
 unfolding firstRefusal
-order-good e g =
-    same-number (refusal-next (noOrder e) (badItem e ∷ []) (not-voided e (g .0)) ∙ refusal-next (badItem e) [] (good-item e (g .1) (g .2)))
+order-good e g = same-number (numbered e (g .0) (g .1) ∙ refusal-next (badItem e) [] (good-item e (g .2) (g .3)))
 
 -- the answer of the checks of a serial alone, which is that of a void
 abbrev pub placed : Printing → List Entry → ℕ → Answer

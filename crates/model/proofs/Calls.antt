@@ -74,7 +74,7 @@ module _ (p : Printing) where
 
   -- an order that its checks accept makes a sound line
   order-sound : (e : Entry) → Accepts (orderChecks e) → isUnsound e ≡ false
-  order-sound e a = let q = passed _ _ refl a in sound-line e (q .0) (passed _ _ refl (q .2) .0)
+  order-sound e a = let q = passed _ _ refl a in sound-line e (q .0) (passed _ _ refl (passed _ _ refl (q .2) .2) .0)
 
   module _ (l : List Entry) where
     -- ---- an accepted call

@@ -2,12 +2,13 @@
 use mathlib.Core.Path.{_≡_, refl, sym, ap, _∙_}
 use mathlib.Core.Logic.{_≢_, _↔_, _⊎_, inl, inr}
 use mathlib.Core.List.{List, [], _∷_, List·Memᴰ, List·Memᴰ·head, List·Memᴰ·tail, List·Memᴰ·cases-cons, List·Memᴰ·not-nil}
-use Prim.Native.Nat.{ℕ, zero, suc, _+_, _≤_, _<_, suc-le-suc}
+use Prim.Native.Nat.{ℕ, zero, suc, _+_, _%_, _≤_, _<_, suc-le-suc}
 use native.Mathlib.Decide.{ℕ-discrete}
 use native.Mathlib.Nat.{le-of-suc-le-suc}
 use native.Mathlib.Omega.{arith}
 use lib.ListN.{length, getD, length-map}
 use Rattle.walsh.proofs.Cases.{on-less}
+use Rattle.digits.specs.Digits.{weightedSum, Passes}
 use Rattle.bounds.specs.Refusal.{refused, firstRefusal}
 use Rattle.model.specs.declared.Answer.{Answer}
 use Rattle.model.specs.Basics.{firstPlace}
@@ -15,10 +16,10 @@ use Rattle.model.specs.Entry.{Entry, voidEntry, orderOf, itemOf, sameOrd
 use Rattle.model.specs.Printing.{Printing, size, lowest, placeOf, serialAt}
 use Rattle.model.specs.Model.{peek, claim, void, next, orderChecks, given, refusedWith, answer, Event}
 use Rattle.model.specs.Trace.{named, entryOf, writers, serials, entriesBy, countFrom}
-use Rattle.model.specs.Reason.{GoodOrder, OrderReason, no-order, no-item, nextSerial, PeekReason, SerialReason, ClaimReason, VoidReason}
+use Rattle.model.specs.Reason.{GoodOrder, OrderReason, no-order, wrong-digit, no-item, nextSerial, PeekReason, SerialReason, ClaimReason, VoidReason}
 use Rattle.model.specs.Reason.{none-left, shown, outside, written, above, bad-order, stands, claimed, voided}
 use Rattle.model.proofs.Orders.{place-at, place-lowest, place-none}
-use Rattle.model.proofs.Answers.{order-none, order-bad, order-good, peek-open, peek-closed}
+use Rattle.model.proofs.Answers.{order-none, order-mistyped, order-bad, order-good, peek-open, peek-closed}
 use Rattle.model.proofs.Answers.{placed, placed-low, placed-high, placed-below, placed-above, placed-next}
 use Rattle.model.proofs.Answers.{claim-none, claim-refused, claim-again, claim-good}
 
@@ -31,16 +32,20 @@ data Named (e : Entry) : Type 0 where
 named-of : (e : Entry) → Named e
 named-of e = go (ℕ-discrete (orderOf e) 0)
   where
-    bad : orderOf e ≢ 0 → (itemOf e ≡ 0) ⊎ (99 < itemOf e) → Named e
-    bad n b = refuses 25 0 (omega arith) (order-bad e n b) (no-item n b refl)
+    bad : orderOf e ≢ 0 → Passes (orderOf e) → (itemOf e ≡ 0) ⊎ (99 < itemOf e) → Named e
+    bad n s b = refuses 25 0 (omega arith) (order-bad e n s b) (no-item n s b refl)
 
-    by-item : orderOf e ≢ 0 → Dec (itemOf e ≡ 0) → Named e
-    by-item n (yes z) = bad n (inl z)
-    by-item n (no i) = on-less 99 (itemOf e) (λ h t. bad n (inr h)) (λ h t. accepts (n, i, h))
+    by-item : orderOf e ≢ 0 → Passes (orderOf e) → Dec (itemOf e ≡ 0) → Named e
+    by-item n s (yes z) = bad n s (inl z)
+    by-item n s (no i) = on-less 99 (itemOf e) (λ h t. bad n s (inr h)) (λ h t. accepts (n, s, i, h))
+
+    by-digits : orderOf e ≢ 0 → Dec (Passes (orderOf e)) → Named e
+    by-digits n (yes s) = by-item n s (ℕ-discrete (itemOf e) 0)
+    by-digits n (no w) = refuses 26 0 (omega arith) (order-mistyped e n w) (wrong-digit n w refl)
 
     go : Dec (orderOf e ≡ 0) → Named e
     go (yes z) = refuses 17 0 (omega arith) (order-none e z) (no-order z refl)
-    go (no n) = by-item n (ℕ-discrete (itemOf e) 0)
+    go (no n) = by-digits n (ℕ-discrete (weightedSum (orderOf e) % 10) 0)
 
 -- what a reason against it says
 record Refused (e : Entry) (a : Answer) : Type 0 where
@@ -52,7 +57,8 @@ record Refused (e : Entry) (a : Answer) : Type 0 where
 
 order-refuses : (e : Entry) (a : Answer) → OrderReason e a → Refused e a
 order-refuses e a (no-order z is) = record { number = 17; detail = 0; some = omega arith; checked = order-none e z; is = is }
-order-refuses e a (no-item n b is) = record { number = 25; detail = 0; some = omega arith; checked = order-bad e n b; is = is }
+order-refuses e a (wrong-digit n w is) = record { number = 26; detail = 0; some = omega arith; checked = order-mistyped e n w; is = is }
+order-refuses e a (no-item n s b is) = record { number = 25; detail = 0; some = omega arith; checked = order-bad e n s b; is = is }
 
 -- ---- the call at a place of a list of calls
 

@@ -6,6 +6,7 @@ use mathlib.Core.Bool.{true, cond}
 use mathlib.Core.List.{List, [], _∷_, map}
 use Prim.Native.Nat.{ℕ, suc, _+_}
 use Rattle.walsh.specs.Order.{order, listing, countOf, count}
+use Rattle.digits.specs.Digits.{weightedSum}
 use Rattle.bounds.specs.Refusal.{refused, firstRefusal, decided}
 use Rattle.bounds.specs.Edition.{cellsOf}
 use Rattle.bounds.specs.declared.Refusal.{Refusal}
@@ -50,7 +51,7 @@ replies cs = map (λ x. x .reply) (bookFrom threeOnes [] cs .trace)
 
 -- all of them at a sitting
 all-three : replies (claim-all 1 (ones (1007 ∷ 1014 ∷ 1021 ∷ [])) ∷ peek ∷ []) ≡ given threeOnes 1 ∷ refusedWith 21 0 ∷ []
-unfolding replies threeOnes ones bookFrom answer after firstRefusal compositions order listing countOf count cellsOf
+unfolding replies threeOnes ones bookFrom answer after firstRefusal compositions order listing countOf count cellsOf weightedSum
 all-three = refl
 
 -- 24 for none, also with serial 0; an order that stands twice in the bundle, with the serial it would have had, which is 2 after a void; past N, 6, but
@@ -74,5 +75,5 @@ refusals : replies
     ∷ refusedWith 19 2
     ∷ given threeOnes 2
     ∷ []
-unfolding replies threeOnes ones bookFrom answer after firstRefusal compositions order listing countOf count cellsOf
+unfolding replies threeOnes ones bookFrom answer after firstRefusal compositions order listing countOf count cellsOf weightedSum
 refusals = refl

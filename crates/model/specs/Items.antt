@@ -3,6 +3,7 @@ use mathlib.Core.Path.{_≡_, refl}
 use mathlib.Core.Bool.{true, false}
 use mathlib.Core.List.{[], _∷_, map}
 use Rattle.walsh.specs.Order.{order, listing, countOf, count}
+use Rattle.digits.specs.Digits.{weightedSum}
 use Rattle.bounds.specs.Refusal.{firstRefusal}
 use Rattle.bounds.specs.Edition.{cellsOf}
 use Rattle.model.specs.Entry.{entry, isUnsound, columns, over, put}
@@ -20,7 +21,7 @@ basket : replies
     ∷ claim 3 (entry 1014 2)
     ∷ [])
     ≡ given threeOnes 1 ∷ refusedWith 20 1 ∷ given threeOnes 2 ∷ refusedWith 20 2 ∷ given threeOnes 3 ∷ []
-unfolding replies threeOnes bookFrom answer after firstRefusal compositions order listing countOf count cellsOf
+unfolding replies threeOnes bookFrom answer after firstRefusal compositions order listing countOf count cellsOf weightedSum
 basket = refl
 
 -- item lines 0 and 100 are 25, 99 is not; 17 stands before it, 6 and 18 behind it; the detail of 18 is the order number
@@ -41,7 +42,7 @@ item-lines : replies
     ∷ refusedWith 25 0
     ∷ refusedWith 18 1007
     ∷ []
-unfolding replies threeOnes bookFrom answer after firstRefusal compositions order listing countOf count cellsOf
+unfolding replies threeOnes bookFrom answer after firstRefusal compositions order listing countOf count cellsOf weightedSum
 item-lines = refl
 
 -- a bundle with an item line too few and one too many; with the same pair twice; and the three copies on one order
@@ -53,7 +54,7 @@ bundles : replies
     ∷ claim-all 1 (columns (1007 ∷ 1007 ∷ 1007 ∷ []) (1 ∷ 2 ∷ 3 ∷ []))
     ∷ [])
     ≡ refusedWith 24 0 ∷ refusedWith 24 0 ∷ refusedWith 20 1 ∷ refusedWith 25 0 ∷ given threeOnes 1 ∷ []
-unfolding replies threeOnes bookFrom answer after firstRefusal compositions order listing countOf count cellsOf
+unfolding replies threeOnes bookFrom answer after firstRefusal compositions order listing countOf count cellsOf weightedSum
 bundles = refl
 
 -- the lines that are 16: "over 99", "0 beside a nonzero order", "isn't 0 beside a spoilt one"

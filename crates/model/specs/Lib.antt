@@ -6,5 +6,6 @@ pub mod Record
 pub mod Trace
 pub mod Bundle
 pub mod Items
+pub mod Mistyped
 pub mod Reason
 pub mod Whole

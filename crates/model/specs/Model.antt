@@ -13,6 +13,7 @@ use Rattle.walsh.specs.Tests.{either}
 use Rattle.walsh.specs.Serial.{compositionOf}
 use Rattle.walsh.specs.Transition.{none, transitionAt, gainFrom}
 use Rattle.walsh.specs.declared.Transition.{Transition}
+use Rattle.digits.specs.Digits.{passes}
 use Rattle.bounds.specs.Refusal.{Check, check, firstRefusal, decided}
 use Rattle.bounds.specs.Places.{outside}
 use Rattle.bounds.specs.declared.Refusal.{Refusal}
@@ -38,6 +39,10 @@ next p l = serialAt p (length l)
 -- take: "order 0"; "o is 0"
 abbrev pub noOrder : Entry → Check
 noOrder e = check 17 (isVoided e) 0
+
+-- document 02, (vii): "26, the weighted sum isn't a multiple of ten, directly after 17 and before 25"
+abbrev pub mistyped : Entry → Check
+mistyped e = check 26 (not (passes (orderOf e))) 0
 
 -- document 02, (vi): "25, item line 0 or over 99, directly after 17"
 abbrev pub badItem : Entry → Check
@@ -72,7 +77,7 @@ badBundle b = check 24 (either (not (isPaired b)) (either (eqb (room b) 0) (ltb 
 
 -- the checks of an order, and those of a serial
 abbrev pub orderChecks : Entry → List Check
-orderChecks e = noOrder e ∷ badItem e ∷ []
+orderChecks e = noOrder e ∷ mistyped e ∷ badItem e ∷ []
 
 abbrev pub placeChecks : Printing → List Entry → ℕ → List Check
 placeChecks p l s = noLine p s ∷ alreadyWritten p l s ∷ aboveNext p l s ∷ []
@@ -107,8 +112,8 @@ abbrev pub rowsBefore : ℕ → List Check → List Check
 rowsBefore n [] = []
 rowsBefore n (c ∷ cs) = cond (eqb (c .number) n) [] (c ∷ rowsBefore n cs)
 
--- for example, of a claim 17, 25 and 6 stand before 18
-before-18 : (p : Printing) (l : List Entry) (s : ℕ) (e : Entry) → rowsBefore 18 (callChecks p l (claim s e)) ≡ noOrder e ∷ badItem e ∷ noLine p s ∷ []
+-- for example, of a claim 17, 26, 25 and 6 stand before 18
+before-18 : (p : Printing) (l : List Entry) (s : ℕ) (e : Entry) → rowsBefore 18 (callChecks p l (claim s e)) ≡ noOrder e ∷ mistyped e ∷ badItem e ∷ noLine p s ∷ []
 before-18 p l s e = refl
 
 -- an accepted call answers a serial "and its mix"

@@ -6,6 +6,7 @@ use mathlib.Core.Logic.{_≢_, _⊎_}
 use mathlib.Core.List.{List, [], _∷_, _++_, List·Memᴰ}
 use Prim.Native.Nat.{ℕ, suc, _≤_, _<_}
 use lib.ListN.{length}
+use Rattle.digits.specs.Digits.{Passes}
 use Rattle.model.specs.declared.Answer.{Answer}
 use Rattle.model.specs.Entry.{Entry, orderOf, itemOf, Lent, entriesIn, room, Paired}
 use Rattle.model.specs.Printing.{Printing, size, lowest, serialAt}
@@ -16,13 +17,15 @@ use Rattle.model.specs.Trace.{named, entryOf, writers}
 
 -- an order that a claim may name, and why one is refused
 abbrev pub GoodOrder : Entry → Type 0
-GoodOrder e = (orderOf e ≢ 0) × (itemOf e ≢ 0) × (itemOf e ≤ 99)
+GoodOrder e = (orderOf e ≢ 0) × Passes (orderOf e) × (itemOf e ≢ 0) × (itemOf e ≤ 99)
 
 pub data OrderReason (e : Entry) (a : Answer) : Type 0 where
   -- "17, o is 0"
   no-order : orderOf e ≡ 0 → a ≡ refusedWith 17 0 → OrderReason e a
-  -- document 02, (vi): "25, item line 0 or over 99, directly after 17"
-  no-item : orderOf e ≢ 0 → (itemOf e ≡ 0) ⊎ (99 < itemOf e) → a ≡ refusedWith 25 0 → OrderReason e a
+  -- document 02, (vii): "26, the weighted sum isn't a multiple of ten, directly after 17 and before 25"
+  wrong-digit : orderOf e ≢ 0 → ¬ Passes (orderOf e) → a ≡ refusedWith 26 0 → OrderReason e a
+  -- document 02, (vi): "25, item line 0 or over 99"
+  no-item : orderOf e ≢ 0 → Passes (orderOf e) → (itemOf e ≡ 0) ⊎ (99 < itemOf e) → a ≡ refusedWith 25 0 → OrderReason e a
 
 -- ---- a call; p is what the ledger was opened for, past the calls so far with their answers
 

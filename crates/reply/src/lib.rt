@@ -1,4 +1,4 @@
-// What a peek, a claim, a void and a bundle answer (document 01, "Refusals", places 'register calls' to 'look'; document 02, (v) and (vi)). Nothing is
+// What a peek, a claim, a void and a bundle answer (document 01, "Refusals", places 'register calls' to 'look'; document 02, (v) to (vii)). Nothing is
 // written here: crate `ledger` has the calls.
 use bounds::Refusal;
 use integrity::Met;
@@ -91,13 +91,19 @@ fn wide(x: u32) -> u64
     x as u64
 }
 
-// The checks of an order by itself: 17 and 25.
+// The checks of an order by itself: 17, 26 and 25.
 fn check_order(order: u32, item: u8) -> Refusal
     ensures { λ r. ⌜ r ≡ firstRefusal (orderChecks (entry order item)) ⌝ }
 {
     if order == 0 {
         return Refusal {
             number: 17,
+            detail: 0,
+        };
+    }
+    if !digits::passes(order) {
+        return Refusal {
+            number: 26,
             detail: 0,
         };
     }
