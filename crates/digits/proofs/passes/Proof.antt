@@ -13,6 +13,14 @@ use Rattle.digits.proofs.Places.{quotients}
 use Rattle.digits.proofs.passes.Statement.{statement}
 use Rattle.digits.proofs.passes.Tie as tie
 
+returns : tie.Need-returns
+returns c =
+    let n = c .args .order in
+    let once : ℕ = n + n / 100 + n / 10000 + n / 1000000 + n / 100000000 in
+    let thrice : ℕ = n / 10 + n / 1000 + n / 100000 + n / 10000000 + n / 1000000000 in
+    let e : once + 3 * thrice ≡ sum (λ k. weightAt k * (n / 10 ^ k)) places = omega arith in
+    ap (λ (x : ℕ). eqb (x % 10) 0) e ∙ ap (λ (x : ℕ). eqb x 0) (quotients n)
+
 -- no quotient is larger than the number
 small : (n a b c d e : ℕ) → a ≤ n → b ≤ n → c ≤ n → d ≤ n → e ≤ n → a + b + c + d + e ≤ 5 * n
 small n a b c d e h i j k l = omega arith
@@ -27,14 +35,6 @@ add-result c =
     room n _ _ (c .fits .order .fits)
     (small n n (n / 100) (n / 10000) (n / 1000000) (n / 100000000) (le-refl n) (most 100) (most 10000) (most 1000000) (most 100000000))
     (small n (n / 10) (n / 1000) (n / 100000) (n / 10000000) (n / 1000000000) (most 10) (most 1000) (most 100000) (most 10000000) (most 1000000000))
-
-returns : tie.Need-returns
-returns c =
-    let n = c .args .order in
-    let once : ℕ = n + n / 100 + n / 10000 + n / 1000000 + n / 100000000 in
-    let thrice : ℕ = n / 10 + n / 1000 + n / 100000 + n / 10000000 + n / 1000000000 in
-    let e : once + 3 * thrice ≡ sum (λ k. weightAt k * (n / 10 ^ k)) places = omega arith in
-    ap (λ (x : ℕ). eqb (x % 10) 0) e ∙ ap (λ (x : ℕ). eqb x 0) (quotients n)
 
 pub passes-spec : {M : Type 1} → statement M
 passes-spec =
