@@ -103,12 +103,12 @@ module _ (ms : List ℕ) (r : ℕ) where
   pub between : (k p q s : ℕ) → k ≤ length ms → p ≤ s → s ≤ q → q < length (order ms r)
       → drop k (get_or (order ms r) p []) ≡ drop k (get_or (order ms r) q [])
       → drop k (get_or (order ms r) s []) ≡ drop k (get_or (order ms r) p [])
-  between k p q s l ps sq inside-q e =
+  between k p q s l ps sq inside_q e =
       let g : List ℕ = get_or (order ms r) p [] in
       let valid : Composition ms r g = entry_composition ms r p (omega arith) in
       let here : Together ms r g k = together g valid k l in
       let from = here.only p (omega arith) refl in
-      let to = here.only q inside-q (sym e) in
+      let to = here.only q inside_q (sym e) in
       let i : ℕ = s - here.start in
       let i_lt : i < count ms k (sum_to g k) = omega (arith, from, to) in
       let at : here.start + i ≡ s = omega (arith, from) in

@@ -1,7 +1,7 @@
 -- The listing: its length, its reversal, and its places. Place p of `listing ms (suc k) rem t` is place s of the block of a value v of part k.
 use mathlib.Core.Path.{◌≡◌, refl, sym, ap, ◌∙◌}
 use mathlib.Core.Bool.{Bool, true, false}
-use mathlib.Core.List.{List, [], ◌∷◌, ◌++◌, map, map_append, reverse, reverse-cons}
+use mathlib.Core.List.{List, [], ◌∷◌, ◌++◌, map, map-append, reverse, reverse-cons}
 use Prim.Native.Nat.{ℕ, zero, suc, ◌+◌, ◌-◌, ◌≤◌, ◌<◌}
 use native.Mathlib.Nat.{suc-add, sub_self, not-suc-le-zero, le_of_suc-le-suc}
 use native.Mathlib.Omega.{arith}
@@ -54,7 +54,7 @@ length_listing ms (suc k) rem t =
 map_reverse : (f : List ℕ → List ℕ) (xs : List (List ℕ)) → map f (reverse xs) ≡ reverse (map f xs)
 map_reverse f [] = refl
 map_reverse f (x ∷ xs) =
-    ap (map f) (reverse-cons x xs) ∙ map_append f (reverse xs) (x ∷ []) ∙ rw (map_reverse f xs) (sym (reverse-cons (f x) (map f xs)))
+    ap (map f) (reverse-cons x xs) ∙ map-append f (reverse xs) (x ∷ []) ∙ rw (map_reverse f xs) (sym (reverse-cons (f x) (map f xs)))
 
 -- where the parts to the right sum to one more, the listing is reversed
 pub listing_reverse : (ms : List ℕ) (k rem t : ℕ) → listing ms k rem (suc t) ≡ reverse (listing ms k rem t)

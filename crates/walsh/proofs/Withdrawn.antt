@@ -1,7 +1,7 @@
 -- Bounds of 0: the order is that of the other bounds with the zeros put back, and so are count, serials and neighbours. For every list of
 -- bounds and every total.
 use mathlib.Core.Path.{◌≡◌, refl, sym, ap, ◌∙◌, subst}
-use mathlib.Core.List.{List, [], ◌∷◌, ◌++◌, map, map_append}
+use mathlib.Core.List.{List, [], ◌∷◌, ◌++◌, map, map-append}
 use Prim.Native.Nat.{ℕ, zero, suc, ◌+◌, ◌-◌, ◌≤◌, ◌<◌}
 use native.Mathlib.Nat.{add-zero, sub-zero, le_refl, zero-lt-suc, not-suc-le-zero, le_of_suc-le-suc}
 use native.Mathlib.Decide.{dec_le}
@@ -25,7 +25,7 @@ flat_same f g (suc n) h = rw (flat_same f g n (λ i l. h i (omega arith)), h n (
 
 map_flat : (f : List ℕ → List ℕ) (b : ℕ → List (List ℕ)) (n : ℕ) → map f (flat b n) ≡ flat (λ i. map f (b i)) n
 map_flat f b zero = refl
-map_flat f b (suc n) = map_append f (flat b n) (b n) ∙ rw (map_flat f b n)
+map_flat f b (suc n) = map-append f (flat b n) (b n) ∙ rw (map_flat f b n)
 
 -- the same map on each of a list's entries
 map_each : (f h : List ℕ → List ℕ) (gs : List (List ℕ)) → ((s : ℕ) → s < length gs → f (get_or gs s []) ≡ h (get_or gs s [])) → map f gs ≡ map h gs

@@ -1,11 +1,13 @@
 // Walsh's order of bounded compositions (document 01, "Walsh's order"). The order and its laws are in specs/ and proofs/; what runs here is
 // the arithmetic of one part's values: from `over(rest, left)` to `lesser(bound, rest)`, rising, or falling where the sum to the right is odd.
+#![tactic(auto)]
+
 ghost use Rattle.std.specs.Prelude.{◌≡◌, ◌-◌, ◌≤◌, min};
 ghost use Rattle.walsh.specs.Order.{is_odd};
 ghost use Rattle.walsh.specs.Step.{first_value};
 
 // Document 02, request (i): the kind that gains a unit and the kind that loses one, counted from 1; 0 and 0 where there is no step.
-#[derive(Drop)]
+#[derive(Clone, Copy)]
 pub struct Transition {
     pub gain: u32,
     pub loss: u32,
