@@ -1,4 +1,6 @@
 // The Mahonian numbers of document 01, "Counting table", and the bounds k-1, .., 2, 1 whose counts they are.
+#![tactic(auto)]
+
 mod table;
 
 ghost use Rattle.std.specs.Prelude.{◌≡◌, ◌≤◌, ◌<◌, get_or};
@@ -8,7 +10,7 @@ ghost use Rattle.mahonian.specs.Staircase.{is_staircase};
 ghost use Rattle.mahonian.specs.Read.{read_of, staircase_count_of};
 
 // A number of the table, or that there is none.
-#[derive(Drop)]
+#[derive(Clone, Copy)]
 pub enum Entry {
     Count(u64),
     Outside,
