@@ -1,4 +1,6 @@
 // The check digit of an order number (document 02, (vii)): whether the digits, weighted 1, 3, 1, 3 and so on from the right, sum to a multiple of ten.
+#![tactic(auto)]
+
 ghost use Rattle.std.specs.Prelude.{◌≡◌};
 ghost use Rattle.digits.specs.Digits.{passes};
 

@@ -6,14 +6,12 @@ use native.Mathlib.Omega.{arith}
 use lib.Dec.{eqb}
 use mir.Syntax.{w64}
 use mir.Val.{Fits}
-use borrow.Author.Rules.{rules}
 use Rattle.walsh.specs.Sums.{sum}
 use Rattle.digits.specs.Digits.{weight_at, places}
 use Rattle.digits.proofs.Places.{quotients}
-use Rattle.digits.proofs.passes.Statement.{statement}
-use Rattle.digits.proofs.passes.Tie as tie
+use Rattle.digits.proofs.passes.Goals as goal
 
-returns : tie.Need-returns
+pub returns : goal.returns
 returns c =
     let n = c.args.order in
     let once : ℕ = n + n / 100 + n / 10000 + n / 1000000 + n / 100000000 in
@@ -28,26 +26,10 @@ small n a b c d e h i j k l = omega arith
 room : (n x y : ℕ) → n < 2 ^ 32 → x ≤ 5 * n → y ≤ 5 * n → Fits w64 (x + 3 * y)
 room n x y h a b = omega arith
 
-add-result : tie.Need-overflow-add-result
-add-result c =
+pub overflow_add-result : goal.overflow_add-result
+overflow_add-result c =
     let n = c.args.order in
     let most : (k : ℕ) → n / k ≤ n = div-le_self n in
     room n _ _ c.ranges.order.fits
     (small n n (n / 100) (n / 10000) (n / 1000000) (n / 100000000) (le_refl n) (most 100) (most 10000) (most 1000000) (most 100000000))
     (small n (n / 10) (n / 1000) (n / 100000) (n / 10000000) (n / 1000000000) (most 10) (most 1000) (most 100000) (most 10000000) (most 1000000000))
-
-pub passes-spec : {M : Type 1} → statement M
-passes-spec =
-    tie.close
-    (tie.spec
-    (λ c. search rules)
-    (λ c. search rules)
-    (λ c. search rules)
-    (λ c. search rules)
-    (λ c. search rules)
-    (λ c. search rules)
-    (λ c. search rules)
-    (λ c. search rules)
-    (λ c. search rules)
-    add-result
-    returns)
