@@ -1,4 +1,6 @@
 // Editions (document 01, "Editions and their number"): the record, refusals as tables, and the checks 1 to 4. Check 5 asks for N: crate `count`.
+#![tactic(auto)]
+
 ghost use Rattle.std.specs.Prelude.{◌≡◌, ◌≤◌, length, take};
 ghost use Rattle.bounds.specs.Refusal.{refused};
 ghost use Rattle.bounds.specs.Edition.{whole, outside, first_outside, shaped_of, cells_of, blank_bounds};
@@ -12,7 +14,7 @@ pub const MOST_ENTRIES: u64 = 1_000_000;
 
 // A refusal's number and detail; 0 and 0 where nothing is refused.
 #[repr(C)]
-#[derive(Drop)]
+#[derive(Clone, Copy)]
 pub struct Refusal {
     pub number: u32,
     pub detail: u64,
@@ -20,7 +22,7 @@ pub struct Refusal {
 
 // document 01: an edition, as the record keeps it: n, 24 cells, r. Cells past n are 0.
 #[repr(C)]
-#[derive(Drop)]
+#[derive(Clone, Copy)]
 pub struct Bounds {
     pub parts: usize,
     pub upper: [u8; 24],
@@ -34,7 +36,7 @@ pub fn refused(number: u32, detail: u64) -> Refusal
 }
 
 // What the checks 1 to 4 answer, and the sum of the bounds where they refuse nothing.
-#[derive(Drop)]
+#[derive(Clone, Copy)]
 pub struct Shaped {
     pub number: u32,
     pub detail: u64,
@@ -42,7 +44,7 @@ pub struct Shaped {
 }
 
 // The first part, from 1, with a bound over 60, or 0; and the sum of the bounds before it.
-#[derive(Drop)]
+#[derive(Clone, Copy)]
 struct Scanned {
     outside: usize,
     all: usize,

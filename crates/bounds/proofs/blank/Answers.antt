@@ -1,0 +1,6 @@
+-- `bounds::blank` meets its contract.
+use mathlib.Core.Path.{refl}
+use Rattle.bounds.proofs.blank.Goals as goal
+
+pub returns : goal.returns
+returns c = refl

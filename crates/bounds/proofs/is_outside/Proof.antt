@@ -1,7 +1,0 @@
--- `bounds::is_outside` meets its contract.
-use mathlib.Core.Path.{refl}
-use Rattle.bounds.proofs.is_outside.Statement.{statement}
-use Rattle.bounds.proofs.is_outside.Tie as tie
-
-pub is-outside-spec : {M : Type 1} → statement M
-is-outside-spec = tie.close (tie.spec (λ c. refl))
