@@ -1,4 +1,6 @@
 // The checks of the places 'mix given', 'serial given' and 'lent part' (document 01, "Refusals by place of checking"), which several calls have.
+#![tactic(auto)]
+
 ghost use Rattle.std.specs.Prelude.{◌≡◌, [], ◌∷◌, ◌*◌, eqb, length};
 ghost use Rattle.bounds.specs.Refusal.{first_refusal};
 ghost use Rattle.bounds.specs.Places.{is_other, composition_checks, no_serial, lent_checks};
