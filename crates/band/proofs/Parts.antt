@@ -33,8 +33,8 @@ module _ (ms : List ℕ) (r : ℕ) (last : Row) (cells : List ℕ) (filled : Fil
     turn_down = (filled.small, filled.reached, inside, rw (add-one, ← up) walks.row)
 
     module _ (to : Row) (row_is : IsRow ms r (k - 1) to) where
-      pub turn-here : Here ms (k - 1) rem t to cells
-      turn-here =
+      pub turn_here : Here ms (k - 1) rem t to cells
+      turn_here =
           record {
             inside = inside;
             few = lt_of_lt_of_le inside filled.few;

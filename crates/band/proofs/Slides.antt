@@ -103,12 +103,12 @@ module _ (ms : List ℕ) (r : ℕ) where
       let m = get_or ms k 0 in
       let f = count ms k in
       let none = sum_stop f t u l (λ i a b. count_none ms k i (omega arith)) in
-      let e = sum_at f (max (lowest ms r k) (t - (m + 1))) (lowest ms r k) (lowest-max _ _ _ (le_trans l h)) in
-      let e' = sum_at f (max (lowest ms r k) (u - (m + 1))) (lowest ms r k) (lowest-max _ _ _ h) in
+      let e = sum_at f (max (lowest ms r k) (t - (m + 1))) (lowest ms r k) (lowest_max _ _ _ (le_trans l h)) in
+      let e' = sum_at f (max (lowest ms r k) (u - (m + 1))) (lowest ms r k) (lowest_max _ _ _ h) in
       join s none e e'
     where
-      lowest-max : (lo u m : ℕ) → u ≤ lo + m + 1 → max lo (u - (m + 1)) ≡ lo
-      lowest-max lo u m l = omega arith
+      lowest_max : (lo u m : ℕ) → u ≤ lo + m + 1 → max lo (u - (m + 1)) ≡ lo
+      lowest_max lo u m l = omega arith
 
       join : {a a' b c d : ℕ} → w + a ≡ c → d ≡ c → a ≡ b → a' ≡ b → w + a' ≡ d
       join p q e e' = omega arith

@@ -11,14 +11,14 @@ use crate::Row;
 use crate::window::table;
 
 // What is asked: the serial of a given composition, or the composition of a serial.
-#[derive(Drop)]
+#[derive(Clone, Copy)]
 pub enum Conversion {
     Rank,
     Unrank(u64),
 }
 
 // N, the entry's serial, and its cells where they were asked for; all zeros where something is refused.
-#[derive(Drop)]
+#[derive(Clone, Copy)]
 pub struct Converted {
     pub number: u32,
     pub detail: u64,

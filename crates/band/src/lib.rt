@@ -4,6 +4,8 @@
 // they need.
 // Document 02, request (iv): a conversion adds the bounds up once, in `bounds::shape`. `size` and the walks begin with that sum and take one bound
 // off at each part; only the filling, which goes up the rows, adds them to a sum of its own.
+#![tactic(auto)]
+
 ghost use Rattle.std.specs.Prelude.{◌≡◌, ◌+◌, ◌-◌, ◌<◌, ◌≤◌, min, length};
 ghost use Rattle.walsh.specs.Order.{count};
 ghost use Rattle.bounds.specs.Edition.{whole};
@@ -18,7 +20,7 @@ pub const CAP: u64 = 9_223_372_036_854_775_808;
 
 // Row k: the cells before it, the sum of the first k bounds, which are those to the left of part k, and of all, and the lowest and the highest sum in
 // the band. A walk keeps `left`: it begins as `all`, and `walk::down` takes one bound off.
-#[derive(Drop)]
+#[derive(Clone, Copy)]
 struct Row {
     start: usize,
     left: usize,
@@ -28,7 +30,7 @@ struct Row {
 }
 
 // The answer of the checks 1 to 4; where they refuse nothing, the sum of the bounds and the number of cells of the band.
-#[derive(Drop)]
+#[derive(Clone, Copy)]
 struct Surveyed {
     number: u32,
     detail: u64,

@@ -10,7 +10,7 @@ ghost use Rattle.band.specs.Walk.{run_of, in_run, Here, Readable, Picked, Filled
 use crate::Row;
 
 // The values of a part in their order: rising from `low`, or falling from `high`.
-#[derive(Drop)]
+#[derive(Clone, Copy)]
 struct Run {
     low: usize,
     high: usize,
@@ -18,7 +18,7 @@ struct Run {
 }
 
 // A value, and the rank among the compositions that have it.
-#[derive(Drop)]
+#[derive(Clone, Copy)]
 struct Pick {
     value: usize,
     rank: u64,

@@ -69,7 +69,7 @@ fn step(
 }
 
 // The sums from `from` up to `end` of a row, at which a cell enters the window or none does, and one leaves it or none does.
-#[derive(Drop)]
+#[derive(Clone, Copy)]
 struct Span {
     from: usize,
     end: usize,
@@ -125,7 +125,7 @@ fn between(low: usize, x: usize, high: usize) -> usize
 }
 
 // Row `k + 1` in three: cells only enter the window, then they enter and leave it or neither, then they only leave it.
-#[derive(Drop)]
+#[derive(Clone, Copy)]
 struct Stretches {
     grows: Span,
     slides: Span,

@@ -9,7 +9,7 @@ use crate::CAP;
 use bounds::LIMIT;
 
 // N, or the refusal.
-#[derive(Drop)]
+#[derive(Clone, Copy)]
 pub struct Counted {
     pub number: u32,
     pub detail: u64,

@@ -1,0 +1,10 @@
+-- `band::size` meets its contract.
+use Rattle.std.proofs.Common.{◌-◌}
+use Rattle.band.specs.Band.{Sizing}
+use Rattle.band.proofs.size.Given as goal
+
+abbrev pub invariant-loop-k : goal.invariant-loop-k
+invariant-loop-k l = Sizing l.upper l.total l.k l.left l.cells
+
+abbrev pub decreases-loop-k : goal.decreases-loop-k
+decreases-loop-k l = l.k
