@@ -87,13 +87,13 @@ module _ {s : List ℕ} {from : ℕ} {upper : List ℕ} {n : Number} {parts at :
       wide : width n ≡ 1
       wide = rw ev
 
-      pub read-room : length s ≤ 256 → parts < 128
-      read-room l = omega (arith, r.room, wide)
+      pub read_room : length s ≤ 256 → parts < 128
+      read_room l = omega (arith, r.room, wide)
 
       stored : length s ≤ 256 → set upper parts x ≡ request_cells (map held (r.ns ++ (v ∷ [])))
       stored l =
           rw (r.cells, ex, map_snoc r.ns v, r.count, ← length-map r.ns held)
-          (cells_snoc (map held r.ns) (held v) (omega (arith, read-room l, r.count, length-map r.ns held)))
+          (cells_snoc (map held r.ns) (held v) (omega (arith, read_room l, r.count, length-map r.ns held)))
 
       pub read_next : length s ≤ 256 → (b : ℕ) → b ≡ get_or s at 0 → is_end b ≡ true → (b ≡ 10 → ⊥)
           → Reading s from (set upper parts x) Empty (parts + 1) (at + 1)
@@ -106,9 +106,9 @@ module _ {s : List ℕ} {from : ℕ} {upper : List ℕ} {n : Number} {parts at :
             room = omega (arith, r.room, wide);
           }
 
-      pub read-last : length s ≤ 256 → (b : ℕ) → b ≡ get_or s at 0 → b ≡ 10
+      pub read_last : length s ≤ 256 → (b : ℕ) → b ≡ get_or s at 0 → b ≡ 10
           → record { parts = parts + 1; upper = set upper parts x; last = v; end = at + 1 } ≡ line_of (length s) (scan [] Empty (drop from s))
-      read-last l b eb ten =
+      read_last l b eb ten =
           let q : scan r.ns n (drop at s) ≡ found (r.ns ++ (v ∷ [])) (drop (at + 1) s) =
           rw (here b eb, ten) (scan_last r.ns n (drop (at + 1) s) v ev) in
           let size : length (r.ns ++ (v ∷ [])) ≡ parts + 1 = omega (arith, r.count, length-append r.ns (v ∷ [])) in

@@ -71,11 +71,11 @@ module _ (s : List ℕ) (x : Request) (e : x ≡ refused) where
       total_of : (ms : List ℕ) (r : ℕ) → Asks s ms r → t ≡ line_of (length s) (found (r ∷ []) [])
       total_of ms r q = et ∙ ap (line_of (length s)) (asks_total q b.end (ap (λ (l : Line). l.end) (bounds_of ms r q)))
 
-      pub refused-total : (t.parts ≡ 1 → ⊥) → Parsed s x
-      refused-total h = refused_none (λ ms r q. h (ap (λ (l : Line). l.parts) (total_of ms r q)))
+      pub refused_total : (t.parts ≡ 1 → ⊥) → Parsed s x
+      refused_total h = refused_none (λ ms r q. h (ap (λ (l : Line). l.parts) (total_of ms r q)))
 
-      pub refused-behind : t.end < length s → Parsed s x
-      refused-behind h = refused_none (λ ms r q. omega (arith, ap (λ (l : Line). l.end) (total_of ms r q)))
+      pub refused_behind : t.end < length s → Parsed s x
+      refused_behind h = refused_none (λ ms r q. omega (arith, ap (λ (l : Line). l.end) (total_of ms r q)))
 
 -- ---- accepted
 

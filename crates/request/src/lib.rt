@@ -1,11 +1,13 @@
 // What the listing program reads (document 01, "Listing program"; the document's slip is a request here).
+#![tactic(auto)]
+
 ghost use Rattle.std.specs.Prelude.{◌≡◌, [], ◌≤◌, ◌<◌, length, drop};
 ghost use Rattle.request.specs.declared.Number.TheVariants.{Empty};
 ghost use Rattle.request.specs.Request.{held, refused, Parsed};
 ghost use Rattle.request.specs.Scan.{with_digit, grown_of, is_end, none, scan, line_of};
 
 // The bounds asked for, each as a byte (255 for any above), and the total; or the number 22, with all else 0.
-#[derive(Drop)]
+#[derive(Clone, Copy)]
 pub struct Request {
     pub number: u32,
     pub parts: usize,
@@ -14,7 +16,7 @@ pub struct Request {
 }
 
 // The number being read.
-#[derive(Drop)]
+#[derive(Clone, Copy)]
 enum Number {
     Empty,
     Value(u32),
@@ -22,7 +24,7 @@ enum Number {
 }
 
 // A line of numbers: how many they are, each as a byte, the last of them, and where the next line starts. There is none where parts is 0.
-#[derive(Drop)]
+#[derive(Clone, Copy)]
 struct Line {
     parts: usize,
     upper: [u8; 128],
