@@ -102,7 +102,7 @@ module _ (ms : List ℕ) (r : ℕ) (part : Part) (p : Passing ms r part) (t : �
     stored v b slid small =
         record {
           long = length-set cells t w ∙ s.long;
-          below = λ u i a c. let old = s.below u i a (lt-suc c) in (get_or-set_other cells t u w 0 (λ q. omega (arith, c, q)) ∙ old.0, old.1);
+          below = λ u i a c. let old = s.below u i a (lt_suc c) in (get_or-set_other cells t u w 0 (λ q. omega (arith, c, q)) ∙ old.0, old.1);
           above = λ u i a c. on_less t u
               (λ tu _. let old = s.above u i (suc_le tu) c in (get_or-set_other cells t u w 0 (λ q. omega (arith, tu, q)) ∙ old.0, old.1))
               (λ ut _. let q : t ≡ u = omega arith in subst Here q here);
@@ -119,8 +119,8 @@ module _ (ms : List ℕ) (r : ℕ) (part : Part) (p : Passing ms r part) (t : �
         here : Here t
         here = (get_or-set_same cells t w 0 (rw s.long b) ∙ is, rw is at s.small)
 
-        lt-suc : {u : ℕ} → u < t → u < t + 1
-        lt-suc q = omega arith
+        lt_suc : {u : ℕ} → u < t → u < t + 1
+        lt_suc q = omega arith
 
 -- the first window of row k + 1 has the cells from a up to the row's end
 module _ (ms : List ℕ) (r : ℕ) (part : Part) (p : Passing ms r part) where

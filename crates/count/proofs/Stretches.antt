@@ -67,16 +67,16 @@ module _ (ms : List ℕ) (r : ℕ) (part : Part) (p : Passing ms r part) (s : St
         })
 
     module _ (last : ℕ) (q : last ≡ min from s.second) where
-      up-to-both : (t : ℕ) → part.next.low ≤ t → t < last → (t ≤ high) × (t ≤ full)
-      up-to-both t a b = up_to_lem high full least t refl (omega (arith, i.second, q, a, b))
+      up_to_both : (t : ℕ) → part.next.low ≤ t → t < last → (t ≤ high) × (t ≤ full)
+      up_to_both t a b = up_to_lem high full least t refl (omega (arith, i.second, q, a, b))
 
       pub shrinks : Stretch part.row part.next part.m last part.next.low false true
       shrinks =
           record {
             low = le_refl _;
             high = le_trans (omega (arith, q)) from_le;
-            entering = λ t a b. record { entering = no'; staying = λ _. (up-to-both t a b).1 };
-            leaving = λ t a b. record { leaving = λ _. (up-to-both t a b).0; passed = no };
+            entering = λ t a b. record { entering = no'; staying = λ _. (up_to_both t a b).1 };
+            leaving = λ t a b. record { leaving = λ _. (up_to_both t a b).0; passed = no };
           }
 
       -- they end at the row's lowest sum

@@ -1,4 +1,6 @@
 // An edition with its number N (document 01, "Editions and their number"): the checks 1 to 5, of lent bounds and of a record that nobody has checked.
+#![tactic(auto)]
+
 ghost use Rattle.std.specs.Prelude.{◌≡◌, true, List, ℕ, ◌*◌, ◌≤◌, ◌<◌, length};
 ghost use Rattle.bounds.specs.Refusal.{first_refusal};
 ghost use Rattle.bounds.specs.Edition.{whole, blank_bounds, edition_checks};
@@ -14,7 +16,7 @@ const SMALL: u64 = 36_028_797_018_963_968;
 
 // An accepted edition and N, or the refusal, with all else 0.
 #[repr(C)]
-#[derive(Drop)]
+#[derive(Clone, Copy)]
 pub struct Checked {
     pub number: u32,
     pub detail: u64,

@@ -17,21 +17,21 @@ use bounds::{LIMIT, Shaped};
 use mahonian::Entry;
 
 // The lowest and the highest sum of a row from which the total can still be reached.
-#[derive(Drop)]
+#[derive(Clone, Copy)]
 struct Ends {
     low: usize,
     high: usize,
 }
 
 // The sums of the row after from `t` on are written, and `window` is the number for the sum before.
-#[derive(Drop)]
+#[derive(Clone, Copy)]
 struct At {
     t: usize,
     window: u64,
 }
 
 // Part `k`, counted from 0, with its bound, and the sums of the rows before and after it.
-#[derive(Drop)]
+#[derive(Clone, Copy)]
 struct Part {
     k: usize,
     m: usize,
@@ -147,7 +147,7 @@ fn fall(
 
 // The row after in three, from `from` down: to `first` cells only enter the window, to `second` they enter and leave it (`both`) or neither, then
 // they only leave it.
-#[derive(Drop)]
+#[derive(Clone, Copy)]
 struct Stretches {
     from: usize,
     first: usize,
