@@ -1,4 +1,6 @@
 // Composition to serial and back (document 01, "Serial and mix").
+#![tactic(auto)]
+
 ghost use Rattle.std.specs.Prelude.{◌≡◌, ◌≤◌, length, take};
 ghost use Rattle.rank.specs.Rank.{answer_of, rank_answer};
 ghost use Rattle.bounds.specs.Refusal.{first_refusal};
@@ -9,14 +11,14 @@ use band::find;
 use bounds::{Bounds, Refusal, refused};
 
 // A serial, or a refusal's number and detail.
-#[derive(Drop)]
+#[derive(Clone, Copy)]
 pub enum Ranking {
     Serial(u64),
     Refused(u32, u64),
 }
 
 // N and a composition, in 24 cells; all zeros where the edition is refused.
-#[derive(Drop)]
+#[derive(Clone, Copy)]
 pub struct Located {
     pub number: u32,
     pub detail: u64,
