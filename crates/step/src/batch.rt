@@ -51,7 +51,7 @@ pub fn room_refusal(count: u64, n: usize, serial: u64, copies: u64, have: usize)
 }
 
 // Where the first two parts stand that are left, that is, whose bound is not 0.
-#[derive(Drop)]
+#[derive(Clone, Copy)]
 struct Front {
     low: usize,
     high: usize,
@@ -59,7 +59,7 @@ struct Front {
 
 // The first two parts of a composition that are left, which way the second goes, and how often it can still move. Most steps move these two alone, so
 // they are kept apart from the others.
-#[derive(Drop)]
+#[derive(Clone, Copy)]
 struct Run {
     first: u8,
     second: u8,

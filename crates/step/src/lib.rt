@@ -2,6 +2,8 @@
 // to its left start anew (source document 000, section 2): of these just one changes, the others stand at their first values already. These two
 // are the kinds that gain and lose (document 02, (i)). Backward is the same with one more than the total: every sum to the right is then one
 // more, so every part runs the other way.
+#![tactic(auto)]
+
 pub mod batch;
 
 ghost use Rattle.std.specs.Prelude.{◌≡◌, true, cond, ◌+◌, ◌-◌, ◌≤◌, ◌<◌, min, ltb, length, get_or, set};
@@ -18,7 +20,7 @@ use walsh::{Transition, first_value, is_odd, lesser, over, wide};
 
 // A composition in 24 cells and the kinds that gained and lost a unit on the way to it, or a refusal's number and detail with all else 0.
 #[repr(C)]
-#[derive(Drop)]
+#[derive(Clone, Copy)]
 pub struct Stepped {
     pub number: u32,
     pub detail: u64,
@@ -28,7 +30,7 @@ pub struct Stepped {
 }
 
 // Part `at`, the sum of the bounds to its left, that of the parts up to it, itself included, that of the parts to its right, and which way it goes.
-#[derive(Drop)]
+#[derive(Clone, Copy)]
 struct PivotSums {
     at: usize,
     left: usize,
@@ -38,7 +40,7 @@ struct PivotSums {
 }
 
 // The part that changes against the one that moves, counted from 1, and its new value.
-#[derive(Drop)]
+#[derive(Clone, Copy)]
 struct Other {
     part: usize,
     value: usize,
