@@ -59,25 +59,25 @@ module _ (p : List ℕ) (short : length p ≤ 25) where
 
   module _ (perm : IsPermutation (length p) p) {i sum behind : ℕ} {vector : List ℕ} (found : FoundFrom p i vector sum behind) where
     module _ (first : 0 < i) (x : ℕ) (here : x ≡ get_or p (i - 1) 0) where
-      entry-within : x ≤ length p
-      entry-within = omega (arith, entry_le perm (i - 1) (omega (arith, found.place)))
+      entry_within : x ≤ length p
+      entry_within = omega (arith, entry_le perm (i - 1) (omega (arith, found.place)))
 
-      pub entry-small : x < 32
-      entry-small = omega (arith, entry-within)
+      pub entry_small : x < 32
+      entry_small = omega (arith, entry_within)
 
       -- the values behind that are smaller
-      behind-below : ones (behind % 2 ^ x) ≡ below x (drop i p)
-      behind-below =
-          values_below found.values x (omega (arith, entry-small))
-          (λ u h. omega (arith, many_drop (λ y. eqb y u) i p, times_le perm u (omega (arith, entry-within))))
+      behind_below : ones (behind % 2 ^ x) ≡ below x (drop i p)
+      behind_below =
+          values_below found.values x (omega (arith, entry_small))
+          (λ u h. omega (arith, many_drop (λ y. eqb y u) i p, times_le perm u (omega (arith, entry_within))))
 
-      pub behind-few : ones (behind % 2 ^ x) ≤ 25
-      behind-few = omega (arith, behind-below, many_le (λ y. ltb y x) (drop i p), length-drop i p)
+      pub behind_few : ones (behind % 2 ^ x) ≤ 25
+      behind_few = omega (arith, behind_below, many_le (λ y. ltb y x) (drop i p), length-drop i p)
 
-      behind-smaller : ones (behind % 2 ^ x) ≡ smaller_after p (i - 1)
-      behind-smaller =
+      behind_smaller : ones (behind % 2 ^ x) ≡ smaller_after p (i - 1)
+      behind_smaller =
           let next : suc (i - 1) ≡ i = omega arith in
-          behind-below ∙ sym (smaller_is p (i - 1) (omega (arith, found.place)) ∙ rw (← here, next))
+          behind_below ∙ sym (smaller_is p (i - 1) (omega (arith, found.place)) ∙ rw (← here, next))
 
       pub found_turn : (n : ℕ) → n ≡ ones (behind % 2 ^ x) → FoundFrom p (i - 1) (set vector (i - 1) n) (sum + n) (bit_or behind (2 ^ x))
       found_turn n en =
@@ -87,8 +87,8 @@ module _ (p : List ℕ) (short : length p ≤ 25) where
             values = set_turn p i behind x first found.place here found.values;
             total =
                 rw (drop_back p i first found.place, ← here)
-                (omega (arith, en, behind-below, found.total, inversions_more x (drop i p)));
-            few = omega (arith, en, behind-few, found.few);
+                (omega (arith, en, behind_below, found.total, inversions_more x (drop i p)));
+            few = omega (arith, en, behind_few, found.few);
             parts = parts;
           }
         where
@@ -96,7 +96,7 @@ module _ (p : List ℕ) (short : length p ≤ 25) where
           parts j l h = go (ℕ_discrete j (i - 1))
             where
               go : Dec (j ≡ i - 1) → get_or (set vector (i - 1) n) j 0 ≡ smaller_after p j
-              go (yes e) = rw e (get_or-set_same vector (i - 1) n 0 (omega (arith, found.cells, found.place)) ∙ en ∙ behind-smaller)
+              go (yes e) = rw e (get_or-set_same vector (i - 1) n 0 (omega (arith, found.cells, found.place)) ∙ en ∙ behind_smaller)
               go (no e) = get_or-set_other vector (i - 1) j n 0 e ∙ found.parts j (omega arith) h
 
   pub found_vector : {i sum behind : ℕ} {vector : List ℕ} → FoundFrom p i vector sum behind → i ≤ 0 → take (length p - 1) vector ≡ inversion_vector p

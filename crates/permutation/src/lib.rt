@@ -1,4 +1,6 @@
 // Permutations of 1..k and their inversion vectors (document 01, "Sheet orders"): a composition of staircase bounds to its permutation, and back.
+#![tactic(auto)]
+
 ghost use Rattle.std.specs.Prelude.{◌≡◌, List, ◌++◌, ℕ, ◌+◌, ◌-◌, ◌^◌, ◌≤◌, ◌<◌, length, get_or, take};
 ghost use Rattle.bounds.specs.Refusal.{first_refusal};
 ghost use Rattle.bounds.specs.Edition.{edition_checks};
@@ -16,14 +18,14 @@ use places::{composition_refusal, lent_refusal};
 use walsh::wide;
 
 // Two entries of a permutation.
-#[derive(Drop)]
+#[derive(Clone, Copy)]
 struct Pair {
     first: u8,
     second: u8,
 }
 
 // The bits of the entries of a list: bit v of `set` for the entry v, or v % 32, and in `over` the union of all.
-#[derive(Drop)]
+#[derive(Clone, Copy)]
 struct Values {
     set: u32,
     over: usize,
