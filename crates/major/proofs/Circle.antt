@@ -131,22 +131,22 @@ module _ {x s t : ℕ} {l g : List ℕ} (ready : Ready x s l (t ∷ g)) where
 -- what is drawn are the entries of l
 pub drawn_many : (test : ℕ → Bool) {x s : ℕ} (l g : List ℕ) → Ready x s l g → how_many test (drawn l (places_from s g)) ≡ how_many test l
 drawn_many test l [] ready = refl
-drawn_many test {x} {s} l (t ∷ g) ready =
+drawn_many test {x = x} {s = s} l (t ∷ g) ready =
     let r : ℕ = steps_down (suc (suc (length g))) s t in
     omega (
       arith,
       many_append test (drawn (erase r l) (places_from r g)) (get_or l r 0 ∷ []),
-      drawn_many test (erase r l) g (row_next ready),
+      drawn_many test {x = get_or l r 0} {s = r} (erase r l) g (row_next ready),
       erase_many test r l (row_lt ready),
     )
 
 pub drawn_length : {x s : ℕ} (l g : List ℕ) → Ready x s l g → length (drawn l (places_from s g)) ≡ length l
 drawn_length l [] ready = refl
-drawn_length {x} {s} l (t ∷ g) ready =
+drawn_length {x = x} {s = s} l (t ∷ g) ready =
     let r : ℕ = steps_down (suc (suc (length g))) s t in
     omega (
       arith,
       length-append (drawn (erase r l) (places_from r g)) (get_or l r 0 ∷ []),
-      drawn_length (erase r l) g (row_next ready),
+      drawn_length {x = get_or l r 0} {s = r} (erase r l) g (row_next ready),
       erase_length r l (row_lt ready),
     )

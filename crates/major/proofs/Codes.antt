@@ -132,12 +132,12 @@ rows_snoc x y q some =
 rows_drawn : {x s : ℕ} (l g : List ℕ) → Ready x s l g → rows_behind x (drawn l (places_from s g)) ≡ g
 rows_drawn l [] ready = let none : length l - 1 ≡ 0 = omega (arith, ready.size) in
     rw none
-rows_drawn {x} {s} l (t ∷ g) ready =
+rows_drawn {x = x} {s = s} l (t ∷ g) ready =
     let r : ℕ = steps_down (suc (suc (length g))) s t in
     let q : List ℕ = drawn (erase r l) (places_from r g) in
     let next = row_next ready in
     rows_snoc x (get_or l r 0) q (omega (arith, drawn_length (erase r l) g next, next.size))
-    ∙ rw (first_row_lem ready, rows_drawn (erase r l) g next)
+    ∙ rw (first_row_lem ready, rows_drawn {x = get_or l r 0} {s = r} (erase r l) g next)
 
 pub code_major : (g : List ℕ) → Under g → major_code (major_permutation g) ≡ g
 unfolding major_code

@@ -77,23 +77,23 @@ module _ (g : List ℕ) where
       row_is : suc (suc (length behind)) ≡ i
       row_is = omega (arith, length-drop (suc j) g, d.size, d.row)
 
-      now-ready : Ready d.x place d.l (t ∷ behind)
-      now-ready = rw front at d.ready
+      now_ready : Ready d.x place d.l (t ∷ behind)
+      now_ready = rw front at d.ready
 
-      pub drawing-turn-lt : t < i
-      drawing-turn-lt = omega (arith, now-ready.under.0, row_is)
+      pub drawing_turn_lt : t < i
+      drawing_turn_lt = omega (arith, now_ready.under.0, row_is)
 
       module _ (r : ℕ) (er : r ≡ steps_down i place t) where
         here : steps_down (suc (suc (length behind))) place t ≡ r
         here = rw row_is (sym er)
 
-        pub drawing-inside : r < length d.l
-        drawing-inside = rw here at (row_lt now-ready)
+        pub drawing_inside : r < length d.l
+        drawing_inside = rw here at (row_lt now_ready)
 
-        pub drawing-turn : (new : Left) (y : ℕ) → ((l : List ℕ) → Holds left l → r < length l → y ≡ get_or l r 0)
+        pub drawing_turn : (new : Left) (y : ℕ) → ((l : List ℕ) → Holds left l → r < length l → y ≡ get_or l r 0)
             → ((l : List ℕ) → Holds left l → r < length l → Holds new (erase r l))
             → Drawing g new r (i - 1) (set out (i - 1) y)
-        drawing-turn new y at without =
+        drawing_turn new y at without =
             let long : length (set out (i - 1) y) ≡ length out = length-set out (i - 1) y in
             let next : length (set out (i - 1) y) - (i - 1) ≡ suc j = omega (arith, d.row) in
             let place_lt : i - 1 < length (set out (i - 1) y) = omega (arith, d.row) in
@@ -107,11 +107,11 @@ module _ (g : List ℕ) where
               some = omega arith;
               row = omega (arith, d.row);
               size = long ∙ d.size;
-              holds = without d.l d.holds drawing-inside;
-              ready = rw next (rw here at (row_next now-ready));
+              holds = without d.l d.holds drawing_inside;
+              ready = rw next (rw here at (row_next now_ready));
               is =
                   rw (next, last)
                   ((rw (front, here) at d.is)
                   ∙ append_snoc (drawn (erase r d.l) (places_from r behind)) (get_or d.l r 0) (drop i out)
-                  ∙ ap (λ (v : ℕ). drawn (erase r d.l) (places_from r behind) ++ (v ∷ drop i out)) (sym (at d.l d.holds drawing-inside)));
+                  ∙ ap (λ (v : ℕ). drawn (erase r d.l) (places_from r behind) ++ (v ∷ drop i out)) (sym (at d.l d.holds drawing_inside)));
             }

@@ -135,15 +135,15 @@ module _ (p : List ℕ) (short : length p ≤ 25) (perm : IsPermutation (length 
       pub within : x ≤ length p
       within = omega (arith, entry_le perm (i - 1) (omega (arith, found.row)))
 
-      fewer-by : (v : ℕ) → front_up_to p i v ≡ front_up_to p (i - 1) v + from_on x v
-      fewer-by v = rw (one_less, ← here) at (front_suc p (i - 1) v (omega (arith, found.row)))
+      fewer_by : (v : ℕ) → front_up_to p i v ≡ front_up_to p (i - 1) v + from_on x v
+      fewer_by v = rw (one_less, ← here) at (front_suc p (i - 1) v (omega (arith, found.row)))
 
       -- the sheet x stands in front of place i
       pub among : Among front x (front_up_to p i)
-      among = record { tallies = found.tallies; some = λ v. omega (arith, fewer-by v) }
+      among = record { tallies = found.tallies; some = λ v. omega (arith, fewer_by v) }
 
-      pub tallies-turn : {rest : Tally} → Tallies rest (fewer x (front_up_to p i)) → Tallies rest (front_up_to p (i - 1))
-      tallies-turn is = tallies_same (λ v h. omega (arith, fewer-by v)) is
+      pub tallies_turn : {rest : Tally} → Tallies rest (fewer x (front_up_to p i)) → Tallies rest (front_up_to p (i - 1))
+      tallies_turn is = tallies_same (λ v h. omega (arith, fewer_by v)) is
 
       pub place_is : front_up_to p (i - 1) x ≡ place_at p (i - 1)
       place_is = rw here (omega (arith, not_before perm (i - 1) (omega (arith, found.row)) (rw here at within), within))
@@ -151,16 +151,16 @@ module _ (p : List ℕ) (short : length p ≤ 25) (perm : IsPermutation (length 
       pub place_lt : place_at p (i - 1) < i
       place_lt = omega (arith, place_le p (i - 1) (omega (arith, found.row)))
 
-      row-found : steps_down i next (place_at p (i - 1)) ≡ row_at p (i - 1)
-      row-found =
+      row_found : steps_down i next (place_at p (i - 1)) ≡ row_at p (i - 1)
+      row_found =
           ap (λ (n : ℕ). steps_down i n (place_at p (i - 1))) found.place
           ∙ ap (λ (j : ℕ). steps_down j (place_at p j) (place_at p (i - 1))) (sym one_less)
           ∙ row_is perm (i - 1) (omega (arith, found.row)) (rw here at within)
 
-      pub code-turn : (rest : Tally) (t n more-sum : ℕ) → Tallies rest (front_up_to p (i - 1)) → n ≡ place_at p (i - 1) → t ≡ steps_down i next n → t < i
+      pub code_turn : (rest : Tally) (t n more-sum : ℕ) → Tallies rest (front_up_to p (i - 1)) → n ≡ place_at p (i - 1) → t ≡ steps_down i next n → t < i
           → more-sum ≡ sum + t
           → CodeFrom p (i - 1) (set code (length p - i) t) more-sum rest n
-      code-turn rest t n more-sum tallies en et small es =
+      code_turn rest t n more-sum tallies en et small es =
           record {
             some = omega arith;
             row = omega (arith, found.row);
@@ -173,7 +173,7 @@ module _ (p : List ℕ) (short : length p ≤ 25) (perm : IsPermutation (length 
           }
         where
           row_here : t ≡ row_at p (i - 1)
-          row_here = et ∙ ap (steps_down i next) en ∙ row-found
+          row_here = et ∙ ap (steps_down i next) en ∙ row_found
 
           longer : length p - (i - 1) ≡ suc (length p - i)
           longer = omega (arith, found.row)
@@ -198,14 +198,14 @@ module _ (p : List ℕ) (short : length p ≤ 25) (perm : IsPermutation (length 
               (λ j h. sym (get_or-set_other code (length p - i) j t 0 (λ e. omega arith)))))
 
     module _ (last : i ≤ 1) where
-      pub code-found : take (length p - 1) code ≡ major_code p
+      pub code_found : take (length p - 1) code ≡ major_code p
       unfolding major_code
-      code-found =
+      code_found =
           tabulate_take (λ j. row_at p (length p - suc j)) code (length p - 1) (omega (arith, found.cells))
           (λ j h. found.rows j (omega arith))
 
-      pub index-found : sum ≡ major_index p
-      index-found =
+      pub index_found : sum ≡ major_index p
+      index_found =
           let n : ℕ = length p - 1 in
           let one : length p - i ≡ n = omega (arith, found.some) in
           let m : suc n ≡ length p = omega (arith, found.some, found.row) in
@@ -214,6 +214,6 @@ module _ (p : List ℕ) (short : length p ≤ 25) (perm : IsPermutation (length 
           found.total
           ∙ ap (sum_to code) one
           ∙ sum_same (λ j. get_or code j 0) (λ j. get_or (major_code p) j 0) n
-          (λ j h. sym (get_or-take n code j 0 h) ∙ ap (λ (l : List ℕ). get_or l j 0) code-found)
+          (λ j h. sym (get_or-take n code j 0 h) ∙ ap (λ (l : List ℕ). get_or l j 0) code_found)
           ∙ ap (sum_to (major_code p)) (sym size)
           ∙ code_sum perm'

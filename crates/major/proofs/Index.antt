@@ -54,9 +54,9 @@ index_one x s y behind = go (dec_lt 0 s)
 -- with the sheet x behind
 index_drawn : {x s : ℕ} (l g : List ℕ) → Ready x s l g → major_index (drawn l (places_from s g) ++ (x ∷ [])) + s ≡ sum_to g (length g) + length l
 index_drawn [] [] ready = absurd (omega (arith, ready.size))
-index_drawn {x} {s} (y ∷ []) [] ready = index_one x s y ready.behind
+index_drawn {x = x} {s = s} (y ∷ []) [] ready = index_one x s y ready.behind
 index_drawn (y ∷ z ∷ l) [] ready = absurd (omega (arith, ready.size))
-index_drawn {x} {s} l (t ∷ g) ready =
+index_drawn {x = x} {s = s} l (t ∷ g) ready =
     let r : ℕ = steps_down (suc (suc (length g))) s t in
     let q : List ℕ = drawn (erase r l) (places_from r g) in
     let size : suc (length q) ≡ length l =
@@ -64,7 +64,7 @@ index_drawn {x} {s} l (t ∷ g) ready =
     omega (
       arith,
       rw size at (index_snoc q (get_or l r 0) x),
-      index_drawn (erase r l) g (row_next ready),
+      index_drawn {x = get_or l r 0} {s = r} (erase r l) g (row_next ready),
       erase_length r l (row_lt ready),
       row_steps ready,
       sum_front (λ i. get_or (t ∷ g) i 0) (length g),

@@ -11,7 +11,7 @@ const PLACE_11: u64 = 36_028_797_018_963_968;
 
 // The first 12 sheets have 5 bits each of `low`. The others are 13 at least: they have 4 bits each of `high`, less 13. Behind the last sheet anything
 // may stand.
-#[derive(Drop)]
+#[derive(Clone, Copy)]
 pub(crate) struct Left {
     low: u64,
     high: u64,

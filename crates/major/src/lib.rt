@@ -1,5 +1,7 @@
 // Permutations of 1..k by major index (document 02, (iii)): a composition of staircase bounds to its permutation, and back. Nothing is turned: turns
 // keep the circle of the first i sheets, so these are always the sheets that are left, in rising order, turned, and each row draws one of them.
+#![tactic(auto)]
+
 mod bits;
 mod left;
 mod tally;

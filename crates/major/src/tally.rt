@@ -5,7 +5,7 @@ ghost use Rattle.major.specs.Tally.{Tallies, Among, fewer};
 use crate::bits;
 
 // The v below 16 have 4 bits each of `low`, the others 5 bits each of `high`.
-#[derive(Drop)]
+#[derive(Clone, Copy)]
 pub(crate) struct Tally {
     low: u64,
     high: u64,

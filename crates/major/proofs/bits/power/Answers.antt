@@ -3,12 +3,7 @@ use mathlib.Core.Path.{◌∙◌}
 use native.Mathlib.Nat.{one-mul}
 use native.Mathlib.Omega.{arith}
 use lib.Pow.{shl_exact}
-use borrow.Author.Rules.{rules}
-use Rattle.major.proofs.bits.power.Statement.{statement}
-use Rattle.major.proofs.bits.power.Tie as tie
+use Rattle.major.proofs.bits.power.Goals as goal
 
-returns : tie.Need-returns
+pub returns : goal.returns
 returns c = shl_exact {a = 1} 1 c.args.v 64 (omega arith) (omega (arith, c.requires)) ∙ one-mul _
-
-pub power-spec : {M : Type 1} → statement M
-power-spec = tie.close (tie.spec (λ c. search rules) returns)
