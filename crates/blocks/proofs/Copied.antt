@@ -104,8 +104,8 @@ module _ (ms : List ℕ) (r : ℕ) where
           rw (e, even) (omega arith))
 
       -- the copies of the block are those of the batch
-      pub laid-is : (j : ℕ) → j < b.count → laid entries w (length ms) b cells j ≡ composition_of ms r (p + j)
-      laid-is j l =
+      pub laid_is : (j : ℕ) → j < b.count → laid entries w (length ms) b cells j ≡ composition_of ms r (p + j)
+      laid_is j l =
           let inside-j : i + j < count ms w s = omega (arith, count_is) in
           let here = same_block ms r w known.inside g valid i at p low high is j inside-j in
           let entry : take w (drop (number_of b j * w) entries) ≡ get_or (listing ms w s (r - s)) (i + j) [] =
@@ -117,21 +117,21 @@ module _ (ms : List ℕ) (r : ℕ) where
           ∙ ap (λ (x : List ℕ). get_or (listing ms w s (r - s)) (i + j) [] ++ x) ending
           ∙ sym here.1
 
-      pub block-copies : (k : ℕ) → k ≤ b.count → joined (laid entries w (length ms) b cells) k ≡ copies_of ms r p k
-      block-copies k l =
-          joined_same (laid entries w (length ms) b cells) (λ j. composition_of ms r (p + j)) k (λ j h. laid-is j (omega arith))
+      pub block_copies : (k : ℕ) → k ≤ b.count → joined (laid entries w (length ms) b cells) k ≡ copies_of ms r p k
+      block_copies k l =
+          joined_same (laid entries w (length ms) b cells) (λ j. composition_of ms r (p + j)) k (λ j h. laid_is j (omega arith))
           ∙ copies_joined p k
 
       pub readable : (k : ℕ) → k ≤ b.count → Readable w b k (length entries)
       readable k l =
           record {
             back = λ e. back_at e (omega arith);
-            ahead = λ e. ahead-at e;
-            room = λ j h. fits-at j (omega arith);
+            ahead = λ e. ahead_at e;
+            room = λ j h. fits_at j (omega arith);
           }
         where
-          fits-at : (j : ℕ) → j < b.count → number_of b j * w + 16 ≤ length entries
-          fits-at j h =
+          fits_at : (j : ℕ) → j < b.count → number_of b j * w + 16 ≤ length entries
+          fits_at j h =
               subst (λ (x : ℕ). x * w + 16 ≤ length entries) (sym (number_is j h))
               (entry_fits ms w known.inside known.most entries starts known.lists s (r - s) (i + j) inside (omega (arith, count_is)))
 
@@ -140,8 +140,8 @@ module _ (ms : List ℕ) (r : ℕ) where
               let from : b.from ≡ get_or starts s 0 + listed_at true (get_or starts (s + 1) 0 - get_or starts s 0) i = rw e at block.from in
               omega (arith, count_is, before, after)
 
-          ahead-at : b.falling ≡ false → b.from + k ≤ length entries
-          ahead-at e =
+          ahead_at : b.falling ≡ false → b.from + k ≤ length entries
+          ahead_at e =
               let from : b.from ≡ get_or starts s 0 + i = rw e at block.from in
               let all : get_or starts (s + 1) 0 ≤ number_to front (suc known.most) =
               omega (

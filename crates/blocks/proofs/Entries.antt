@@ -61,22 +61,22 @@ module _ (ms : List ℕ) (r w : ℕ) (l : w ≤ length ms) where
         h : List ℕ
         h = get_or (order ms r) q []
 
-        inside-q : q < length (order ms r)
-        inside-q = omega (arith, count_length ms r)
+        inside_q : q < length (order ms r)
+        inside_q = omega (arith, count_length ms r)
 
-        valid-h : Composition ms r h
-        valid-h = composition_is ms r (p + k) (omega arith) within
+        valid_h : Composition ms r h
+        valid_h = composition_is ms r (p + k) (omega arith) within
 
         entered : Entered ms r w h (rank_of ms w (sum_to h w) (r - sum_to h w) h)
         entered =
-            let c = composition_to valid-h w l in
+            let c = composition_to valid_h w l in
             record {
               inside = rw length_listing at (rank_lt ms w (sum_to h w) (r - sum_to h w) h c);
-              is = rank_at ms w (sum_to h w) (r - sum_to h w) h c (omega (arith, valid-h.size));
+              is = rank_at ms w (sum_to h w) (r - sum_to h w) h c (omega (arith, valid_h.size));
             }
 
         after : Together ms r h w
-        after = together ms r h valid-h w l
+        after = together ms r h valid_h w l
 
         -- were it not, the one before would have both endings, and the block of g were longer
         first : (x : ℕ) → x ≡ rank_of ms w (sum_to h w) (r - sum_to h w) h → x ≡ 0
@@ -87,7 +87,7 @@ module _ (ms : List ℕ) (r w : ℕ) (l : w ≤ length ms) where
             let is-h : get_or (listing ms w (sum_to h w) (r - sum_to h w)) (suc x) [] ≡ take w h =
             ap (λ (y : ℕ). get_or (listing ms w (sum_to h w) (r - sum_to h w)) y []) e ∙ entered.is in
             let at-h : q ≡ after.start + suc x =
-            once ms r q (after.start + suc x) inside-q here.0
+            once ms r q (after.start + suc x) inside_q here.0
             (sym (here.1 ∙ ap (λ (y : List ℕ). y ++ drop w h) is-h ∙ take-append-drop w h)) in
             let before = after.inside x (omega arith) in
             let long = (sound ms w (sum_to h w) (r - sum_to h w) x (rw length_listing (omega arith))).0 in
@@ -97,7 +97,7 @@ module _ (ms : List ℕ) (r w : ℕ) (l : w ≤ length ms) where
             let ends' : drop w (get_or (order ms r) (block.start + (i + k - 1)) []) ≡ drop w g = ap (drop w) last.1 ∙ drop_at (get_or (listing ms w (sum_to g w) (r - sum_to g w)) (i + k - 1) []) (drop w g) w long' in
             let same : after.start + x ≡ block.start + (i + k - 1) = omega (arith, place, at-h) in
             let ending : drop w h ≡ drop w g = sym ends ∙ ap (λ (y : ℕ). drop w (get_or (order ms r) y [])) same ∙ ends' in
-            let only = block.only q inside-q ending in
+            let only = block.only q inside_q ending in
             absurd (omega (arith, only.1, place))
 
 -- ---- the entries in the lists
@@ -198,8 +198,8 @@ module _ (ms : List ℕ) (w : ℕ) (l : w ≤ length ms) where
         }
 
     module _ (x : ℕ) (is : x ≡ serial_of front (sum_to g w) (take w g)) where
-      pub place-within : (0 < x) × (x ≤ count ms w (sum_to g w))
-      place-within = (
+      pub place_within : (0 < x) × (x ≤ count ms w (sum_to g w))
+      place_within = (
         omega (arith, serial_pos front (sum_to g w) (take w g) composition_front),
         omega (arith, serial_le front (sum_to g w) (take w g) composition_front, count_front (sum_to g w)),
       )
@@ -211,7 +211,7 @@ module _ (ms : List ℕ) (w : ℕ) (l : w ≤ length ms) where
           let c : ℕ = count ms w s in
           let odd = is_odd (r - s) in
           let i : ℕ = listed_at odd c (x - 1) in
-          let (low, high) = place-within in
+          let (low, high) = place_within in
           let inside : i < c = on_test odd (λ t. rw t (omega arith)) (λ t. rw t (omega arith)) in
           let twice : listed_at odd c i ≡ x - 1 = on_test odd (λ t. rw t (omega arith)) (λ t. rw t) in
           let listed : get_or (listing front (length front) s 0) (x - 1) [] ≡ take w g =

@@ -13,7 +13,7 @@ use walsh::{is_odd, lesser};
 const MARGIN: usize = 40;
 
 // The entries of a block from a place on: how many there are, the number of the first in the lists, and whether they are read backwards.
-#[derive(Drop)]
+#[derive(Clone, Copy)]
 struct Block {
     count: usize,
     from: usize,

@@ -1,6 +1,8 @@
 // Long batches (document 01, "Trays"). "Mixes with the same ending stand together": while the parts behind the first few stay as they are, those
 // few run through all that they can be with their sum, forwards or backwards. What they can be is listed once for each sum (`lists`), and a
 // block of the batch is such a list with the ending behind each entry (`copies`); between two blocks stands one step.
+#![tactic(auto)]
+
 ghost use Rattle.std.specs.Prelude.{◌≡◌, List, ℕ, ◌≤◌, length, take};
 ghost use Rattle.walsh.specs.Serial.{serial_of};
 ghost use Rattle.bounds.specs.Refusal.{first_refusal};
