@@ -6,6 +6,8 @@
 // its values in turn, and for each hands the shorter edition, a part fewer, to the rising walk if the sum to the right is then even and to the falling
 // walk if it is odd. A single part takes the rest: the composition is whole, and is written. A walk answers how many bytes were written, from the
 // beginning of `out` on.
+#![tactic(auto)]
+
 ghost use Rattle.std.specs.Prelude.{◌≡◌, true, false, List, ℕ};
 ghost use Rattle.walsh.specs.Order.{is_odd};
 ghost use Rattle.bounds.specs.declared.Refusal.{Refusal};
