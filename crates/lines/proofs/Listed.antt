@@ -73,20 +73,20 @@ module _ (ms : List ℕ) (r : ℕ) where
       told : (edition.number ≡ 0) × (x.count ≡ count_of ms r) × (x.composition ≡ nearest ms r s)
       told = let at = located_accepted ms r s x e z in (at.0, at.1.count, at.1.cells)
 
-      pub list-many : (q : Page × List ℕ) (out : List ℕ) → most_entries < x.count → q ≡ page_in (refusal 14) s out → q ≡ page_in (listed ms r) s out
-      list-many q out h eq = instead 14 0 q out (by_count told.0 (omega (arith, told.1))) (omega arith) eq
+      pub list_many : (q : Page × List ℕ) (out : List ℕ) → most_entries < x.count → q ≡ page_in (refusal 14) s out → q ≡ page_in (listed ms r) s out
+      list_many q out h eq = instead 14 0 q out (by_count told.0 (omega (arith, told.1))) (omega arith) eq
 
       module _ (h : x.count ≤ most_entries) where
-        the-copies : listed ms r ≡ copies ms r
-        the-copies = listed_copies (none told.0 (omega (arith, told.1)))
+        the_copies : listed ms r ≡ copies ms r
+        the_copies = listed_copies (none told.0 (omega (arith, told.1)))
 
-        pub list-zero : (p : Page) (out : List ℕ) → p ≡ record { next = 0; end = 0 } → s ≡ 0 → (p, out) ≡ page_in (listed ms r) s out
+        pub list_zero : (p : Page) (out : List ℕ) → p ≡ record { next = 0; end = 0 } → s ≡ 0 → (p, out) ≡ page_in (listed ms r) s out
         unfolding page_in
-        list-zero p out ep es = rw the-copies (page_zero (line_in (copies ms r)) (count_of ms r) s p out ep es)
+        list_zero p out ep es = rw the_copies (page_zero (line_in (copies ms r)) (count_of ms r) s p out ep es)
 
-        pub list-past : (p : Page) (out : List ℕ) → p ≡ record { next = 0; end = 0 } → x.count < s → (p, out) ≡ page_in (listed ms r) s out
+        pub list_past : (p : Page) (out : List ℕ) → p ≡ record { next = 0; end = 0 } → x.count < s → (p, out) ≡ page_in (listed ms r) s out
         unfolding page_in
-        list-past p out ep l = rw the-copies (page_past (line_in (copies ms r)) (count_of ms r) s p out ep (omega (arith, told.1)))
+        list_past p out ep l = rw the_copies (page_past (line_in (copies ms r)) (count_of ms r) s p out ep (omega (arith, told.1)))
 
         module _ (low : (s ≡ 0 → ⊥)) (high : s ≤ x.count) where
           pos : 0 < s
@@ -98,18 +98,18 @@ module _ (ms : List ℕ) (r : ℕ) where
           cells : x.composition ≡ cells_of (composition_of ms r s)
           cells = rw (told.2, clamp_in (count_of ms r) s pos (omega (arith, told.1)))
 
-          pub list-cells : length ms ≤ length x.composition
+          pub list_cells : length ms ≤ length x.composition
           unfolding cells_of
-          list-cells = rw cells (omega (arith, size, length-append (composition_of ms r s) (replicate (24 - length (composition_of ms r s)) 0)))
+          list_cells = rw cells (omega (arith, size, length-append (composition_of ms r s) (replicate (24 - length (composition_of ms r s)) 0)))
 
           here : take (length ms) x.composition ≡ composition_of ms r s
           unfolding cells_of
           here = rw cells (take_at (composition_of ms r s) _ (length ms) size)
 
           -- the pair of the composition is that of the line
-          pub list-ready : (y : Transition) (l : List ℕ) → Retreats ms r (take (length ms) x.composition) y l
+          pub list_ready : (y : Transition) (l : List ℕ) → Retreats ms r (take (length ms) x.composition) y l
               → Ready ms r s x.count (take (length ms) x.composition) y
-          list-ready y l back =
+          list_ready y l back =
               let few = (edition_shapely ms r told.0).few in
               let last : s ≤ count_of ms r = omega (arith, told.1) in
               let valid = rw (← here) at (composition_is ms r s pos last) in
@@ -127,4 +127,4 @@ module _ (ms : List ℕ) (r : ℕ) where
               → (p, after) ≡ page_in (listed ms r) s before
           unfolding page_in
           list_put p before after f =
-              rw (the-copies, ← told.1) (page_put (line_in (copies ms r)) x.count s p before after pos f.next f.put)
+              rw (the_copies, ← told.1) (page_put (line_in (copies ms r)) x.count s p before after pos f.next f.put)

@@ -51,8 +51,8 @@ module _ (s : List ℕ) where
       next_last : (page_of s k out).0.next ≡ 0
       next_last = next_is ∙ rw (lt-ltb count _ end)
 
-      shown-last : shown s k out ≡ lines_of f k (suc count - k)
-      shown-last =
+      shown_last : shown s k out ≡ lines_of f k (suc count - k)
+      shown_last =
           let all : taken f count k (length out) ≡ suc count - k = omega (arith, fitting_le f k (suc count - k) (length out)) in
           shown_is ∙ ap (lines_of f k) all
 
@@ -61,9 +61,9 @@ module _ (s : List ℕ) where
       next_more : (page_of s k out).0.next ≡ k + taken f count k (length out)
       next_more = next_is ∙ rw (le-ltb count _ on)
 
-      shown-more : {rest : List ℕ} → rest ≡ lines_of f (page_of s k out).0.next (suc count - (page_of s k out).0.next)
+      shown_more : {rest : List ℕ} → rest ≡ lines_of f (page_of s k out).0.next (suc count - (page_of s k out).0.next)
           → shown s k out ++ rest ≡ lines_of f k (suc count - k)
-      shown-more {rest} e =
+      shown_more {rest} e =
           let n = taken f count k (length out) in
           let split : suc count - k ≡ n + (suc count - (k + n)) = omega arith in
           rw (shown_is, e, next_more) (sym (ap (lines_of f k) split ∙ lines_append f k n (suc count - (k + n))))
@@ -79,7 +79,7 @@ module _ (s : List ℕ) where
   rest_is : {k : ℕ} {out all : List ℕ} → Pages s out k all → 0 < k → all ≡ lines_of f k (suc count - k)
   rest_is {k} {out} {all} (last e is) low =
       on_less count (k + taken f count k (length out))
-      (λ l _. is ∙ shown-last k out low l)
+      (λ l _. is ∙ shown_last k out low l)
       (λ l _. absurd (omega (arith, next_more k out low l)))
   rest_is {k} {out} {all} (more rest ne p is) low =
       go (rest_is p)
@@ -89,7 +89,7 @@ module _ (s : List ℕ) where
       go below =
           on_less count (k + taken f count k (length out))
           (λ l _. absurd (ne (next_last k out low l)))
-          (λ l _. is ∙ shown-more k out low l (below (omega (arith, next_more k out low l))))
+          (λ l _. is ∙ shown_more k out low l (below (omega (arith, next_more k out low l))))
 
   whole : printed s ≡ lines_of f 1 count
   unfolding printed
@@ -105,7 +105,7 @@ module _ (s : List ℕ) where
   ends : (calls k : ℕ) (out : List ℕ) → 0 < k → suc count ≤ k + calls → 88 ≤ length out → Pages s out k (lines_of f k (suc count - k))
   ends zero k out low h room =
       let end : count < k + taken f count k (length out) = omega arith in
-      last (next_last k out low end) (sym (shown-last k out low end))
+      last (next_last k out low end) (sym (shown_last k out low end))
   ends (suc calls) k out low h room =
       go (ends calls (page_of s k out).0.next (page_of s k out).1)
     where
@@ -115,12 +115,12 @@ module _ (s : List ℕ) where
           → Pages s out k (lines_of f k (suc count - k))
       go below =
           on_less count (k + taken f count k (length out))
-          (λ l _. last (next_last k out low l) (sym (shown-last k out low l)))
+          (λ l _. last (next_last k out low l) (sym (shown_last k out low l)))
           (λ l _.
           let on = next_more k out low l in
           let moved = some k out low (omega arith) room in
           more _ (λ z. omega (arith, on)) (below (omega (arith, on)) (omega (arith, on, moved)) (omega (arith, size_is k out low)))
-          (sym (shown-more k out low l refl)))
+          (sym (shown_more k out low l refl)))
 
   pub pages_whole : (out : List ℕ) → 88 ≤ length out → Pages s out 1 (printed s)
   pages_whole out room =

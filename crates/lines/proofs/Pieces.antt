@@ -58,12 +58,12 @@ module _ {ms : List ℕ} {r first count : ℕ} {before start : List ℕ} {x₀ :
 
     -- where a line goes: it is that of s
     module _ (more : s ≤ count) where
-      pub filling-valid : Composition ms r parts
-      filling-valid = rw (f.here more) (composition_is ms r s (omega (arith, ready.low, f.low)) (omega (arith, ready.all)))
+      pub filling_valid : Composition ms r parts
+      filling_valid = rw (f.here more) (composition_is ms r s (omega (arith, ready.low, f.low)) (omega (arith, ready.all)))
 
       -- its kinds have at most two digits
-      pub filling-kinds : (x.gain ≤ 24) × (x.loss ≤ 24)
-      filling-kinds =
+      pub filling_kinds : (x.gain ≤ 24) × (x.loss ≤ 24)
+      filling_kinds =
           let some : 0 < s = omega (arith, ready.low, f.low) in
           let kinds = kinds_most ms r s some (omega (arith, ready.all)) in
           rw (f.pair more) (omega (arith, kinds.0, ready.few), omega (arith, kinds.1, ready.few))
@@ -72,8 +72,8 @@ module _ {ms : List ℕ} {r first count : ℕ} {before start : List ℕ} {x₀ :
       line_here = rw (f.here more, f.pair more) (unfold line_at in refl)
 
       -- no room for it
-      pub filling-full : length after - end < length (copy_line s parts x) → Filled ms r first count before after (record { next = s; end = end })
-      filling-full h =
+      pub filling_full : length after - end < length (copy_line s parts x) → Filled ms r first count before after (record { next = s; end = end })
+      filling_full h =
           let none : taken (line_at ms r) count s (length before - end) ≡ 0 =
           fitting_none (line_at ms r) s _ (length before - end) (omega (arith, ap length line_here, f.put.size)) in
           let all : taken (line_at ms r) count first (length before) ≡ s - first = omega (arith, f.left) in
@@ -81,20 +81,20 @@ module _ {ms : List ℕ} {r first count : ℕ} {before start : List ℕ} {x₀ :
 
       -- the step leads to the next composition, and says the pair of its line
       module _ {parts' : List ℕ} {x' : Transition} (on : Advances ms r parts x' parts') (l : s < count) where
-        step-here : parts' ≡ composition_of ms r (s + 1)
-        step-here =
-            on.next ready.few filling-valid
+        step_here : parts' ≡ composition_of ms r (s + 1)
+        step_here =
+            on.next ready.few filling_valid
             ∙ rw (f.here more) (advance_serial ms r s (omega (arith, ready.low, f.low)) (omega (arith, ready.all)))
 
-        step-pair : x' ≡ transition_at ms r (s + 1)
-        step-pair =
+        step_pair : x' ≡ transition_at ms r (s + 1)
+        step_pair =
             let back : s + 1 - 1 ≡ s = omega arith in
-            on.pair ∙ rw (step-here, f.here more) (sym (transition_some ms r (s + 1) (omega (arith, ready.low, f.low)) ∙ rw back))
+            on.pair ∙ rw (step_here, f.here more) (sym (transition_some ms r (s + 1) (omega (arith, ready.low, f.low)) ∙ rw back))
 
-      pub filling-next : {after' parts' : List ℕ} {e : ℕ} {x' : Transition} → length (copy_line s parts x) ≤ length after - end
+      pub filling_next : {after' parts' : List ℕ} {e : ℕ} {x' : Transition} → length (copy_line s parts x) ≤ length after - end
           → Appended after after' end e (copy_line s parts x) → Advances ms r parts x' parts'
           → Filling ms r first count before after' parts' (s + 1) e x'
-      filling-next {after'} {parts'} {e} {x'} room p on =
+      filling_next {after'} {parts'} {e} {x'} room p on =
           let more-lines : suc count - s ≡ suc (suc count - (s + 1)) = omega arith in
           let size : length before - end - length (line_at ms r s) ≡ length before - e = omega (arith, p.ends, ap length line_here) in
           let fits : length (line_at ms r s) ≤ length before - end = omega (arith, ap length line_here, f.put.size) in
@@ -105,8 +105,8 @@ module _ {ms : List ℕ} {r first count : ℕ} {before start : List ℕ} {x₀ :
           record {
             low = omega (arith, f.low);
             high = omega arith;
-            here = λ h. step-here on (omega arith);
-            pair = λ h. step-pair on (omega arith);
+            here = λ h. step_here on (omega arith);
+            pair = λ h. step_pair on (omega arith);
             put = retold (rw line_here (rw (at, next) at (lines_snoc (line_at ms r) first (s - first)))) (joined f.put p);
             left = omega (arith, f.left, one, f.low);
           }

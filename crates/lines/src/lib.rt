@@ -1,4 +1,6 @@
 // The lines that the listing program prints (document 01, "Listing program"; document 02, (i)).
+#![tactic(auto)]
+
 ghost use Rattle.std.specs.Prelude.{◌≡◌, ◌+◌, ◌≤◌, ◌<◌, leb, length};
 ghost use Rattle.request.specs.Text.{decimal};
 ghost use Rattle.lines.specs.Lines.{signed, pair_end, copy_line};
@@ -9,7 +11,7 @@ ghost use Rattle.lines.specs.Page.{page_in, page_of, Ready, Filled};
 use walsh::Transition;
 
 // A part of what is printed: where it ends in the buffer, and the number of the line at which the next page begins, or 0 behind the last.
-#[derive(Drop)]
+#[derive(Clone, Copy)]
 pub struct Page {
     pub next: u64,
     pub end: usize,

@@ -1,0 +1,10 @@
+-- `lines::end_len` meets its contract.
+use native.Mathlib.Omega.{arith}
+use Rattle.lines.proofs.Lined.{length_pair_end}
+use Rattle.lines.proofs.end_len.Goals as goal
+
+pub returns : goal.returns
+returns c =
+    let gain = c.digits.ensures in
+    let loss = c.digits-2.ensures in
+    (omega (arith, gain.0, loss.0, length_pair_end c.args.pair), omega (arith, gain.1, loss.1))
