@@ -81,7 +81,7 @@ module _ (p : Printing) where
     where
       go : Accepts (claim_checks p l s e) → (book_from p (l ++ (e ∷ [])) (takes (suc s) es)).entries ≡ (l ++ (e ∷ [])) ++ es
           → (book_from p l (takes s (e ∷ es))).entries ≡ l ++ (e ∷ es)
-      go a i = rw (after_claim l s e (eq-eqb _ 0 a)) i ∙ snoc_append l e es
+      go a i = rw (after_claim l s e (eq-eqb _ 0 a), book_from) i ∙ snoc_append l e es
 
   pub as_takes : (l : List Entry) (s : ℕ) (b : Lent) → (bad_bundle b).holds ≡ false → AsTakes p l s b
   unfolding after

@@ -111,11 +111,11 @@ module _ (p : Printing) where
 
     -- an accepted claim is for an order other than 0, which stands in no line
     module _ (s : ℕ) (e : Entry) (t : accepted (answer p l (claim s e)) ≡ true) where
-      pub for-an-order : is_voided e ≡ false
-      for-an-order = (passed _ _ refl (claim_turn s e (accepting (claim s e) t).0).0).0
+      pub for_an_order : is_voided e ≡ false
+      for_an_order = (passed _ _ refl (claim_turn s e (accepting (claim s e) t).0).0).0
 
-      pub for-a-new-order : length l ≤ first_place (same_order e) l
-      for-a-new-order =
+      pub for_a_new_order : length l ≤ first_place (same_order e) l
+      for_a_new_order =
           let q = (claim_turn s e (accepting (claim s e) t).0).1 in
           ltb-false (first_place (same_order e) l) (length l) (passed _ _ refl q.rest_accepts).0
 

@@ -12,7 +12,7 @@ use Rattle.model.specs.Model.{Call, peek, claim, void, claim_all, accepted, answ
 use Rattle.model.specs.Trace.{writes, is_claim, is_void, those}
 use Rattle.walsh.proofs.Tests.{many_append}
 use Rattle.model.proofs.Entries.{one_sold}
-use Rattle.model.proofs.Calls.{for-an-order, for-a-new-order}
+use Rattle.model.proofs.Calls.{for_an_order, for_a_new_order}
 use Rattle.model.proofs.Orders.{distinct_snoc}
 use Rattle.model.proofs.Books.{Grown}
 
@@ -38,7 +38,7 @@ module _ (p : Printing) where
       go peek q w t f = absurd (false≢true (rw q at w))
       go (claim_all s b) q w t f = absurd (false≢true (rw q at w))
       go (claim s e) q w t f =
-          let one = one_sold e (for-an-order p l s e (rw q at t)) in
+          let one = one_sold e (for_an_order p l s e (rw q at t)) in
           let n = more l (e ∷ []) in
           record { sold = rw q (omega (arith, rw q at f.sold, n.0, one.0)); voided = rw q (omega (arith, rw q at f.voided, n.1, one.1)) }
       go (void s) q w t f =
@@ -54,7 +54,7 @@ module _ (p : Printing) where
   distinct_more : (l : List Entry) (c : Call) → writes c ≡ true → accepted (answer p l c) ≡ true → DistinctOrders l → DistinctOrders (l ++ appended c)
   distinct_more l peek w t u = absurd (false≢true w)
   distinct_more l (claim_all s b) w t u = absurd (false≢true w)
-  distinct_more l (claim s e) w t u = distinct_snoc l e u (λ n. for-a-new-order p l s e t)
+  distinct_more l (claim s e) w t u = distinct_snoc l e u (λ n. for_a_new_order p l s e t)
   distinct_more l (void s) w t u = distinct_snoc l void_entry u (λ n. absurd (n refl))
 
   pub distinct_lines : (ws : List Event) (l m : List Entry) → Grown p l ws m → DistinctOrders l → DistinctOrders m

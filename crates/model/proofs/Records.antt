@@ -145,14 +145,14 @@ module _ (r : Ledger) (col : Lent) where
     answered_by t = ap (λ (v : Refusal). answer_by v p (granted_by r col c)) (refusal_next (not_together r col) _ (ap not t))
 
     module _ (a : Answer) (e : a ≡ answered r col c) where
-      pub calling-refused : a.number ≢ 0 → ◌≡◌ {A = Claimed × Lent} (record { answer = a; ledger = r }, col) (calling r col c)
+      pub calling_refused : a.number ≢ 0 → ◌≡◌ {A = Claimed × Lent} (record { answer = a; ledger = r }, col) (calling r col c)
       unfolding calling record_after column_after
-      calling-refused n = rw (← e, ne_eqb a.number 0 n)
+      calling_refused n = rw (← e, ne_eqb a.number 0 n)
 
-      pub calling-accepted : (r' : Ledger) (col' : Lent) → a.number ≡ 0 → r' ≡ counted r c → col' ≡ entered r col c
+      pub calling_accepted : (r' : Ledger) (col' : Lent) → a.number ≡ 0 → r' ≡ counted r c → col' ≡ entered r col c
           → ◌≡◌ {A = Claimed × Lent} (record { answer = a; ledger = r' }, col') (calling r col c)
       unfolding calling record_after column_after
-      calling-accepted r' col' n p q = rw (← e, eq-eqb a.number 0 n, p, q)
+      calling_accepted r' col' n p q = rw (← e, eq-eqb a.number 0 n, p, q)
 
   -- ---- no more lines: a peek leaves all as it was
 
@@ -172,7 +172,7 @@ module _ (r : Ledger) (col : Lent) where
       on_test (consistent r col) (λ t. peek_by (none_more t) a e)
       (λ f.
       let n : a.number ≡ 16 = ap (λ (y : Answer). y.number) (e ∙ answered_16 Call.peek f) in
-      calling-refused Call.peek a e (λ z. omega (arith, n, z)))
+      calling_refused Call.peek a e (λ z. omega (arith, n, z)))
 
   -- ---- the lines so far
 

@@ -48,17 +48,17 @@ module _ (r : Ledger) (col : Lent) (t : consistent r col ≡ true) where
     serial_over h = placed_high p (written r col) s h
 
     module _ (h : lowest p ≤ s) (k : s ≤ size p) where
-      pub serial-below : s < serial_at p r.entries → placed p (written r col) s ≡ refused_with 18 (get_or col.orders (place_of p s) 0)
-      serial-below b =
+      pub serial_below : s < serial_at p r.entries → placed p (written r col) s ≡ refused_with 18 (get_or col.orders (place_of p s) 0)
+      serial_below b =
           let q = parts r col t in
           placed_below p (written r col) s h k (omega (arith, own_next))
           ∙ ap (refused_with 18) (entry_order r.entries col (place_of p s) (omega arith) (omega (arith, q.fits, q.entries)))
 
-      pub serial-above : serial_at p r.entries < s → placed p (written r col) s ≡ refused_with 19 (serial_at p r.entries)
-      serial-above b = placed-above p (written r col) s h k (omega (arith, own_next)) ∙ ap (refused_with 19) own_next
+      pub serial_above : serial_at p r.entries < s → placed p (written r col) s ≡ refused_with 19 (serial_at p r.entries)
+      serial_above b = placed-above p (written r col) s h k (omega (arith, own_next)) ∙ ap (refused_with 19) own_next
 
-      pub serial-next : s ≡ serial_at p r.entries → placed p (written r col) s ≡ accepts
-      serial-next e =
+      pub serial_next : s ≡ serial_at p r.entries → placed p (written r col) s ≡ accepts
+      serial_next e =
           placed-next p (written r col) s h k (omega (arith, own_next)) ∙ ap (given p) e ∙ own (omega arith)
 
 -- ---- an accepted call

@@ -1,10 +1,12 @@
 // The ledger's types (document 01: the register), its model, and the statement about a whole list of calls. Nothing runs here: crate `ledger`
 // has the calls.
+#![tactic(auto)]
+
 use bounds::Bounds;
 
 // The record of a ledger. The lines themselves stand in the two columns that the caller lends.
 #[repr(C)]
-#[derive(Drop)]
+#[derive(Clone, Copy)]
 pub struct Ledger {
     pub bounds: Bounds,
     // document 01: lines written
@@ -18,7 +20,7 @@ pub struct Ledger {
 
 // What a call answers.
 #[repr(C)]
-#[derive(Drop)]
+#[derive(Clone, Copy)]
 pub struct Answer {
     pub number: u32,
     pub detail: u64,
@@ -28,7 +30,7 @@ pub struct Answer {
 
 // What a peek answers: also the kinds, counted from 1, that gain and lose a unit against the composition before (document 02, request (i)).
 #[repr(C)]
-#[derive(Drop)]
+#[derive(Clone, Copy)]
 pub struct Peeked {
     pub number: u32,
     pub detail: u64,
@@ -40,7 +42,7 @@ pub struct Peeked {
 
 // What a claim, a void or a bundle answers, with the record after it.
 #[repr(C)]
-#[derive(Drop)]
+#[derive(Clone, Copy)]
 pub struct Claimed {
     pub answer: Answer,
     pub ledger: Ledger,
@@ -48,7 +50,7 @@ pub struct Claimed {
 
 // What an opening answers: the record, or its refusal with a record of zeros.
 #[repr(C)]
-#[derive(Drop)]
+#[derive(Clone, Copy)]
 pub struct Opened {
     pub number: u32,
     pub detail: u64,
