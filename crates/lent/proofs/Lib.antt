@@ -1,5 +1,2 @@
-pub mod Columns
 pub mod Forms
-pub mod Lending
-pub mod Numbers
 pub mod Stored
