@@ -178,13 +178,13 @@ module _ {A : Type 0} (test : A → Bool) where
         }
 
     module _ (d : A) (h : i < length l) where
-      pub clear-here : test (get_or l i d) ≡ true → first_place test l ≡ i
-      clear-here t =
+      pub clear_here : test (get_or l i d) ≡ true → first_place test l ≡ i
+      clear_here t =
           let z : first_place test (get_or l i d ∷ drop (suc i) l) ≡ 0 = rw t in
           ap (first_place test) (split_at l i d h) ∙ omega (arith, rest (get_or l i d ∷ drop (suc i) l), z)
 
-      pub clear-more : test (get_or l i d) ≡ false → Clear l (i + 1)
-      clear-more f =
+      pub clear_more : test (get_or l i d) ≡ false → Clear l (i + 1)
+      clear_more f =
           let z : first_place test (get_or l i d ∷ []) ≡ 1 = rw f in
           record {
             inside = omega arith;
@@ -205,14 +205,14 @@ module _ {A : Type 0} (test : A → Bool) where
     pub seeking_hit : (d : A) {at' : ℕ} → i < at → test (get_or l i d) ≡ true → at' ≡ i → Seeking l at' (i + 1)
     seeking_hit d h t q =
         let w = s.within in
-        let here = clear-here l (s.none (omega arith)).1 d (omega arith) t in
+        let here = clear_here l (s.none (omega arith)).1 d (omega arith) t in
         record { within = omega arith; none = λ z. absurd (omega arith); found = λ z. q ∙ sym here }
 
     pub seeking_miss : (d : A) {at' : ℕ} → i < at → test (get_or l i d) ≡ false → at' ≡ at → Seeking l at' (i + 1)
     seeking_miss d h f q =
         let w = s.within in
         let p = s.none (omega arith) in
-        record { within = omega arith; none = λ z. (q ∙ p.0, clear-more l p.1 d (omega arith) f); found = λ z. absurd (omega arith) }
+        record { within = omega arith; none = λ z. (q ∙ p.0, clear_more l p.1 d (omega arith) f); found = λ z. absurd (omega arith) }
 
     pub seeking_done : at ≤ i → at ≡ first_place test l
     seeking_done h =

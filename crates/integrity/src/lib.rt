@@ -1,5 +1,7 @@
 // Number 16 (document 01, "Refusals", place 'register calls'; document 02, (vi)): whether a record and the two columns belong together, by one pass over
 // the lines written, which finds the lowest place of an order too where one is looked for, or the first of several that stands in an earlier line.
+#![tactic(auto)]
+
 mod meet;
 mod pass;
 mod sound;
@@ -19,14 +21,14 @@ use model::Ledger;
 pub const MOST_ITEM: u8 = 99;
 
 // Whether a record and the columns belong together, and N where they do; elsewhere 0.
-#[derive(Drop)]
+#[derive(Clone, Copy)]
 pub struct Seen {
     pub fits: bool,
     pub count: u64,
 }
 
 // The same, and the lowest place, from 0, of the order that is looked for: the number of lines where it does not stand among them.
-#[derive(Drop)]
+#[derive(Clone, Copy)]
 pub struct Found {
     pub fits: bool,
     pub count: u64,
@@ -35,7 +37,7 @@ pub struct Found {
 
 // The same, and the first order of a bundle that stands in an earlier line, by its place in the bundle, with the lowest such line, by its place: the
 // number of orders and of all lines where none does. The earlier lines are those written and the orders before it.
-#[derive(Drop)]
+#[derive(Clone, Copy)]
 pub struct Met {
     pub fits: bool,
     pub count: u64,

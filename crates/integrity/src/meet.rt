@@ -12,14 +12,14 @@ use crate::pass;
 const SLOTS: usize = 8192;
 
 // The first order known to stand in an earlier line, by its place in the bundle, and the lowest such line.
-#[derive(Drop)]
+#[derive(Clone, Copy)]
 struct Hit {
     first: usize,
     place: usize,
 }
 
 // How many lines are spoilt, whether none is unsound, and the first order that stands in an earlier line, with the lowest such line.
-#[derive(Drop)]
+#[derive(Clone, Copy)]
 pub(crate) struct Swept {
     pub(crate) zeros: u64,
     pub(crate) sound: bool,

@@ -12,28 +12,28 @@ use crate::sound;
 pub(crate) const BLOCK: usize = 1024;
 
 // How many orders of a block are 0, and how many are the one that is looked for.
-#[derive(Drop)]
+#[derive(Clone, Copy)]
 pub(crate) struct Counts {
     pub(crate) zeros: u32,
     pub(crate) hits: u32,
 }
 
 // How many orders of one block are 0, and of another.
-#[derive(Drop)]
+#[derive(Clone, Copy)]
 struct Voided {
     low: u32,
     high: u32,
 }
 
 // How many lines are spoilt, and whether none is unsound.
-#[derive(Drop)]
+#[derive(Clone, Copy)]
 pub(crate) struct Scanned {
     pub(crate) zeros: u64,
     pub(crate) sound: bool,
 }
 
 // The same, and the lowest place of the order; their number where it does not stand there.
-#[derive(Drop)]
+#[derive(Clone, Copy)]
 pub(crate) struct Passed {
     pub(crate) zeros: u64,
     pub(crate) sound: bool,

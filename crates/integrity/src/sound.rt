@@ -10,7 +10,7 @@ ghost use Rattle.integrity.specs.Range.{least_in, most_in};
 use crate::pass;
 
 // The least and the highest of some item lines.
-#[derive(Drop)]
+#[derive(Clone, Copy)]
 struct Range {
     least: u8,
     most: u8,
