@@ -1,4 +1,6 @@
 // The C interface (include/huztiral.h): the library's functions under names for C, each with its own contract.
+#![tactic(auto)]
+
 ghost use Rattle.std.specs.Prelude.{◌≡◌, List, ℕ, length};
 ghost use Rattle.digits.specs.Digits.{passes};
 ghost use Rattle.count.specs.Checked.{check_of};
@@ -26,7 +28,7 @@ const VERSION: u32 = 1500;
 
 // A serial, or a refusal's number and detail with serial 0.
 #[repr(C)]
-#[derive(Drop)]
+#[derive(Clone, Copy)]
 pub struct Ranked {
     pub number: u32,
     pub detail: u64,

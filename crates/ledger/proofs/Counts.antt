@@ -11,7 +11,7 @@ use Rattle.model.specs.Record.{printing_of, written, answered, counted}
 use Rattle.model.specs.declared.Answer.{Answer}
 use Rattle.model.specs.declared.Ledger.{Ledger}
 use Rattle.model.proofs.Bundles.{takes_sold}
-use Rattle.model.proofs.Calls.{for-an-order, bundle_takes, bundle_paired}
+use Rattle.model.proofs.Calls.{for_an_order, bundle_takes, bundle_paired}
 use Rattle.model.proofs.Entries.{one_sold}
 use Rattle.model.proofs.Records.{answered_by}
 use Rattle.model.proofs.Replies.{Writing, writing}
@@ -29,7 +29,7 @@ pub counts_claim : (r : Ledger) (col : Lent) (s : ℕ) (e : Entry) (a : Answer)
     → Writing r col (Call.claim s e)
     → counting r 1 (r.sold + 1) r.voided ≡ counted r (Call.claim s e)
 counts_claim r col s e a is z w =
-    let f : is_voided e ≡ false = for-an-order (printing_of r) (written r col) s e (eq-eqb _ 0 (none r col _ a is z w)) in
+    let f : is_voided e ≡ false = for_an_order (printing_of r) (written r col) s e (eq-eqb _ 0 (none r col _ a is z w)) in
     rw ((one_sold e f).0, (one_sold e f).1, add-zero r.voided)
 
 -- a void is voided

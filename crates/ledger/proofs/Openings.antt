@@ -61,15 +61,15 @@ module _ (p : Printing) (col : Lent) {x : Located} (is : x ≡ locate_of p.bound
       roomy : checks ≡ first_refusal (short_column p (room col) ∷ [])
       roomy = placed ∙ refusal_next _ _ (le-ltb most_entries (capacity p) (omega (arith, count_is)))
 
-      pub opening-short : room col < x.count → unopened 15 0 ≡ opening p col
-      opening-short l = refused_by 15 0 (omega arith) (roomy ∙ refusal_here _ _ (lt-ltb (room col) (capacity p) (omega (arith, count_is))))
+      pub opening_short : room col < x.count → unopened 15 0 ≡ opening p col
+      opening_short l = refused_by 15 0 (omega arith) (roomy ∙ refusal_here _ _ (lt-ltb (room col) (capacity p) (omega (arith, count_is))))
 
-      pub opening-good : (b : Bounds) → x.count ≤ room col
+      pub opening_good : (b : Bounds) → x.count ≤ room col
           → b ≡ record { parts = length p.bounds; upper = cells_of (take 24 p.bounds); total = p.total }
           → record { number = 0; detail = 0; ledger = record { bounds = b; entries = 0; sold = 0; voided = 0; next = x.composition } }
           ≡ opening p col
       unfolding opening opened first_refusal
-      opening-good b fits e =
+      opening_good b fits e =
           let none : checks ≡ refused 0 0 = roomy ∙ rw (le-ltb (room col) (capacity p) (omega (arith, count_is))) in
           let small : length p.bounds ≤ 24 = (edition_shapely p.bounds p.total located.0).few in
           rw (none, e, take_all 24 p.bounds small, located.1.cells ∙ nearest_next p 0)

@@ -1,6 +1,8 @@
 // The ledger (document 01, "The register"): open, peek, claim, void, and the claim of several (document 02, (v)), on a record by value and two columns
 // that the caller lends, the order numbers and, beside them, the item lines (document 02, (vi)). What a list of such calls guarantees is `from_opening` in
 // crate `model`, proofs/Whole.antt; crate `replay` runs a whole list under it.
+#![tactic(auto)]
+
 ghost use Rattle.std.specs.Prelude.{◌≡◌, ◌+◌, ◌≤◌, ◌<◌, length};
 ghost use Rattle.bounds.specs.Places.{most_entries};
 ghost use Rattle.model.specs.Printing.{size, next_composition};

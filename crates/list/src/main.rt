@@ -1,5 +1,7 @@
 // Lists the compositions that the request on standard input asks for (document 01, "Listing program"). What is printed is said by `put_page` of
 // crate `lines`, page after page; here it is read, written, and said on standard error where that fails.
+#![tactic(auto)]
+
 use libc::{STDIN_FILENO, STDOUT_FILENO};
 
 fn print(text: &[u8]) {

@@ -1,5 +1,7 @@
 // A whole list of calls on a newly opened ledger. The promise of `replay` is the statement about the list as a whole (document 01, "The
 // register"), so a program that breaks it cannot be built.
+#![tactic(auto)]
+
 ghost use Rattle.std.specs.Prelude.{◌≡◌, true, ◌/◌, ◌<◌, eqb, length, get_or};
 ghost use Rattle.bounds.specs.Places.{copied};
 ghost use Rattle.model.specs.Basics.{all};
@@ -24,7 +26,7 @@ const ITEMS: usize = 3;
 const ROW: usize = 29;
 
 // What a call answers, the record after it, and the pair.
-#[derive(Drop)]
+#[derive(Clone, Copy)]
 struct Called {
     claimed: Claimed,
     pair: Transition,

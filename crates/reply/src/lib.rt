@@ -1,5 +1,7 @@
 // What a peek, a claim, a void and a bundle answer (document 01, "Refusals", places 'register calls' to 'look'; document 02, (v) to (vii)). Nothing is
 // written here: crate `ledger` has the calls.
+#![tactic(auto)]
+
 ghost use Rattle.std.specs.Prelude.{◌≡◌, true, false, cond, ◌+◌, ◌<◌};
 ghost use Rattle.walsh.specs.Transition.{none};
 ghost use Rattle.bounds.specs.Places.{most_entries};

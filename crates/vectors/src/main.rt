@@ -1,6 +1,8 @@
 // Runs vectors from outside through the library. Standard input has a command a line, a letter and numbers (a list has its length in front); each is
 // answered by a line of numbers, those on the ledger by several. tests/vectors.py draws the commands and has the answers from an independent
 // implementation.
+#![tactic(auto)]
+
 ghost use Rattle.std.specs.Prelude.{◌≤◌};
 
 mod interleave;

@@ -4,21 +4,21 @@ ghost use Rattle.std.specs.Prelude.{◌≤◌, length};
 const MOST: u64 = 18_446_744_073_709_551_615;
 
 // A number, and where it ends.
-#[derive(Drop)]
+#[derive(Clone, Copy)]
 pub struct Numeral {
     pub value: u64,
     pub at: usize,
 }
 
 // How many numbers were stored, and where the list ends.
-#[derive(Drop)]
+#[derive(Clone, Copy)]
 pub struct Listed {
     pub len: usize,
     pub at: usize,
 }
 
 // An edition's number of parts and total, and where it ends.
-#[derive(Drop)]
+#[derive(Clone, Copy)]
 pub struct Bounded {
     pub parts: usize,
     pub total: u32,

@@ -5,7 +5,7 @@ use crate::{read, room, show};
 use model::Ledger;
 
 // A record, and where it ends.
-#[derive(Drop)]
+#[derive(Clone, Copy)]
 struct Recorded {
     ledger: Ledger,
     at: usize,

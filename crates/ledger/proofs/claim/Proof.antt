@@ -6,14 +6,14 @@ use lib.ListN.{length}
 use borrow.Author.Rules.{rules}
 use Rattle.model.specs.Entry.{entry, columns}
 use Rattle.model.specs.Model.{Call}
-use Rattle.model.proofs.Records.{parts, calling-refused, calling-accepted}
+use Rattle.model.proofs.Records.{parts, calling_refused, calling_accepted}
 use Rattle.model.proofs.Replies.{Writing, writing, entered_next}
 use Rattle.ledger.proofs.Counts.{counts_claim}
 use Rattle.ledger.proofs.claim.Statement.{statement}
 use Rattle.ledger.proofs.claim.Tie as tie
 
 returns : tie.Need-returns
-returns c = calling-refused _ _ _ _ c.before.before.claim.ensures c.if1.true
+returns c = calling_refused _ _ _ _ c.before.before.claim.ensures c.if1.true
 
 wrote : (c : tie.Else1)
     → let a = c.before.before.before.before.before.before.before.args in
@@ -37,7 +37,7 @@ returns-2 : tie.Need-returns-2
 returns-2 c =
     let e = c.before.before.before in
     rw c.counted.ensures
-    (calling-accepted _ _ _ _ e.before.before.claim.ensures _ _ e.if1.false
+    (calling_accepted _ _ _ _ e.before.before.claim.ensures _ _ e.if1.false
     (counts_claim _ _ _ _ _ e.before.before.claim.ensures e.if1.false (wrote e)) (sym (entered_next _ _ _ (wrote e))))
 
 pub claim-spec : {M : Type 1} → statement M

@@ -11,7 +11,7 @@ use Rattle.bounds.proofs.Cells.{copied_same}
 use Rattle.model.specs.Entry.{Lent, columns, entries_in, put}
 use Rattle.model.specs.Model.{Call}
 use Rattle.model.proofs.Entries.{room_entries, orders_back, items_back}
-use Rattle.model.proofs.Records.{parts, calling-refused, calling-accepted}
+use Rattle.model.proofs.Records.{parts, calling_refused, calling_accepted}
 use Rattle.model.proofs.Replies.{Writing, writing, entered_next}
 use Rattle.ledger.specs.Counting.{counting}
 use Rattle.ledger.proofs.Counts.{paired, counts_all}
@@ -19,7 +19,7 @@ use Rattle.ledger.proofs.claim_all.Statement.{statement}
 use Rattle.ledger.proofs.claim_all.Tie as tie
 
 returns : tie.Need-returns
-returns c = calling-refused _ _ _ _ c.before.before.claim_all.ensures c.if1.true
+returns c = calling_refused _ _ _ _ c.before.before.claim_all.ensures c.if1.true
 
 wrote : (c : tie.Else1)
     → let a = c.before.before.before.before.before.before.before.before.before.args in
@@ -109,7 +109,7 @@ returns-2 c =
     (c.before.before.before.before.copy.ensures ∙ copied-items c.before.before.before.before) in
     let more = ap (λ (n : ℕ). counting a.ledger n (a.ledger.sold + n) a.ledger.voided) (sym (long e)) in
     rw c.counted.ensures
-    (calling-accepted _ _ _ _ e.before.before.claim_all.ensures _ _ e.if1.false
+    (calling_accepted _ _ _ _ e.before.before.claim_all.ensures _ _ e.if1.false
     (more ∙ counts_all _ _ _ _ _ e.before.before.claim_all.ensures e.if1.false (wrote e))
     (both-laid _ _ _ _ _ (bundle e) (even e) os is ∙ sym (entered_next _ _ _ (wrote e))))
 

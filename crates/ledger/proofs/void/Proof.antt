@@ -6,14 +6,14 @@ use lib.ListN.{length}
 use borrow.Author.Rules.{rules}
 use Rattle.model.specs.Entry.{columns}
 use Rattle.model.specs.Model.{Call}
-use Rattle.model.proofs.Records.{parts, calling-refused, calling-accepted}
+use Rattle.model.proofs.Records.{parts, calling_refused, calling_accepted}
 use Rattle.model.proofs.Replies.{Writing, writing, entered_next}
 use Rattle.ledger.proofs.Counts.{counts_void}
 use Rattle.ledger.proofs.void.Statement.{statement}
 use Rattle.ledger.proofs.void.Tie as tie
 
 returns : tie.Need-returns
-returns c = calling-refused _ _ _ _ c.before.before.void.ensures c.if1.true
+returns c = calling_refused _ _ _ _ c.before.before.void.ensures c.if1.true
 
 wrote : (c : tie.Else1)
     → let a = c.before.before.before.before.before.before.before.args in
@@ -37,7 +37,7 @@ returns-2 : tie.Need-returns-2
 returns-2 c =
     let e = c.before.before.before in
     rw c.counted.ensures
-    (calling-accepted _ _ _ _ e.before.before.void.ensures _ _ e.if1.false
+    (calling_accepted _ _ _ _ e.before.before.void.ensures _ _ e.if1.false
     (counts_void e.before.before.before.before.before.before.before.args.ledger e.before.before.before.before.before.before.before.args.serial) (sym (entered_next _ _ _ (wrote e))))
 
 pub void-spec : {M : Type 1} → statement M

@@ -7,7 +7,7 @@ use borrow.Author.Rules.{rules}
 use Rattle.model.specs.Entry.{columns}
 use Rattle.model.proofs.Records.{Consistent, parts}
 use Rattle.model.specs.Model.{refused_with}
-use Rattle.model.proofs.Replies.{serial_low, serial_over, serial-below, serial-above, serial-next}
+use Rattle.model.proofs.Replies.{serial_low, serial_over, serial_below, serial_above, serial_next}
 use Rattle.reply.proofs.place.Statement.{statement}
 use Rattle.reply.proofs.place.Tie as tie
 
@@ -34,7 +34,7 @@ returns-3 c =
     let t = c.before.before.before in
     c.refused3.ensures
     ∙ ap (refused_with 18) c.before.wide.ensures
-    ∙ sym (serial-below _ _ s.requires.0 _ (omega (arith, t.before.before.if1.false)) (omega (arith, t.before.if2.false, s.requires.1))
+    ∙ sym (serial_below _ _ s.requires.0 _ (omega (arith, t.before.before.if1.false)) (omega (arith, t.before.if2.false, s.requires.1))
     (omega (arith, t.if3.true)))
 
 returns-4 : tie.Need-returns-4
@@ -42,14 +42,14 @@ returns-4 c =
     let s = c.before.before.before.before.before.before.before in
     let inside = c.before.before.before.if2.false in
     let above = c.before.if4.true in
-    c.refused4.ensures ∙ sym (serial-above _ _ s.requires.0 _ (omega (arith, above)) (omega (arith, s.requires.1, inside)) above)
+    c.refused4.ensures ∙ sym (serial_above _ _ s.requires.0 _ (omega (arith, above)) (omega (arith, s.requires.1, inside)) above)
 
 returns-5 : tie.Need-returns-5
 returns-5 c =
     let s = c.before.before.before.before.before.before.before in
     let e = c.before in
     c.accepted.ensures
-    ∙ sym (serial-next _ _ s.requires.0 _ (omega (arith, e.before.if3.false)) (omega (arith, s.requires.1, e.before.before.if2.false))
+    ∙ sym (serial_next _ _ s.requires.0 _ (omega (arith, e.before.if3.false)) (omega (arith, s.requires.1, e.before.before.if2.false))
     (omega (arith, e.before.if3.false, e.if4.false)))
 
 accepted-requires : tie.Need-accepted-requires
