@@ -14,8 +14,6 @@ use Rattle.bounds.specs.Places.{filling}
 use Rattle.mahonian.specs.Staircase.{staircase, is_staircase}
 use Rattle.rank.specs.Rank.{rank_answer}
 use Rattle.step.specs.Steps.{step_of}
-use Rattle.step.specs.Batch.{copies_of}
-use Rattle.listing.specs.Listing.{listing_of}
 use Rattle.permutation.specs.Permutation.{is_permutation, inversions, permutation_of, lift, inversion_vector}
 use Rattle.permutation.specs.Conversions.{to_permutation, to_composition}
 use Rattle.major.specs.Major.{major_index, turn_rows, major_permutation, major_code}
@@ -27,7 +25,7 @@ use Rattle.boundary.specs.Rows.{rows}
 
 all_hold : map given rows ≡ map claimed rows
 unfolding rows same place_of serial_of composition_of order listing count_of count first_refusal first_outside cells_of rank_answer step_of
-    gain_from transition_at filling copies_of listing_of staircase is_staircase is_permutation inversions permutation_of lift inversion_vector major_index turn_rows
+    gain_from transition_at filling staircase is_staircase is_permutation inversions permutation_of lift inversion_vector major_index turn_rows
     major_permutation major_code to_permutation to_composition
     compositions opened opening consistent answered record_after column_after run answer after book_from weighted_sum
 all_hold = refl

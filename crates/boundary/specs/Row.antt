@@ -1,7 +1,7 @@
 -- Document 01, "Boundary copies": a row of the table is an edition and what is claimed of it. Both what the definitions give and what is claimed
 -- are written as lists of numbers; the row holds if they are the same. An answer is its number, its detail and what it answers, with the pair of
 -- document 02, (i), behind it where it has one. Every claim but `refused` and `opens` also says that nothing is refused.
-use Rattle.std.specs.Prelude.{◌≡◌, List, [], ◌∷◌, ◌++◌, map, ℕ, zero, suc, ◌+◌, ◌-◌, ◌*◌, length, replicate}
+use Rattle.std.specs.Prelude.{◌≡◌, List, [], ◌∷◌, ◌++◌, map, ℕ, zero, suc, ◌+◌, ◌-◌, length, replicate}
 use Rattle.walsh.specs.Order.{order, count_of}
 use Rattle.walsh.specs.Transition.{transition_at}
 use Rattle.walsh.specs.declared.Transition.{Transition}
@@ -11,7 +11,6 @@ use Rattle.bounds.specs.declared.Refusal.{Refusal}
 use Rattle.rank.specs.Rank.{Answer, rank_answer}
 use Rattle.step.specs.Steps.{successor_of, predecessor_of}
 use Rattle.step.specs.declared.Stepped.{Stepped}
-use Rattle.listing.specs.Listing.{listing_of}
 use Rattle.permutation.specs.Reading.{Reading}
 use Rattle.permutation.specs.Conversions.{to_permutation, to_composition}
 use Rattle.model.specs.declared.Opened.{Opened}
@@ -54,10 +53,6 @@ pub data Claim : Type 0 where
   unread : Reading → List ℕ → ℕ → Claim
   -- it is no puzzle edition: 10 both ways, for this composition and these sheets
   no_puzzle : Reading → List ℕ → List ℕ → Claim
-  -- a tray lent for all its compositions holds these, one behind the other
-  fills : List (List ℕ) → Claim
-  -- a tray of so many bytes lent for them is refused with this number, and keeps its bytes
-  unfilled : ℕ → ℕ → Claim
   -- a ledger opened over an order column and an item column of so many entries: the number that it answers
   opens : ℕ → ℕ → ℕ → Claim
   -- what a ledger on it answers to a list of calls; of a composition the first parts are written, the others are 0
@@ -100,11 +95,6 @@ event_list x =
     x.reply.number ∷ x.reply.detail ∷ x.reply.serial
     ∷ paired x.reply.composition x.transition.gain x.transition.loss
 
--- compositions one behind the other
-abbrev joined : List (List ℕ) → List ℕ
-joined [] = []
-joined (g ∷ gs) = g ++ joined gs
-
 -- an accepted one
 abbrev accepted : List ℕ → List ℕ
 accepted l = 0 ∷ 0 ∷ l
@@ -125,10 +115,6 @@ module _ (ms : List ℕ) (r : ℕ) where
 
   abbrev unpermuted : Reading → List ℕ → List ℕ
   unpermuted reading p = filled_list (to_composition reading ms r p (replicate (length ms) 0))
-
-  -- all compositions, into a tray of so many bytes
-  abbrev listed : ℕ → List ℕ
-  listed bytes = filled_list (listing_of ms r (replicate bytes 7))
 
   -- the pairs of the serials 1, .. , n
   abbrev pairs_to : ℕ → List (List ℕ)
@@ -170,8 +156,6 @@ module _ (ms : List ℕ) (r : ℕ) where
   sides (permutations reading ps) =
       (map (permuted reading) (order ms r) ++ map (unpermuted reading) ps, map accepted ps ++ map accepted (order ms r))
   sides (reads reading g p) = (permuted reading g ∷ unpermuted reading p ∷ [], accepted p ∷ accepted g ∷ [])
-  sides (fills gs) = (listed (count_of ms r * length ms) ∷ [], accepted (joined gs) ∷ [])
-  sides (unfilled bytes number) = (listed bytes ∷ [], (number ∷ 0 ∷ replicate bytes 7) ∷ [])
   sides (opens orders items number) = (opened_list (opening printing (zeros orders items)) ∷ [], (number ∷ 0 ∷ []) ∷ [])
   -- the record's own run, and the model
   sides (answers cs) =

@@ -1,5 +1,5 @@
 -- Document 01, "Boundary copies": the table, with the pairs of document 02, (i), and rows for the withdrawn kinds of (ii), the permutations by
--- major index of (iii), the bundles of (v), the item lines of (vi), the mistyped orders of (vii) and the whole trays of (viii).
+-- major index of (iii), the bundles of (v), the item lines of (vi) and the mistyped orders of (vii).
 use Rattle.std.specs.Prelude.{List, [], ◌∷◌, map, ℕ, ◌+◌, ◌-◌, ◌*◌, ◌%◌, replicate}
 use Rattle.walsh.specs.Order.{three_twos, seven}
 use Rattle.walsh.specs.Withdrawn.{gapped}
@@ -11,7 +11,7 @@ use Rattle.major.specs.Reading.{by_major}
 use Rattle.model.specs.Entry.{entry, Lent, columns}
 use Rattle.model.specs.Model.{peek, claim, void, claim_all}
 use Rattle.boundary.specs.Row.{Claim, lists, counts, refused, serial, next, back, pairs, alone, opens, answers, looks}
-use Rattle.boundary.specs.Row.{permutations, reads, unread, no_puzzle, fills, unfilled, Row}
+use Rattle.boundary.specs.Row.{permutations, reads, unread, no_puzzle, Row}
 
 abbrev row : List ℕ → ℕ → Claim → Row
 row ms r what = record { bounds = ms; total = r; claim = what }
@@ -278,17 +278,4 @@ rows =
     ∷ row (2 ∷ 1 ∷ []) 1 (unread by_inversions (3 ∷ 1 ∷ 2 ∷ []) 12)
     ∷ row (2 ∷ 1 ∷ []) 1 (unread by_major (1 ∷ 3 ∷ 3 ∷ []) 11)
     ∷ row (2 ∷ 2 ∷ []) 1 (no_puzzle by_major (1 ∷ 0 ∷ []) (1 ∷ 3 ∷ 3 ∷ []))
-    -- document 02, (viii): copies A and D as a tray, one kind, a kind withdrawn, all kinds withdrawn
-    ∷ row three_twos 3 (fills seven)
-    ∷ row three_twos 5 (fills ((2 ∷ 2 ∷ 1 ∷ []) ∷ (2 ∷ 1 ∷ 2 ∷ []) ∷ (1 ∷ 2 ∷ 2 ∷ []) ∷ []))
-    ∷ row (5 ∷ []) 5 (fills ((5 ∷ []) ∷ []))
-    ∷ row (2 ∷ 0 ∷ 1 ∷ []) 2 (fills ((2 ∷ 0 ∷ 0 ∷ []) ∷ (1 ∷ 0 ∷ 1 ∷ []) ∷ []))
-    ∷ row (0 ∷ 0 ∷ []) 0 (fills ((0 ∷ 0 ∷ []) ∷ []))
-    -- a byte more or less, a composition less, an empty tray: 13; the edition is checked first
-    ∷ row three_twos 3 (unfilled 22 13)
-    ∷ row three_twos 3 (unfilled 20 13)
-    ∷ row three_twos 3 (unfilled 18 13)
-    ∷ row three_twos 3 (unfilled 0 13)
-    ∷ row three_twos 7 (unfilled 21 4)
-    ∷ row (replicate 25 1) 3 (unfilled 0 1)
     ∷ []
