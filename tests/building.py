@@ -11,17 +11,15 @@ import report
 
 TOP = os.path.dirname(os.path.dirname(os.path.abspath(__file__)))
 RT = """#!/bin/sh
-echo "$@" >>calls
-mkdir -p target/stamp target/bin target/staticlib
-for crate in base middle; do
-    echo "some text of the prover about $crate"
-    [ ! -e "crates/$crate/src/wrong" ] || { echo "rt: $crate NOT PROVED (exit 1, 0 s)"; exit 1; }
-    echo "rt: $crate proved (0 s)"
-    sleep 0.1
-done
-case $1 in
-check) case " $* " in *" list "*) echo "rt: list proved (0 s)"; echo program >target/bin/list; chmod +x target/bin/list ;; esac ;;
-staticlib) echo archive >target/staticlib/libengine.a ;;
+crate=$(basename "$PWD")
+echo "$1 $crate" >>../../calls
+echo "some text of the prover about $crate"
+[ ! -e src/wrong ] || { echo "logic=not-proved"; exit 1; }
+sleep 0.1
+mkdir -p out
+case "$1 $crate" in
+"run list") echo program >out/list; chmod +x out/list ;;
+"lib engine") echo archive >out/libengine.a ;;
 esac
 """
 CC = """#!/bin/sh
@@ -34,7 +32,7 @@ class Building(unittest.TestCase):
     def setUp(self):
         self.folder = tempfile.mkdtemp()
         self.addCleanup(shutil.rmtree, self.folder)
-        self.write("crates.txt", "# a comment\nbase:\nmiddle: base check\nother: base\nlist: middle base io libc\nengine: middle\n")
+        self.write("crates.txt", "# a comment\nbase:\nmiddle: base check\nother: base\nlist: middle base\nengine staticlib: middle\n")
         for crate in "base", "middle", "other", "list", "engine":
             self.write(f"crates/{crate}/src/lib.rt", "")
         os.mkdir(os.path.join(self.folder, "scripts"))
@@ -66,7 +64,7 @@ class Building(unittest.TestCase):
         return process.returncode, said
 
     def times_built(self):
-        return len(self.read("calls").split("\n")) - 1
+        return self.read("calls").split("\n").count("lib engine")
 
     def test_without_a_terminal(self):
         status, said = self.build("list")
@@ -75,7 +73,7 @@ class Building(unittest.TestCase):
                                r"huztiral: target/bin/list is proved and built \(3 crates, \d+ s\)\n\Z")
         self.assertIn("some text of the prover about middle", self.read("target/build-list.log"))
         self.assertEqual(self.build("list"), (0, ""))
-        self.assertEqual(self.times_built(), 1)
+        self.assertEqual(self.read("calls"), "lib base\nlib middle\nrun list\n")
 
     def test_with_a_terminal(self):
         ours, theirs = pty.openpty()
@@ -97,16 +95,16 @@ class Building(unittest.TestCase):
 
     def test_when_it_builds(self):
         self.assertEqual(self.build("library")[0], 0)
-        self.assertEqual(self.read("calls"), "check base middle\nstaticlib engine\n")
+        self.assertEqual(self.read("calls"), "lib base\nlib middle\nlib engine\n")
         self.write("crates/other/src/lib.rt", "no part of the engine")
         self.assertEqual(self.build("library"), (0, ""))
         self.write("crates/middle/src/lib.rt", "a part of it")
         self.assertEqual(self.build("library")[0], 0)
-        self.assertEqual(self.times_built(), 4)
+        self.assertEqual(self.times_built(), 2)
         for lost in "shared/libhuztiral.so", "staticlib/libengine.a", "built/library":
             os.remove(os.path.join(self.folder, "target", lost))
             self.assertEqual(self.build("library")[0], 0)
-        self.assertEqual(self.times_built(), 10)
+        self.assertEqual(self.times_built(), 5)
         self.assertEqual(self.read("target/shared/libhuztiral.so"), "archive\n")
         self.assertEqual(sorted(os.listdir(os.path.join(self.folder, "target", "shared"))), ["libhuztiral.so"])
 
@@ -116,9 +114,9 @@ class Building(unittest.TestCase):
             status, said = self.build("library")
             self.assertEqual(status, 1)
             *_, cause, verdict, end = said.split("\n")
-            self.assertEqual((cause, end), ("rt: middle NOT PROVED (exit 1, 0 s)", ""))
+            self.assertEqual((cause, end), ("logic=not-proved", ""))
             self.assertEqual(verdict, "huztiral: target/shared/libhuztiral.so is not built; target/build-library.log has all that was said")
-        self.assertEqual(self.read("calls"), "check base middle\n" * 2)
+        self.assertEqual(self.read("calls"), "lib base\nlib middle\n" * 2)
         os.remove(os.path.join(self.folder, "crates/middle/src/wrong"))
         self.assertEqual(self.build("library")[0], 0)
 
@@ -128,7 +126,7 @@ class Building(unittest.TestCase):
         self.assertEqual([process.returncode for process in several], [0] * 4)
         self.assertEqual(sum("is proved and built" in text for text in said), 1)
         self.assertLessEqual({text for text in said if "is proved and built" not in text}, {"", "huztiral: waiting for another build\n"})
-        self.assertEqual(self.times_built(), 2)
+        self.assertEqual(self.times_built(), 1)
 
     def test_no_kit(self):
         os.remove(os.path.join(self.folder, "bin", "rt"))

@@ -4,10 +4,12 @@
 // line for the rows.
 ghost use Rattle.std.specs.Prelude.{◌≤◌};
 
+use crate::show::Answers;
 use crate::{read, room, show};
 
 // What the script answers and leaves that is read from a place in the commands on; where what is read ends.
 fn scripted(
+    to: &mut Answers,
     s: &[u8],
     from: usize,
     upper: &[u8],
@@ -29,14 +31,17 @@ fn scripted(
     let orders = room::part_32(&pool, o.len);
     let itemlines = read::part(&item_pool, i.len);
     let rows = room::lent_64(&mut answers, size.value);
-    show::opened(replay::replay(upper, total, script, orders, itemlines, column, items, rows));
-    show::words(column);
-    show::listed(items);
-    show::longs(rows);
+    show::opened(
+        to,
+        replay::replay(upper, total, script, orders, itemlines, column, items, rows),
+    );
+    show::words(to, column);
+    show::listed(to, items);
+    show::longs(to, rows);
     size.at
 }
 
-pub(crate) fn list(s: &[u8], from: usize) -> usize
+pub(crate) fn list(to: &mut Answers, s: &[u8], from: usize) -> usize
     ensures { from ≤ result }
 {
     let mut upper = [0u8; 64];
@@ -46,6 +51,7 @@ pub(crate) fn list(s: &[u8], from: usize) -> usize
     let c = read::words(s, e.at, &mut column);
     let i = read::list(s, c.at, &mut items);
     scripted(
+        to,
         s,
         i.at,
         read::part(&upper, e.parts),

@@ -12,7 +12,9 @@ mod room;
 mod show;
 
 use bounds::Refusal;
-use libc::STDIN_FILENO;
+use show::Answers;
+use std::io;
+use std::io::Read;
 
 // What a lent part holds before a call.
 const FILL: u8 = 170;
@@ -20,19 +22,22 @@ const FILL: u8 = 170;
 // The most pieces that are read.
 const PIECES: u32 = 4;
 
+// The bytes of a piece.
+const PIECE: u64 = 65536;
+
 // count: c, upper, total: number, detail, N
-fn count(s: &[u8], from: usize) -> usize
+fn count(to: &mut Answers, s: &[u8], from: usize) -> usize
     ensures { from ≤ result }
 {
     let mut upper = [0u8; 64];
     let e = read::bounded_by(s, from, &mut upper);
     let c = count::check(read::part(&upper, e.parts), e.total);
-    show::three(c.number, c.detail, c.count);
+    show::three(to, c.number, c.detail, c.count);
     e.at
 }
 
 // a record that nobody has checked: e, number of parts, 24 cells, total: number, detail, N
-fn count_record(s: &[u8], from: usize) -> usize
+fn count_record(to: &mut Answers, s: &[u8], from: usize) -> usize
     ensures { from ≤ result }
 {
     let mut upper = [0u8; 24];
@@ -43,26 +48,26 @@ fn count_record(s: &[u8], from: usize) -> usize
         upper,
         total: e.total,
     });
-    show::three(c.number, c.detail, c.count);
+    show::three(to, c.number, c.detail, c.count);
     e.at
 }
 
 // table: t, k, r: M(k, r), and nothing outside the table
-fn table(s: &[u8], from: usize) -> usize
+fn table(to: &mut Answers, s: &[u8], from: usize) -> usize
     ensures { from ≤ result }
 {
     let k = read::number(s, from);
     let r = read::number(s, k.at);
     match mahonian::read((k.value % 65536) as usize, (r.value % 65536) as usize) {
-        mahonian::Entry::Count(n) => show::first(n),
+        mahonian::Entry::Count(n) => show::first(to, n),
         mahonian::Entry::Outside => {}
     }
-    show::end();
+    show::end(to);
     r.at
 }
 
 // rank: r, upper, total, composition: number, detail, serial
-fn rank(s: &[u8], from: usize) -> usize
+fn rank(to: &mut Answers, s: &[u8], from: usize) -> usize
     ensures { from ≤ result }
 {
     let mut upper = [0u8; 64];
@@ -74,14 +79,14 @@ fn rank(s: &[u8], from: usize) -> usize
         e.total,
         read::part(&composition, g.len),
     ) {
-        rank::Ranking::Serial(serial) => show::three(0, 0, serial),
-        rank::Ranking::Refused(number, detail) => show::three(number, detail, 0),
+        rank::Ranking::Serial(serial) => show::three(to, 0, 0, serial),
+        rank::Ranking::Refused(number, detail) => show::three(to, number, detail, 0),
     }
     g.at
 }
 
 // unrank: u, upper, total, serial, length: number, detail, the lent part
-fn unrank(s: &[u8], from: usize) -> usize
+fn unrank(to: &mut Answers, s: &[u8], from: usize) -> usize
     ensures { from ≤ result }
 {
     let mut upper = [0u8; 64];
@@ -91,12 +96,12 @@ fn unrank(s: &[u8], from: usize) -> usize
     let size = read::number(s, serial.at);
     let lent = read::lent(&mut out, size.value);
     let r = rank::unrank(read::part(&upper, e.parts), e.total, serial.value, lent);
-    show::lent(r, lent);
+    show::lent(to, r, lent);
     size.at
 }
 
 // step: s forward or p backward, upper, total, composition: number, detail, 24 cells, gain, loss
-fn step(s: &[u8], from: usize, back: bool) -> usize
+fn step(to: &mut Answers, s: &[u8], from: usize, back: bool) -> usize
     ensures { from ≤ result }
 {
     let mut upper = [0u8; 64];
@@ -106,15 +111,15 @@ fn step(s: &[u8], from: usize, back: bool) -> usize
     let ms = read::part(&upper, e.parts);
     let composition = read::part(&given, g.len);
     if back {
-        show::stepped(step::predecessor(ms, e.total, composition));
+        show::stepped(to, step::predecessor(ms, e.total, composition));
     } else {
-        show::stepped(step::successor(ms, e.total, composition));
+        show::stepped(to, step::successor(ms, e.total, composition));
     }
     g.at
 }
 
 // batch: b, upper, total, serial, copies, length: number, detail, the lent part
-fn batch(s: &[u8], from: usize) -> usize
+fn batch(to: &mut Answers, s: &[u8], from: usize) -> usize
     ensures { from ≤ result }
 {
     let mut upper = [0u8; 64];
@@ -131,12 +136,12 @@ fn batch(s: &[u8], from: usize) -> usize
         copies.value,
         lent,
     );
-    show::lent(r, lent);
+    show::lent(to, r, lent);
     size.at
 }
 
 // a whole edition: w, upper, total, length: number, detail, the lent part
-fn whole(s: &[u8], from: usize) -> usize
+fn whole(to: &mut Answers, s: &[u8], from: usize) -> usize
     ensures { from ≤ result }
 {
     let mut upper = [0u8; 64];
@@ -145,7 +150,7 @@ fn whole(s: &[u8], from: usize) -> usize
     let size = read::number(s, e.at);
     let lent = read::lent(&mut out, size.value);
     let r = listing::list(read::part(&upper, e.parts), e.total, lent);
-    show::lent(r, lent);
+    show::lent(to, r, lent);
     size.at
 }
 
@@ -160,7 +165,7 @@ fn conversion(letter: u8, upper: &[u8], total: u32, given: &[u8], lent: &mut [u8
 }
 
 // a conversion: o, i, m or d, upper, total, composition or permutation, length: number, detail, the lent part
-fn convert(s: &[u8], letter: u8, from: usize) -> usize
+fn convert(to: &mut Answers, s: &[u8], letter: u8, from: usize) -> usize
     ensures { from ≤ result }
 {
     let mut upper = [0u8; 64];
@@ -177,52 +182,55 @@ fn convert(s: &[u8], letter: u8, from: usize) -> usize
         read::part(&given, g.len),
         lent,
     );
-    show::lent(r, lent);
+    show::lent(to, r, lent);
     size.at
 }
 
 // The command at a letter; any other byte is passed over.
-fn command(s: &[u8], letter: u8, from: usize) -> usize
+fn command(to: &mut Answers, s: &[u8], letter: u8, from: usize) -> usize
     ensures { from ≤ result }
 {
     match letter {
-        b'c' => count(s, from),
-        b'e' => count_record(s, from),
-        b't' => table(s, from),
-        b'r' => rank(s, from),
-        b'u' => unrank(s, from),
-        b's' => step(s, from, false),
-        b'p' => step(s, from, true),
-        b'b' => batch(s, from),
-        b'w' => whole(s, from),
-        b'o' | b'i' | b'm' | b'd' => convert(s, letter, from),
-        b'n' => record::opening(s, from),
-        b'k' => record::call(s, from),
-        b'l' => interleave::list(s, from),
+        b'c' => count(to, s, from),
+        b'e' => count_record(to, s, from),
+        b't' => table(to, s, from),
+        b'r' => rank(to, s, from),
+        b'u' => unrank(to, s, from),
+        b's' => step(to, s, from, false),
+        b'p' => step(to, s, from, true),
+        b'b' => batch(to, s, from),
+        b'w' => whole(to, s, from),
+        b'o' | b'i' | b'm' | b'd' => convert(to, s, letter, from),
+        b'n' => record::opening(to, s, from),
+        b'k' => record::call(to, s, from),
+        b'l' => interleave::list(to, s, from),
         _ => from,
     }
 }
 
 // Every command.
-fn run(s: &[u8]) {
+fn run(to: &mut Answers, s: &[u8]) {
     let mut at = 0;
     while at < s.len() {
-        at = command(s, s[at], at + 1);
+        at = command(to, s, s[at], at + 1);
     }
 }
 
 // Every command of a piece of standard input. A piece has 65,536 bytes, but for the last, and no command stands in two of them: where one would,
 // there are empty lines before it.
-fn piece() {
-    let mut input = io::large_buffer();
-    let got = io::read_full(STDIN_FILENO, &mut input);
-    run(read::part(&input, got));
+fn piece(to: &mut Answers, rt: &HostRuntime) -> io::Result<()> {
+    let mut input = Vec::new(rt.alloc());
+    rt.stdin().take(PIECE).read_to_end(&mut input)?;
+    run(to, &input);
+    Ok(())
 }
 
-fn main() {
+fn main(rt: HostRuntime) -> io::Result<()> {
+    let mut to = show::begin(&rt)?;
     let mut i: u32 = 0;
     while i < PIECES {
-        piece();
+        piece(&mut to, &rt)?;
         i += 1;
     }
+    show::finish(to)
 }

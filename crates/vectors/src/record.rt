@@ -1,6 +1,7 @@
 // Openings, and calls on a record that nobody has checked.
 ghost use Rattle.std.specs.Prelude.{◌≤◌};
 
+use crate::show::Answers;
 use crate::{read, room, show};
 use model::Ledger;
 
@@ -39,7 +40,7 @@ fn record(s: &[u8], from: usize) -> Recorded
 }
 
 // opening: n, upper, total, entries of the order column, entries of the item column: number, detail; the record
-pub(crate) fn opening(s: &[u8], from: usize) -> usize
+pub(crate) fn opening(to: &mut Answers, s: &[u8], from: usize) -> usize
     ensures { from ≤ result }
 {
     let mut upper = [0u8; 64];
@@ -48,12 +49,15 @@ pub(crate) fn opening(s: &[u8], from: usize) -> usize
     let e = read::bounded_by(s, from, &mut upper);
     let size = read::number(s, e.at);
     let items_size = read::number(s, size.at);
-    show::opened(ledger::open(
-        read::part(&upper, e.parts),
-        e.total,
-        room::part_32(&column, size.value as usize),
-        read::part(&items, items_size.value as usize),
-    ));
+    show::opened(
+        to,
+        ledger::open(
+            read::part(&upper, e.parts),
+            e.total,
+            room::part_32(&column, size.value as usize),
+            read::part(&items, items_size.value as usize),
+        ),
+    );
     items_size.at
 }
 
@@ -75,6 +79,7 @@ fn first_item(itemlines: &[u8]) -> u8 {
 
 // What a call answers, and the record after it: 0 peek, 1 claim for the first order and the first item line, 3 bundle of all of them, any other void.
 fn called(
+    to: &mut Answers,
     ledger: Ledger,
     column: &mut [u32],
     items: &mut [u8],
@@ -84,25 +89,38 @@ fn called(
     itemlines: &[u8],
 ) {
     if which == 0 {
-        show::peeked(ledger::peek(ledger, column, items));
-        show::ledger(ledger);
+        show::peeked(to, ledger::peek(ledger, column, items));
+        show::ledger(to, ledger);
         return;
     }
     if which == 1 {
         let order = first(orders);
         let item = first_item(itemlines);
-        show::claimed(ledger::claim(ledger, column, items, serial, order, item));
+        show::claimed(
+            to,
+            ledger::claim(ledger, column, items, serial, order, item),
+        );
         return;
     }
     if which == 3 {
-        show::claimed(ledger::claim_all(ledger, column, items, serial, orders, itemlines));
+        show::claimed(
+            to,
+            ledger::claim_all(ledger, column, items, serial, orders, itemlines),
+        );
         return;
     }
-    show::claimed(ledger::void(ledger, column, items, serial));
+    show::claimed(to, ledger::void(ledger, column, items, serial));
 }
 
 // The call that is read from a place in the commands on, of a record and two columns; where what is read ends.
-fn called_with(s: &[u8], from: usize, ledger: Ledger, column: &mut [u32], items: &mut [u8]) -> usize
+fn called_with(
+    to: &mut Answers,
+    s: &[u8],
+    from: usize,
+    ledger: Ledger,
+    column: &mut [u32],
+    items: &mut [u8],
+) -> usize
     ensures { from ≤ result }
 {
     let mut orders = room::words();
@@ -112,6 +130,7 @@ fn called_with(s: &[u8], from: usize, ledger: Ledger, column: &mut [u32], items:
     let o = read::words(s, serial.at, &mut orders);
     let i = read::list(s, o.at, &mut itemlines);
     called(
+        to,
         ledger,
         column,
         items,
@@ -125,7 +144,7 @@ fn called_with(s: &[u8], from: usize, ledger: Ledger, column: &mut [u32], items:
 
 // call: k, record, order column, item column, which call, serial, orders, item lines: the order numbers before, the item lines before; number, detail,
 // serial, 24 cells, of a peek gain and loss too; the record; the order column; the item column
-pub(crate) fn call(s: &[u8], from: usize) -> usize
+pub(crate) fn call(to: &mut Answers, s: &[u8], from: usize) -> usize
     ensures { from ≤ result }
 {
     let mut space = room::words();
@@ -136,10 +155,10 @@ pub(crate) fn call(s: &[u8], from: usize) -> usize
     let column = room::lent_32(&mut space, c.len as u64);
     let items = read::lent(&mut bytes, i.len as u64);
     let ledger = r.ledger;
-    show::words(ledger::entries(ledger, column, items));
-    show::listed(ledger::entry_items(ledger, column, items));
-    let end = called_with(s, i.at, ledger, column, items);
-    show::words(column);
-    show::listed(items);
+    show::words(to, ledger::entries(ledger, column, items));
+    show::listed(to, ledger::entry_items(ledger, column, items));
+    let end = called_with(to, s, i.at, ledger, column, items);
+    show::words(to, column);
+    show::listed(to, items);
     end
 }
