@@ -37,9 +37,9 @@ class Readme(unittest.TestCase):
         self.prints(shown)
 
     def test_the_order(self):
-        """the two walks of docs/ORDER.md are the engine's but for their contracts, and the example prints what the page says"""
+        """the two walks of docs/ORDER.md are the engine's but for contracts and the cycle's name, and the example prints what the page says"""
         (language, walks), *shown = blocks("docs", "ORDER.md")
-        code = re.sub(r"^    (requires|ensures) \{.*\n", "", text_of("crates", "listing", "src", "lib.rt"), flags=re.MULTILINE)
+        code = re.sub(r"^(    (requires|ensures) \{|#\[cycle).*\n", "", text_of("crates", "listing", "src", "lib.rt"), flags=re.MULTILINE)
         self.assertEqual((language, walks.count("fn "), [language for language, _ in shown]), ("rust", 2, [*SH]))
         self.assertIn(f"\n{walks}\n", code)
         self.prints(shown)
