@@ -9,7 +9,6 @@ use native.Mathlib.Nat.{add-zero}
 use lib.ListN.{length, get_or, take}
 use borrow.Author.Tests.{ltb-false, leb-true, le-leb, eqb-true, eq-eqb, ne_eqb}
 use Rattle.walsh.specs.Serial.{same}
-use Rattle.walsh.specs.Tests.{both}
 use Rattle.walsh.proofs.Cases.{on_test}
 use Rattle.walsh.proofs.Serials.{same_eq}
 use Rattle.bounds.specs.Refusal.{first_refusal}

@@ -1,4 +1,4 @@
-use Prim.Native.Nat.{◌+◌, ◌-◌, ◌≤◌}
+use Prim.Native.Nat.{◌+◌, ◌≤◌}
 use native.Mathlib.Omega.{arith}
 use Rattle.integrity.proofs.Sifting.{unmarked_lines, marked_fewer}
 use Rattle.integrity.proofs.meet.sift.Goals as goal

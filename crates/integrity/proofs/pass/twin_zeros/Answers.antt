@@ -1,5 +1,4 @@
 use mathlib.Core.Path.{refl}
-use Prim.Native.Nat.{◌-◌}
 use native.Mathlib.Omega.{arith}
 use Rattle.integrity.proofs.Places.{equals, many_more, many_all}
 use Rattle.integrity.proofs.pass.twin_zeros.Goals as goal

@@ -1,6 +1,5 @@
 use mathlib.Core.Path.{refl, sym, ap, ◌∙◌}
 use mathlib.Core.Bool.{cond}
-use Prim.Native.Nat.{◌-◌}
 use native.Mathlib.Omega.{arith}
 use Rattle.model.specs.Entry.{Entry, void_entry, is_unmatched, pairs}
 use Rattle.integrity.proofs.Pairs.{pairs_length, line_at}
