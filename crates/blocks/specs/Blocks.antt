@@ -1,6 +1,6 @@
 -- Document 01, "Walsh's order": "Mixes with the same ending stand together." A block is the part of the order that has one ending from part w on; the
 -- first w parts run through `listing ms w s t` there, where they sum to s and the ending to t.
-use Rattle.std.specs.Prelude.{◌≡◌, Bool, true, false, cond, List, [], ◌++◌, ℕ, suc, ◌+◌, ◌-◌, ◌*◌, ◌≤◌, ◌<◌, length, get_or, take, drop}
+use Rattle.std.specs.Prelude.{◌≡◌, Bool, true, false, cond, List, [], ◌++◌, ℕ, ◌+◌, ◌-◌, ◌*◌, ◌≤◌, ◌<◌, length, get_or, take, drop}
 use Rattle.walsh.specs.Sums.{sum_to}
 use Rattle.walsh.specs.Order.{Composition, is_odd, listing, count}
 use Rattle.walsh.specs.Serial.{composition_of}

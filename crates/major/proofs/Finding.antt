@@ -10,7 +10,7 @@ use lib.Dec.{ltb, eqb}
 use lib.ListN.{length, get_or, take, drop, set, length-set, get_or-eq_default}
 use lib.Seq.{take-suc, take-length, split_at, length-take-le, get_or-set_same, get_or-set_other, get_or-take}
 use borrow.Author.Tests.{lt-ltb, le-ltb, eq-eqb}
-use Rattle.walsh.specs.Sums.{sum, sum_to}
+use Rattle.walsh.specs.Sums.{sum_to}
 use Rattle.walsh.proofs.Lists.{sum_same}
 use Rattle.walsh.proofs.Tests.{many_append}
 use Rattle.permutation.specs.Permutation.{times, IsPermutation}

@@ -10,7 +10,7 @@ use lib.ListN.{length, get_or, set}
 use borrow.Author.Tests.{ltb-true, ltb-false, lt-ltb, le-ltb, le-leb, lt-leb}
 use Rattle.walsh.specs.Sums.{sum_to}
 use Rattle.walsh.specs.Order.{CompositionTo, is_odd, least, most}
-use Rattle.walsh.specs.Step.{last_value, next_value, first_of, AtLast, Pivot, step_at}
+use Rattle.walsh.specs.Step.{last_value, next_value, AtLast, Pivot, step_at}
 use Rattle.walsh.proofs.Cases.{on_less}
 use Rattle.walsh.proofs.Lists.{sum_to_mono}
 use Rattle.walsh.proofs.Complete.{composition_low, composition_high}

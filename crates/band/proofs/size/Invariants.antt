@@ -1,5 +1,4 @@
 -- `band::size` meets its contract.
-use Rattle.std.proofs.Common.{◌-◌}
 use Rattle.band.specs.Band.{Sizing}
 use Rattle.band.proofs.size.Given as goal
 

@@ -1,4 +1,4 @@
-use Rattle.std.proofs.Common.{◌∙◌, sym, ◌+◌, ◌%◌, ◌<◌, length, arith}
+use Rattle.std.proofs.Common.{sym, ◌+◌, ◌%◌, arith}
 use Rattle.request.proofs.Decimals.{decimal_small, decimal_more}
 use Rattle.lines.proofs.Appends.{one, joined, retold}
 use Rattle.lines.proofs.Lengths.{length_small, length_more}

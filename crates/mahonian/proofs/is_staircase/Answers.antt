@@ -1,5 +1,4 @@
 use mathlib.Core.Path.{refl, sym, ◌∙◌}
-use Prim.Native.Nat.{◌-◌}
 use native.Mathlib.Omega.{arith}
 use Rattle.mahonian.proofs.Staircase.{staircase_next, staircase_not, staircase_end}
 use Rattle.mahonian.proofs.is_staircase.Goals as goal

@@ -1,5 +1,4 @@
 -- `major::find_code` meets its contract. The rows over i are found.
-use Prim.Native.Nat.{◌-◌}
 use Rattle.major.proofs.Finding.{CodeFrom}
 use Rattle.major.proofs.find_code.Given as goal
 

@@ -1,5 +1,4 @@
 -- `permutation::fill_permutation` meets its contract. Place 0 and the places from i on are filled.
-use Prim.Native.Nat.{◌-◌}
 use Rattle.permutation.proofs.Entries.{FilledFrom}
 use Rattle.permutation.proofs.fill_permutation.Given as goal
 

@@ -1,7 +1,7 @@
 -- `permutation::lift_both` meets its contract. What the parts before place j are to lift is on the way to what all of them do.
 use mathlib.Core.Path.{◌≡◌}
 use lib.ListN.{length}
-use Prim.Native.Nat.{◌+◌, ◌-◌, ◌≤◌}
+use Prim.Native.Nat.{◌+◌, ◌≤◌}
 use Rattle.permutation.specs.Entries.{lifts}
 use Rattle.permutation.proofs.lift_both.Given as goal
 

@@ -1,5 +1,3 @@
-use mathlib.Core.Bool.{true}
-use Prim.Native.Nat.{◌-◌}
 use native.Mathlib.Omega.{arith}
 use Rattle.places.proofs.Turns.{within_turn, left_turn, other_over, other_sum, other_end}
 use Rattle.places.proofs.is_other.Goals as goal

@@ -1,5 +1,4 @@
 use mathlib.Core.Path.{refl, sym, ◌∙◌}
-use Prim.Native.Nat.{◌-◌}
 use native.Mathlib.Omega.{arith}
 use Rattle.request.proofs.Reading.{reading_none, read_out, read_empty, read_bad, read_grow, read_room, read_next, read_last}
 use Rattle.request.proofs.read_line.Goals as goal

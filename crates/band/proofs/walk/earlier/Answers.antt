@@ -1,4 +1,4 @@
-use Rattle.std.proofs.Common.{◌≡◌, ℕ, suc, ◌+◌, ◌-◌, ◌<◌, ◌≤◌, refl, ◌∙◌, lt_trans, arith}
+use Rattle.std.proofs.Common.{◌≡◌, ℕ, suc, ◌+◌, ◌<◌, ◌≤◌, refl, ◌∙◌, lt_trans, arith}
 use Rattle.walsh.specs.Sums.{sum}
 use Rattle.walsh.specs.Order.{least, most, is_odd, part_choices}
 use Rattle.walsh.specs.Rank.{part_index, block_size}

@@ -1,5 +1,4 @@
 -- `band::walk::place` meets its contract. The sum so far and the rank of the parts that are left make the rank.
-use Rattle.std.proofs.Common.{◌-◌}
 use Rattle.band.specs.Walk.{Placed}
 use Rattle.band.proofs.walk.place.Given as goal
 

@@ -1,5 +1,5 @@
 -- `band::walk::write` meets its contract. What is still to be found, with the parts stored so far behind it, is the composition.
-use Rattle.std.proofs.Common.{◌≡◌, ◌-◌, length}
+use Rattle.std.proofs.Common.{◌≡◌, length}
 use Rattle.band.specs.Walk.{Written}
 use Rattle.band.proofs.walk.write.Given as goal
 

@@ -1,4 +1,4 @@
-use Rattle.std.proofs.Common.{◌≡◌, ℕ, ◌+◌, ◌-◌, ◌<◌, ◌≤◌, min, List, length, get_or, refl, ◌∙◌, subst, le_trans, le_refl, le_of_lt, le_antisymm, arith}
+use Rattle.std.proofs.Common.{◌≡◌, ℕ, ◌+◌, ◌<◌, ◌≤◌, min, List, length, get_or, refl, ◌∙◌, subst, le_trans, le_refl, le_of_lt, le_antisymm, arith}
 use Rattle.walsh.proofs.Cases.{on_less, closer}
 use Rattle.walsh.specs.Sums.{sum_to}
 use Rattle.band.specs.Band.{lowest, highest, IsRow}

@@ -1,10 +1,9 @@
 -- `blocks::copies::block_of` meets its contract.
 use mathlib.Core.Path.{◌≡◌, refl, ap}
-use Prim.Native.Nat.{ℕ, ◌+◌, ◌-◌, ◌<◌}
+use Prim.Native.Nat.{ℕ, ◌+◌, ◌<◌}
 use native.Mathlib.Omega.{arith}
 use lib.ListN.{get_or}
 use Rattle.walsh.proofs.Cases.{on_test}
-use Rattle.blocks.specs.Blocks.{listed_at}
 use Rattle.blocks.proofs.copies.block_of.Goals as goal
 use Rattle.blocks.proofs.copies.block_of.Goals.{After-listed_at}
 

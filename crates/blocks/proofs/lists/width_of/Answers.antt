@@ -1,4 +1,4 @@
-use Prim.Native.Nat.{ℕ, ◌+◌, ◌-◌, ◌*◌, ◌≤◌}
+use Prim.Native.Nat.{ℕ, ◌+◌, ◌*◌, ◌≤◌}
 use native.Mathlib.Nat.{le_refl, mul-le-mul, mul-one}
 use native.Mathlib.Omega.{arith}
 use Rattle.blocks.proofs.lists.width_of.Goals as goal

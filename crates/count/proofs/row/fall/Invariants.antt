@@ -1,5 +1,5 @@
 -- `count::row::fall` meets its contract.
-use Prim.Native.Nat.{◌-◌, ◌≤◌, min}
+use Prim.Native.Nat.{◌≤◌, min}
 use Rattle.count.specs.Row.{Passed}
 use Rattle.count.proofs.row.fall.Given as goal
 

@@ -1,6 +1,6 @@
 -- `count::row::is_over` meets its contract.
 use mathlib.Core.Path.{sym, ◌∙◌}
-use mathlib.Core.Bool.{false, false≢true}
+use mathlib.Core.Bool.{false≢true}
 use borrow.Author.Tests.{ltb-true, ltb-false}
 use Rattle.band.proofs.Numbers.{lt_cap, no'}
 use Rattle.count.proofs.row.is_over.Goals as goal

@@ -8,7 +8,7 @@ use lib.Seq.{take_at, take_all, length-take-le}
 use borrow.Author.Rules.{rules}
 use borrow.Rule.Slice.PartMut.{same_len_mid}
 use Rattle.walsh.specs.Order.{Composition}
-use Rattle.walsh.specs.Serial.{serial_of, composition_of}
+use Rattle.walsh.specs.Serial.{composition_of}
 use Rattle.walsh.proofs.Serials.{composition_is, composition_serial, serial_pos}
 use Rattle.step.specs.Batch.{copies_of}
 use Rattle.step.specs.Run.{shown}

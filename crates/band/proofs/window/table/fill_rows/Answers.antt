@@ -1,4 +1,4 @@
-use Rattle.std.proofs.Common.{◌≡◌, ℕ, ◌-◌, ◌≤◌, length, refl, ◌∙◌, subst, le_refl, arith, length-set}
+use Rattle.std.proofs.Common.{◌≡◌, ℕ, ◌≤◌, length, refl, ◌∙◌, subst, le_refl, arith, length-set}
 use Rattle.band.proofs.Numbers.{stops, stops_not}
 use Rattle.band.proofs.Bands.{whole_band}
 use Rattle.band.proofs.Rows.{base_room, base_rows, row_first}
