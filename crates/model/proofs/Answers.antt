@@ -93,9 +93,9 @@ module _ (p : Printing) (l : List Entry) where
       inside = refusal_next (no_line p s) _ (rw (le-ltb s (lowest p) h) (le-ltb (size p) s k))
 
       -- the next one is accepted
-      pub placed-next : s ≡ next p l → placed p l s ≡ given p s
+      pub placed_next : s ≡ next p l → placed p l s ≡ given p s
       unfolding answer first_refusal
-      placed-next q =
+      placed_next q =
           let not-19 = refusal_next (above_next p l s) [] (le-ltb (next p l) s (omega arith)) in
           let not-18 = refusal_next (already_written p l s) (above_next p l s ∷ []) (le-ltb s (next p l) (omega arith)) in
           ap (λ (v : Refusal). by v s) (inside ∙ not-18 ∙ not-19)
@@ -104,9 +104,9 @@ module _ (p : Printing) (l : List Entry) where
       unfolding answer
       placed_below q = ap (λ (v : Refusal). by v s) (inside ∙ refusal_here (already_written p l s) _ (lt-ltb s (next p l) q))
 
-      pub placed-above : next p l < s → placed p l s ≡ refused_with 19 (next p l)
+      pub placed_above : next p l < s → placed p l s ≡ refused_with 19 (next p l)
       unfolding answer
-      placed-above q =
+      placed_above q =
           let not-18 = refusal_next (already_written p l s) (above_next p l s ∷ []) (le-ltb s (next p l) (omega arith)) in
           ap (λ (v : Refusal). by v s) (inside ∙ not-18 ∙ refusal_here (above_next p l s) [] (lt-ltb (next p l) s q))
 
@@ -124,9 +124,9 @@ module _ (p : Printing) (l : List Entry) where
       ordered : first_refusal (call_checks p l (claim s e)) ≡ first_refusal (place_checks p l s ++ (stands_earlier p l e ∷ []))
       ordered = refusal_later (order_checks e) _ refl n
 
-      pub claim-refused : (placed p l s).number ≢ 0 → answer p l (claim s e) ≡ placed p l s
+      pub claim_refused : (placed p l s).number ≢ 0 → answer p l (claim s e) ≡ placed p l s
       unfolding answer
-      claim-refused f =
+      claim_refused f =
           let number = answer_number (first_refusal (place_checks p l s)) p s in
           ap (λ (v : Refusal). by v s) (ordered ∙ refusal_first (place_checks p l s) (stands_earlier p l e ∷ []) (λ z. f (number ∙ z)))
 
@@ -138,14 +138,14 @@ module _ (p : Printing) (l : List Entry) where
         later : first_refusal (call_checks p l (claim s e)) ≡ first_refusal (stands_earlier p l e ∷ [])
         later = ordered ∙ refusal_later (place_checks p l s) (stands_earlier p l e ∷ []) refl zero_number
 
-        pub claim-again : first_place (same_order e) l < length l
+        pub claim_again : first_place (same_order e) l < length l
             → answer p l (claim s e) ≡ refused_with 20 (serial_at p (first_place (same_order e) l))
         unfolding answer
-        claim-again q =
+        claim_again q =
             ap (λ (v : Refusal). by v s) (later ∙ refusal_here (stands_earlier p l e) [] (lt-ltb (first_place (same_order e) l) (length l) q))
 
-        pub claim-good : length l ≤ first_place (same_order e) l → answer p l (claim s e) ≡ placed p l s
+        pub claim_good : length l ≤ first_place (same_order e) l → answer p l (claim s e) ≡ placed p l s
         unfolding answer first_refusal
-        claim-good q =
+        claim_good q =
             let none = refusal_next (stands_earlier p l e) [] (le-ltb (first_place (same_order e) l) (length l) q) in
             ap (λ (v : Refusal). by v s) (later ∙ none) ∙ sym (by_acceptance (first_refusal (place_checks p l s)) _ _ zero_number)

@@ -23,7 +23,7 @@ use Rattle.model.specs.Model.{claim, claim_all, next, bad_bundle, order_checks, 
 use Rattle.model.specs.Model.{accepted, after, book_from}
 use Rattle.model.specs.Bundle.{takes, first_failed, AsTakes}
 use Rattle.model.proofs.Lists.{snoc_append}
-use Rattle.model.proofs.Answers.{answer_number, placed-next, claim-good}
+use Rattle.model.proofs.Answers.{answer_number, placed_next, claim_good}
 use Rattle.model.proofs.Calls.{number_of_lem, claim_turn, takes_split, takes_next, takes_refused}
 
 module _ (p : Printing) (l : List Entry) (s : ℕ) (b : Lent) where
@@ -159,10 +159,10 @@ module _ (p : Printing) where
         → Accepts (take_at k)
     good_take k h e inside good new =
         let t = turn_at k (omega arith) e in
-        let there = placed-next p (lines_after k) (s + k) (omega arith) inside t in
+        let there = placed_next p (lines_after k) (s + k) (omega arith) inside t in
         let z = ap (λ (a : Answer). a.number) there in
         sym (number_of_lem p (lines_after k) (claim (s + k) (order_at k)))
-        ∙ ap (λ (a : Answer). a.number) (claim-good p (lines_after k) (s + k) (order_at k) good z new ∙ there)
+        ∙ ap (λ (a : Answer). a.number) (claim_good p (lines_after k) (s + k) (order_at k) good z new ∙ there)
 
   module _ (l : List Entry) (s : ℕ) (b : Lent) (small : (bad_bundle b).holds ≡ false) where
     abbrev es : List Entry

@@ -21,8 +21,8 @@ use Rattle.model.specs.Reason.{GoodOrder, OrderReason, no_order_given, wrong_dig
 use Rattle.model.specs.Reason.{none_left, shown, outside, written, above, bad_order, stands, claimed, voided}
 use Rattle.model.proofs.Orders.{place_at, place_lowest, place_none}
 use Rattle.model.proofs.Answers.{order_none, order_mistyped, order_bad, order_good, peek_open, peek_closed}
-use Rattle.model.proofs.Answers.{placed, placed_low, placed_high, placed_below, placed-above, placed-next}
-use Rattle.model.proofs.Answers.{claim_none, claim-refused, claim-again, claim-good}
+use Rattle.model.proofs.Answers.{placed, placed_low, placed_high, placed_below, placed_above, placed_next}
+use Rattle.model.proofs.Answers.{claim_none, claim_refused, claim_again, claim_good}
 
 -- ---- an order by itself: its checks refuse it for a reason, or it is good
 
@@ -143,7 +143,7 @@ module _ (p : Printing) (past : List Event) (turn : serials (writers p past) ≡
       (λ j v.
       on_less (next p l) s
       (λ i w.
-      let e = placed-above p l s h k i in
+      let e = placed_above p l s h k i in
       refuses_by s 19 (next p l) (omega arith) e (above (omega (arith, next_is)) k (e ∙ ap (refused_with 19) next_is)))
       (λ i w. accepts h (omega arith) k))))
 
@@ -158,7 +158,7 @@ module _ (p : Printing) (past : List Event) (turn : serials (writers p past) ≡
     where
       go : Turn s → VoidReason p past s (answer p l (void s))
       go (Turn.refuses n why) = VoidReason.not_next why
-      go (Turn.accepts h e k) = voided (e ∙ next_is) k (placed-next p l s h k e)
+      go (Turn.accepts h e k) = voided (e ∙ next_is) k (placed_next p l s h k e)
 
   claim_reason : (s : ℕ) (e : Entry) → ClaimReason p past s e (answer p l (claim s e))
   claim_reason s e = go (named_of e) (turn_of_lem s)
@@ -189,13 +189,13 @@ module _ (p : Printing) (past : List Event) (turn : serials (writers p past) ≡
 
       go : Named e → Turn s → ClaimReason p past s e (answer p l (claim s e))
       go (Named.refuses n d some q why) t = bad_order (rw (claim_none p l s e n d some q) why)
-      go (Named.accepts n) (Turn.refuses f why) = ClaimReason.not_next n (rw (claim-refused p l s e (order_good e n) f) why)
+      go (Named.accepts n) (Turn.refuses f why) = ClaimReason.not_next n (rw (claim_refused p l s e (order_good e n) f) why)
       go (Named.accepts n) (Turn.accepts h q k) =
-          let good = placed-next p l s h k q in
+          let good = placed_next p l s h k q in
           let z = ap (λ (a : Answer). a.number) good in
           on_less (first_place (same_order e) l) (length l)
-          (λ j t. again n q k j (claim-again p l s e (order_good e n) z j))
-          (λ j t. new n q k j (claim-good p l s e (order_good e n) z j ∙ good))
+          (λ j t. again n q k j (claim_again p l s e (order_good e n) z j))
+          (λ j t. new n q k j (claim_good p l s e (order_good e n) z j ∙ good))
 
   -- ---- no other answer has a reason
 
@@ -219,7 +219,7 @@ module _ (p : Printing) (past : List Event) (turn : serials (writers p past) ≡
         let line = ap (λ (i : ℕ). get_or l i void_entry) back ∙ j.1.line in
         by_refusal s 18 (order_of (entry_of x.call)) a (omega arith) (below ∙ ap (λ (d : Entry). refused_with 18 (order_of d)) line) is
     serial_refuses s a (above k h is) =
-        let e = placed-above p l s (omega arith) h (omega (arith, next_is)) in
+        let e = placed_above p l s (omega arith) h (omega (arith, next_is)) in
         by_refusal s 19 (next_serial p past) a (omega arith) (e ∙ ap (refused_with 19) next_is) is
 
     peek_decides : (a : Answer) → PeekReason p past a → a ≡ answer p l peek
@@ -227,7 +227,7 @@ module _ (p : Printing) (past : List Event) (turn : serials (writers p past) ≡
     peek_decides a (shown h is) = is ∙ sym (peek_open p l (omega (arith, next_is)) ∙ ap (given p) next_is)
 
     next_decides : (s : ℕ) → s ≡ next_serial p past → s ≤ size p → placed p l s ≡ given p s
-    next_decides s e h = placed-next p l s (omega arith) h (e ∙ sym next_is)
+    next_decides s e h = placed_next p l s (omega arith) h (e ∙ sym next_is)
 
     void_decides : (s : ℕ) (a : Answer) → VoidReason p past s a → a ≡ answer p l (void s)
     void_decides s a (VoidReason.not_next why) = (serial_refuses s a why).answers
@@ -236,7 +236,7 @@ module _ (p : Printing) (past : List Event) (turn : serials (writers p past) ≡
     claim_decides : (s : ℕ) (e : Entry) (a : Answer) → ClaimReason p past s e a → a ≡ answer p l (claim s e)
     claim_decides s e a (bad_order why) = let v = order_refuses e a why in v.is ∙ sym (claim_none p l s e v.number v.detail v.some v.checked)
     claim_decides s e a (ClaimReason.not_next n why) =
-        let v = serial_refuses s a why in v.answers ∙ sym (claim-refused p l s e (order_good e n) v.some)
+        let v = serial_refuses s a why in v.answers ∙ sym (claim_refused p l s e (order_good e n) v.some)
     claim_decides s e a (stands n q h x m is low r) =
         let good = next_decides s q h in
         let j = place_of_lem (writers p past) x m in
@@ -246,12 +246,12 @@ module _ (p : Printing) (past : List Event) (turn : serials (writers p past) ≡
         let first = low c.0 c.1.among (sym c.1.line ∙ place_at e l inside) in
         let same : serial_at p (first_place (same_order e) l) ≡ named x.call =
         omega (arith, first, serial_at_lem (first_place (same_order e) l) c.0 c.1, serial_at_lem j.0 x j.1) in
-        r ∙ ap (refused_with 20) (sym same) ∙ sym (claim-again p l s e (order_good e n) (ap (λ (b : Answer). b.number) good) inside)
+        r ∙ ap (refused_with 20) (sym same) ∙ sym (claim_again p l s e (order_good e n) (ap (λ (b : Answer). b.number) good) inside)
     claim_decides s e a (claimed n q h new is) =
         let good = next_decides s q h in
         let none = place_none e l
         (λ i k r. let c = call_at (writers p past) i (omega (arith, lines)) in new c.0 c.1.among (sym c.1.line ∙ r)) in
-        is ∙ sym (claim-good p l s e (order_good e n) (ap (λ (b : Answer). b.number) good) none ∙ good)
+        is ∙ sym (claim_good p l s e (order_good e n) (ap (λ (b : Answer). b.number) good) none ∙ good)
 
     -- ---- together
 

@@ -13,7 +13,7 @@ use Rattle.model.specs.Printing.{Printing, size, lowest, place_of, serial_at}
 use Rattle.model.specs.Model.{Call, peek, next, given, refused_with, appended}
 use Rattle.model.specs.Record.{printing_of, written, consistent, answered, granted_by, entered}
 use Rattle.model.proofs.Entries.{entry_order}
-use Rattle.model.proofs.Answers.{peek_open, peek_closed, placed, placed_low, placed_high, placed_below, placed-above, placed-next}
+use Rattle.model.proofs.Answers.{peek_open, peek_closed, placed, placed_low, placed_high, placed_below, placed_above, placed_next}
 use Rattle.model.proofs.Calls.{Reached, grant}
 use Rattle.model.proofs.Records.{parts, answered_16, answered_by}
 
@@ -55,11 +55,11 @@ module _ (r : Ledger) (col : Lent) (t : consistent r col ≡ true) where
           ∙ ap (refused_with 18) (entry_order r.entries col (place_of p s) (omega arith) (omega (arith, q.fits, q.entries)))
 
       pub serial_above : serial_at p r.entries < s → placed p (written r col) s ≡ refused_with 19 (serial_at p r.entries)
-      serial_above b = placed-above p (written r col) s h k (omega (arith, own_next)) ∙ ap (refused_with 19) own_next
+      serial_above b = placed_above p (written r col) s h k (omega (arith, own_next)) ∙ ap (refused_with 19) own_next
 
       pub serial_next : s ≡ serial_at p r.entries → placed p (written r col) s ≡ accepts
       serial_next e =
-          placed-next p (written r col) s h k (omega (arith, own_next)) ∙ ap (given p) e ∙ own (omega arith)
+          placed_next p (written r col) s h k (omega (arith, own_next)) ∙ ap (given p) e ∙ own (omega arith)
 
 -- ---- an accepted call
 

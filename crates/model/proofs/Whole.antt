@@ -27,7 +27,7 @@ use Rattle.model.specs.Whole.{ran, book, second_list, Whole}
 use Rattle.model.proofs.Entries.{room_entries, entries_over}
 use Rattle.model.proofs.Stock.{stock_size, stock_distinct, stock_near, stock_place, place_stock}
 use Rattle.model.proofs.Opening.{Opens, opens, opening_accepted}
-use Rattle.model.proofs.Answers.{order_good, placed, placed-next, claim-good}
+use Rattle.model.proofs.Answers.{order_good, placed, placed_next, claim_good}
 use Rattle.model.proofs.Calls.{size_good, Reached, reached_none, after_reached, accepting, not_16, peek_21, already_written_lem}
 use Rattle.model.proofs.Orders.{place_none, distinct_none, distinct_at}
 use Rattle.model.proofs.Bundles.{good_take, all_taken}
@@ -112,7 +112,7 @@ module _ (p : Printing) (cs : List Call) (before rest : List Event) (x : Event)
 -- the next call after the lines m
 module _ (p : Printing) (col : Lent) (o : Opens p col) (m : List Entry) (h : Reached p m) (left : length m < capacity p) where
   placed_there : placed p m (next p m) ≡ given p (next p m)
-  placed_there = placed-next p m (next p m) (omega arith) (omega arith) refl
+  placed_there = placed_next p m (next p m) (omega arith) (omega arith) refl
 
   next_void : answered (ledger_of p m) (over col m) (void (next p m)) ≡ given p (next p m)
   next_void = answers p col o m h (void (next p m)) ∙ placed_there
@@ -121,7 +121,7 @@ module _ (p : Printing) (col : Lent) (o : Opens p col) (m : List Entry) (h : Rea
       → answered (ledger_of p m) (over col m) (claim (next p m) e) ≡ given p (next p m)
   next_claim e good new =
       answers p col o m h (claim (next p m) e)
-      ∙ claim-good p m (next p m) e (order_good e good) (ap (λ (a : Answer). a.number) placed_there) (place_none e m new)
+      ∙ claim_good p m (next p m) e (order_good e good) (ap (λ (a : Answer). a.number) placed_there) (place_none e m new)
       ∙ placed_there
 
   next_claim_all : (b : Lent) → Paired b → room b ≢ 0 → room b ≤ 40 → length m + room b ≤ capacity p

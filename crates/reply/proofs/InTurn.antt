@@ -13,7 +13,7 @@ use Rattle.model.specs.Entry.{Entry, void_entry, Lent, entries_in}
 use Rattle.model.specs.Printing.{Printing, size, serial_at}
 use Rattle.model.specs.Model.{Call, bad_bundle, order_checks, refused_with, answer}
 use Rattle.model.specs.declared.Answer.{Answer}
-use Rattle.model.proofs.Answers.{placed, placed_high, placed-next, claim_none, claim-refused, claim-again}
+use Rattle.model.proofs.Answers.{placed, placed_high, placed_next, claim_none, claim_refused, claim_again}
 use Rattle.model.proofs.Calls.{InTurn, in_turn, accepting}
 use Rattle.model.proofs.Bundles.{order_at, lines_after, Before, lines_at, turn_at, good_take, all_taken, fails_at, fails_first}
 use Rattle.integrity.specs.Again.{first_again, place_again}
@@ -37,7 +37,7 @@ module _ (p : Printing) (l : List Entry) (s : ℕ) (b : Lent) (small : (bad_bund
 
     pub first_misplaced : Accepts (order_checks (get_or es 0 void_entry)) → (placed p l s).number ≢ 0 → whole ≡ placed p l s
     first_misplaced n f =
-        let e = claim-refused p l s (get_or es 0 void_entry) n f in
+        let e = claim_refused p l s (get_or es 0 void_entry) n f in
         fails_first p l s b small some (rw e f) ∙ e
 
   -- ---- in turn
@@ -81,7 +81,7 @@ module _ (p : Printing) (l : List Entry) (s : ℕ) (b : Lent) (small : (bad_bund
         pub none_left : size p < s + k → whole ≡ refused_with 6 0
         none_left m =
             let high = placed_high p lines (s + k) m in
-            by_take 6 0 (omega arith) (claim-refused p lines (s + k) e good (rw high (omega arith)) ∙ high)
+            by_take 6 0 (omega arith) (claim_refused p lines (s + k) e good (rw high (omega arith)) ∙ high)
 
         -- the line that an order stands in is one before it
         pub line_before : k ≡ first_again l es → place_again l es < length l + k
@@ -92,8 +92,8 @@ module _ (p : Printing) (l : List Entry) (s : ℕ) (b : Lent) (small : (bad_bund
         pub stands : s + k ≤ size p → k ≡ first_again l es → whole ≡ refused_with 20 (serial_at p (place_again l es))
         stands m q =
             let turn = turn_at p l s es k h.most accepted_place.serial in
-            let there = placed-next p lines (s + k) (omega (arith, turn)) m turn in
+            let there = placed_next p lines (s + k) (omega (arith, turn)) m turn in
             let found = rw (← q) at (again_here l es (omega (arith, i, q))) in
             by_take 20 _ (omega arith)
-            (claim-again p lines (s + k) e good (ap (λ (a : Answer). a.number) there) (rw found.0 at found.1)
+            (claim_again p lines (s + k) e good (ap (λ (a : Answer). a.number) there) (rw found.0 at found.1)
             ∙ ap (λ (n : ℕ). refused_with 20 (serial_at p n)) (sym found.0))

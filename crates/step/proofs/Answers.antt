@@ -58,10 +58,10 @@ module _ (back : Bool) (ms : List ℕ) (r : ℕ) (g : List ℕ) where
       table e = answer_later (edition_checks ms r) (given ++ ends) ee refl ez (answer_later given ends ev refl vz e)
 
       -- not at the end
-      pub step-goes : eqb (serial_of ms r g) (cond back 1 (count_of ms r)) ≡ false
+      pub step_goes : eqb (serial_of ms r g) (cond back 1 (count_of ms r)) ≡ false
           → stepped_by (refused 0 0) g (composition_of ms r (next_serial back (serial_of ms r g))) ≡ step_of back ms r g
       unfolding step_of first_refusal
-      step-goes on =
+      step_goes on =
           let none : refused 0 0 ≡ first_refusal (edition_checks ms r ++ (given ++ ends)) = table (sym (refusal_next _ [] on)) in
           rw (← none)
 
@@ -74,11 +74,11 @@ module _ (back : Bool) (ms : List ℕ) (r : ℕ) (g : List ℕ) where
           ne_eqb (gain_from 1 g (composition_of ms r (next_serial back (serial_of ms r g)))) 0 (λ e. omega arith)
 
       gone : {h : List ℕ} → AtPivot ms (cond back (r + 1) r) g h ⊎ AtEnd ms (cond back (r + 1) r) g h → shifted_by g h ≡ step_of back ms r g
-      gone {h} (inl t) = let on = way_on ms r g valid back h t in rw (on.1, gains on.0) (step-goes on.0)
+      gone {h} (inl t) = let on = way_on ms r g valid back h t in rw (on.1, gains on.0) (step_goes on.0)
       gone {h} (inr t) =
           rw (t.1, gain_same 1 g)
           (refused_by (refused 9 0) (table (sym (refusal_here _ [] (way_off ms r g valid back h t)))) (λ z. omega arith))
 
       -- the step itself
-      pub step-shifted : (w : ℕ) → w ≡ cond back (r + 1) r → shifted_by g (turn_of ms w g) ≡ step_of back ms r g
-      step-shifted w e = rw e (gone (turned ms (cond back (r + 1) r) g (moving ms r g valid _ (way_reached back r _ refl))))
+      pub step_shifted : (w : ℕ) → w ≡ cond back (r + 1) r → shifted_by g (turn_of ms w g) ≡ step_of back ms r g
+      step_shifted w e = rw e (gone (turned ms (cond back (r + 1) r) g (moving ms r g valid _ (way_reached back r _ refl))))

@@ -21,7 +21,7 @@ use Rattle.bounds.proofs.Chains.{Accepts, accepts_split}
 use Rattle.bounds.proofs.Compositions.{composition_passed, composition_passes}
 use Rattle.step.specs.Steps.{end_checks, next_serial, stepped_by, step_of, successor_of, predecessor_of, pair_of, back_from}
 use Rattle.step.specs.declared.Stepped.{Stepped}
-use Rattle.step.proofs.Answers.{step-goes}
+use Rattle.step.proofs.Answers.{step_goes}
 use Rattle.step.proofs.Ways.{to_inside, to_on, to_back, to_carries}
 use Rattle.step.proofs.Cells.{cells_front}
 
@@ -81,7 +81,7 @@ module _ (back : Bool) (ms : List ℕ) (r : ℕ) (g : List ℕ) (ok : (step_of b
       let pos = serial_pos ms r g at.valid in
       let le = serial_le ms r g at.valid in
       rw answer_is
-      (sym (step-goes (not back) ms r h (first_refusal (edition_checks ms r)) refl at.edition (refused 0 0)
+      (sym (step_goes (not back) ms r h (first_refusal (edition_checks ms r)) refl at.edition (refused 0 0)
       (sym (composition_passes ms r h valid)) refl (rw serial (to_on ms r (s back ms r g) pos le back)))
       ∙ rw (serial, to_back ms r (s back ms r g) pos le back, composition_serial ms r g at.valid, at.is))
 

@@ -39,7 +39,7 @@ module _ (c : Else-taken-ne0) where
 -- the entries to be written are of a column of a length, and few
 record Inside (entries lines orders items : ℕ) : Type 0 where
   pub fits : entries + lines ≤ orders
-  pub fits-items : entries + lines ≤ items
+  pub fits_items : entries + lines ≤ items
   pub few : entries + lines ≤ 1000000
 
 inside : (c : Else-taken-ne0)
@@ -51,7 +51,7 @@ inside c =
     let n = long c in
     record {
       fits = omega (arith, w.all_inside, p.fits, n);
-      fits-items = omega (arith, w.all_inside, p.fits, n);
+      fits_items = omega (arith, w.all_inside, p.fits, n);
       few = omega (arith, w.all_inside, p.small, n);
     }
 

@@ -12,7 +12,7 @@ use Rattle.model.specs.Entry.{entry, same_order, columns}
 use Rattle.model.specs.Model.{order_checks, refused_with}
 use Rattle.model.specs.Record.{consistent, written}
 use Rattle.model.proofs.Records.{parts, answered_16, answered_by}
-use Rattle.model.proofs.Answers.{claim_none, claim-refused, claim-again, claim-good}
+use Rattle.model.proofs.Answers.{claim_none, claim_refused, claim_again, claim_good}
 use Rattle.integrity.proofs.Checks.{found_fits, found_count, found_place}
 use Rattle.reply.proofs.claim.Goals as goal
 use Rattle.reply.proofs.claim.Goals.{Else-bad-ne0, Else-not-found, Else-placed-ne0}
@@ -44,7 +44,7 @@ returns-then-placed-ne0 c =
     let p = c.place-placed.ensures in
     p
     ∙ sym (answered_by _ _ _ (fits (goal.at.returns-then-placed-ne0 e).Else-not-found)
-    ∙ claim-refused _ _ _ _ (ordered (goal.at.returns-then-placed-ne0 e).Else-bad-ne0) (λ z. c.if-placed-ne0.true (ap (λ (x : Answer). x.number) p ∙ z)))
+    ∙ claim_refused _ _ _ _ (ordered (goal.at.returns-then-placed-ne0 e).Else-bad-ne0) (λ z. c.if-placed-ne0.true (ap (λ (x : Answer). x.number) p ∙ z)))
 
 -- where the order stands
 place : (c : Else-placed-ne0)
@@ -64,7 +64,7 @@ returns-then-found-ledger c =
     c.refused-then-found-ledger.ensures
     ∙ ap (λ (k : ℕ). refused_with 20 (k + 1)) (place (goal.at.returns-then-found-ledger n).Else-placed-ne0)
     ∙ sym (answered_by _ _ _ (fits (goal.at.returns-then-found-ledger e).Else-not-found)
-    ∙ claim-again _ _ _ _ (ordered (goal.at.returns-then-found-ledger e).Else-bad-ne0) (ap (λ (x : Answer). x.number) (sym p) ∙ n.if-placed-ne0.false) (omega (arith, t.if-found-ledger.true, place (goal.at.returns-then-found-ledger n).Else-placed-ne0, w)))
+    ∙ claim_again _ _ _ _ (ordered (goal.at.returns-then-found-ledger e).Else-bad-ne0) (ap (λ (x : Answer). x.number) (sym p) ∙ n.if-placed-ne0.false) (omega (arith, t.if-found-ledger.true, place (goal.at.returns-then-found-ledger n).Else-placed-ne0, w)))
 
 pub returns : goal.returns
 returns c =
@@ -74,4 +74,4 @@ returns c =
     let w = (parts _ _ (fits (goal.at.returns e).Else-not-found)).length_written in
     p
     ∙ sym (answered_by _ _ _ (fits (goal.at.returns e).Else-not-found)
-    ∙ claim-good _ _ _ _ (ordered (goal.at.returns e).Else-bad-ne0) (ap (λ (x : Answer). x.number) (sym p) ∙ n.if-placed-ne0.false) (omega (arith, c.if-found-ledger.false, place (goal.at.returns n).Else-placed-ne0, w)))
+    ∙ claim_good _ _ _ _ (ordered (goal.at.returns e).Else-bad-ne0) (ap (λ (x : Answer). x.number) (sym p) ∙ n.if-placed-ne0.false) (omega (arith, c.if-found-ledger.false, place (goal.at.returns n).Else-placed-ne0, w)))

@@ -5,7 +5,7 @@ use Rattle.walsh.specs.Order.{Composition}
 use Rattle.bounds.specs.declared.Refusal.{Refusal}
 use Rattle.bounds.proofs.Editions.{Shapely}
 use Rattle.bounds.proofs.Editions.{edition_shapely}
-use Rattle.step.proofs.Answers.{step_edition, step_given, step-shifted, valid}
+use Rattle.step.proofs.Answers.{step_edition, step_given, step_shifted, valid}
 use Rattle.step.proofs.step.Goals as goal
 use Rattle.step.proofs.step.Goals.{Else-given-gt0, Else-limits-gt0}
 
@@ -48,4 +48,4 @@ returns c =
     let e = given.bounds_refusal-limits in
     let w = c.side in
     c.shift.ensures
-    ∙ step-shifted _ _ _ _ e.result e.ensures (omega arith) g.result g.ensures (omega arith) w.result w.ensures.0
+    ∙ step_shifted _ _ _ _ e.result e.ensures (omega arith) g.result g.ensures (omega arith) w.result w.ensures.0
