@@ -88,7 +88,7 @@ copied_items c =
     let e = c in
     let a = e.args in
     copied_same a.itemlines.now _
-    (part_size a.items.now a.ledger.entries (length a.bundle.now) (inside (goal.at.After-copy e).Else-taken-ne0).fits-items ∙ sym (even (goal.at.After-copy e).Else-taken-ne0))
+    (part_size a.items.now a.ledger.entries (length a.bundle.now) (inside (goal.at.After-copy e).Else-taken-ne0).fits_items ∙ sym (even (goal.at.After-copy e).Else-taken-ne0))
 
 -- both columns, with the lines of the bundle
 both_laid : (os is os' is' : List ℕ) (at : ℕ) (b : Lent) → length b.items ≡ length b.orders
@@ -105,7 +105,7 @@ returns c =
     let a = e.args in
     let i = inside (goal.at.returns e).Else-taken-ne0 in
     let os = laid a.orders.now a.bundle.now _ a.ledger.entries _ refl i.fits c.lay.ensures in
-    let is = laid a.items.now a.itemlines.now _ a.ledger.entries _ (sym (even (goal.at.returns e).Else-taken-ne0)) i.fits-items
+    let is = laid a.items.now a.itemlines.now _ a.ledger.entries _ (sym (even (goal.at.returns e).Else-taken-ne0)) i.fits_items
     (c.copy.ensures ∙ copied_items (goal.at.returns c).After-copy) in
     let more = ap (λ (n : ℕ). counting a.ledger n (a.ledger.sold + n) a.ledger.voided) (sym (long (goal.at.returns e).Else-taken-ne0)) in
     rw c.counted.ensures
@@ -123,10 +123,10 @@ pub slice_bounds-lay-end : goal.slice_bounds-lay-end
 slice_bounds-lay-end c = (inside (goal.at.slice_bounds-lay-end c).Else-taken-ne0).fits
 
 pub slice_bounds-copy-start : goal.slice_bounds-copy-start
-slice_bounds-copy-start c = omega (arith, (inside (goal.at.slice_bounds-copy-start c).Else-taken-ne0).fits-items)
+slice_bounds-copy-start c = omega (arith, (inside (goal.at.slice_bounds-copy-start c).Else-taken-ne0).fits_items)
 
 pub slice_bounds-copy-end : goal.slice_bounds-copy-end
-slice_bounds-copy-end c = (inside (goal.at.slice_bounds-copy-end c).Else-taken-ne0).fits-items
+slice_bounds-copy-end c = (inside (goal.at.slice_bounds-copy-end c).Else-taken-ne0).fits_items
 
 pub overflow_add-ledger : goal.overflow_add-ledger
 overflow_add-ledger c =
