@@ -2,10 +2,10 @@
 """scripts/build in a small repository, with a kit that only pretends: what it says with and without a terminal, when it builds, several at once."""
 import os
 import pty
-import re
 import shutil
 import subprocess
 import tempfile
+import time
 import unittest
 
 import report
@@ -78,6 +78,7 @@ class Building(unittest.TestCase):
 
     def test_with_a_terminal(self):
         ours, theirs = pty.openpty()
+        time.sleep(1 - time.time() % 1)  # the shell counts seconds by the clock's: both lines that say 0 come within one
         process = self.start("list", theirs)
         os.close(theirs)
         said = b""
@@ -89,8 +90,8 @@ class Building(unittest.TestCase):
         os.close(ours)
         process.communicate()
         moves = said.decode().split("\r\033[K")
-        for part in "proving 1 of 3: base", "proving 2 of 3: middle", "proving 3 of 3: list":
-            self.assertTrue(any(re.match(part + r" \(\d+ s\)", move) for move in moves), moves)
+        for part in "proving 1 of 3: base (0 s)", "proving 2 of 3: middle (0 s)", "proving 3 of 3: list":
+            self.assertTrue(any(move.startswith(part) for move in moves), moves)
         self.assertRegex(moves[-1], r"\Ahuztiral: target/bin/list is proved and built \(3 crates, \d+ s\)\r\n\Z")
         self.assertEqual(said.count(b"\n"), 1)
 
