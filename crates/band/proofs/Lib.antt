@@ -1,5 +1,4 @@
 pub mod Numbers
-pub mod Answers
 pub mod Bands
 pub mod Slides
 pub mod Stretches

@@ -1,5 +1,5 @@
 -- Laws of the code's numbers of a row, and of the cells stored so far.
-use Rattle.std.proofs.Common.{◌≡◌, ℕ, suc, ◌+◌, ◌-◌, ◌*◌, ◌<◌, ◌≤◌, min, List, length, get_or, set, sym, ap, ◌∙◌, subst, le_refl, le_of_lt, add_comm, add-one, arith, get_or-set_other, get_or-set_same}
+use Rattle.std.proofs.Common.{◌≡◌, ℕ, suc, ◌+◌, ◌-◌, ◌*◌, ◌<◌, ◌≤◌, min, List, length, get_or, set, sym, ap, ◌∙◌, subst, le_of_lt, add-one, arith, get_or-set_other, get_or-set_same}
 use native.Mathlib.Nat.{min-le_left}
 use Rattle.walsh.specs.Sums.{sum_to}
 use Rattle.walsh.specs.Order.{count}
@@ -27,51 +27,15 @@ module _ (ms : List ℕ) (r k : ℕ) (reach : r ≤ whole ms) (k_lt : k < length
     pub row_ends : (row.low ≤ row.high) × (row.high ≤ r)
     row_ends = (rw (i.low, i.high) row_low, rw i.high (omega arith))
 
-    row_width_lem : row.high + 1 - row.low ≡ width ms r k
-    row_width_lem = rw (i.high, i.low, add-one)
-
     pub row_fits : row.left + get_or ms k 0 ≤ row.all
     row_fits = rw (i.left, i.all) part_fits
 
     pub row_small : r ≤ 255 → row.start ≤ 256 * k
     row_small s = rw i.start (start_small ms r s k)
 
-    pub row_up : (to : Row) (m : ℕ) → m ≡ get_or ms k 0 → to.start ≡ row.start + (row.high + 1 - row.low) → to.left ≡ row.left + m
-        → to.all ≡ row.all
-        → to.low ≡ r - (row.all - (row.left + m)) → to.high ≡ min r (row.left + m) → IsRow ms r (k + 1) to
-    row_up to m em e1 e2 e3 e4 e5 =
-        rw add-one
-        (record {
-          start = e1 ∙ rw (i.start, row_width_lem);
-          left = e2 ∙ rw (i.left, em);
-          all = e3 ∙ i.all;
-          low = e4 ∙ rw (i.all, i.left, em);
-          high = e5 ∙ rw (i.left, em);
-        })
-
   module _ (row : Row) (i : IsRow ms r (k + 1) row) where
     pub down_left : row.left ≡ sum_to ms k + get_or ms k 0
     down_left = i.left ∙ sum_to_step ms k
-
-    pub down_row : (to : Row) (m : ℕ) → m ≡ get_or ms k 0 → to.left ≡ row.left - m → to.all ≡ row.all
-        → to.low ≡ r - (row.all - (row.left - m)) → to.high ≡ min r (row.left - m)
-        → (to.left ≡ sum_to ms k) × (to.all ≡ whole ms) × (to.low ≡ lowest ms r k) × (to.high ≡ highest ms r k) × (to.low ≤ to.high)
-        × (to.high ≤ r)
-        × (to.high + 1 - to.low + row_start ms r k ≡ row.start)
-    down_row to m em e2 e3 e4 e5 =
-        let el : row.left - m ≡ sum_to ms k = rw (down_left, em) (back (sum_to ms k) (get_or ms k 0)) in
-        let elo : to.low ≡ lowest ms r k = e4 ∙ rw (el, i.all) in
-        let ehi : to.high ≡ highest ms r k = e5 ∙ rw el in
-        let ew : to.high + 1 - to.low ≡ width ms r k = rw (ehi, elo, add-one) in (
-          e2 ∙ el,
-          e3 ∙ i.all,
-          elo,
-          ehi,
-          rw (elo, ehi) row_low,
-          rw ehi (min-le_left r (sum_to ms k)),
-          rw (ew, i.start, add-one)
-              (add_comm (width ms r k) (row_start ms r k)),
-        )
 
 module _ (ms : List ℕ) (r k t : ℕ) (row : Row) (i : IsRow ms r k row) (b : InBand ms r k t) where
   pub at_low : row.low ≤ t
@@ -85,9 +49,6 @@ module _ (ms : List ℕ) (r k t : ℕ) (row : Row) (i : IsRow ms r k row) (b : I
 
 pub low_le : (ms : List ℕ) (r k : ℕ) (row : Row) → IsRow ms r k row → row.low ≤ r
 low_le ms r k row i = rw i.low (omega arith)
-
-pub row_none : (ms : List ℕ) (r k : ℕ) (table : List ℕ) (row : Row) → IsRow ms r k row → RowHolds ms r table k row.low
-row_none ms r k table row i t b h = absurd (omega (arith, at_low ms r k t row i b, h))
 
 pub row_first : (ms : List ℕ) (r : ℕ) → r ≤ whole ms → (row : Row) (all : ℕ) → all ≡ whole ms → row.start ≡ 0 → row.left ≡ 0 → row.all ≡ all
     → row.low ≡ r - (all - 0) → row.high ≡ min r 0 → IsRow ms r 0 row
@@ -148,12 +109,6 @@ base_rows ms r table reach room j l t b h =
     let p = first_place_lem ms r t reach b' in
     rw (z, p.1, p.0, count_zero ms) (get_or-set_same table 0 1 0 (base_room ms r table reach room), omega arith)
 
--- the cells counted from the last part down: the last row has one
-pub sizing_starts : (ms : List ℕ) (r : ℕ) → r ≤ whole ms → (all : ℕ) → all ≡ whole ms → Sizing ms r (length ms) all 1
-sizing_starts ms r reach all e =
-    let one : width ms r (length ms) ≡ 1 = omega arith in
-    record { few = le_refl _; left = e; size = rw one (add_comm 1 (row_start ms r (length ms))) }
-
 -- the bound of the part before k comes off, and its row is counted
 module _ (ms : List ℕ) (r : ℕ) (reach : r ≤ whole ms) (k left size : ℕ) (sizing : Sizing ms r k left size) (some : 0 < k) where
   pub sizing_inside : k - 1 < length ms
@@ -179,12 +134,6 @@ module _ (ms : List ℕ) (r : ℕ) (reach : r ≤ whole ms) (k left size : ℕ) 
     where
       joined : (s b : ℕ) {w v : ℕ} → w ≡ v → s + w + b ≡ s + (b + v)
       joined s b e = omega arith
-
-pub sizing_done : (ms : List ℕ) (r k left size : ℕ) → Sizing ms r k left size → k ≡ 0 → size ≡ band_size ms r
-sizing_done ms r k left size sizing e = let none : row_start ms r k ≡ 0 = rw e in sym (rest size none) ∙ sizing.size
-  where
-    rest : (s : ℕ) {b : ℕ} → b ≡ 0 → s + b ≡ s
-    rest s e = omega arith
 
 pub size_small : (ms : List ℕ) (r : ℕ) → r ≤ whole ms → r ≤ 255 → length ms ≤ 24 → band_size ms r ≤ 6145
 size_small ms r reach s few =

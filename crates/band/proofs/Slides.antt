@@ -7,9 +7,8 @@ use Rattle.walsh.proofs.Listing.{count_none}
 use Rattle.walsh.proofs.Peel.{sum_stop}
 use Rattle.walsh.proofs.Window.{sum_at, sum_step, count_window}
 use Rattle.bounds.specs.Edition.{whole}
-use Rattle.band.specs.Band.{InBand, lowest, highest, cap, IsRow}
+use Rattle.band.specs.Band.{InBand, lowest, highest, cap}
 use Rattle.band.specs.Window.{Slid}
-use Rattle.band.specs.declared.Row.{Row}
 use Rattle.band.proofs.Bands.{band_most, band_ends}
 
 -- a window moved modulo 2^64, of numbers within the limit
@@ -113,13 +112,7 @@ module _ (ms : List ℕ) (r : ℕ) where
       join : {a a' b c d : ℕ} → w + a ≡ c → d ≡ c → a ≡ b → a' ≡ b → w + a' ≡ d
       join p q e e' = omega arith
 
-  slid_start : (k : ℕ) → Slid ms r k (lowest ms r k) 0
-  slid_start k = let e = sum_at (count ms k) (max (lowest ms r k) (lowest ms r k - (get_or ms k 0 + 1))) (lowest ms r k) (omega arith) in omega arith
-
 pub slid_done : (ms : List ℕ) (r k t w : ℕ) → k < length ms → r ≤ whole ms → Slid ms r k (t + 1) w → lowest ms r (k + 1) ≤ t → w ≡ count ms (k + 1) t
 slid_done ms r k t w l reach s h =
     let h' : lowest ms r (suc k) ≤ t = rw add-one at h in
     rw add-one (slid_is ms r k t w l reach s h')
-
-pub slid_at : (ms : List ℕ) (r k : ℕ) (row : Row) → IsRow ms r k row → Slid ms r k row.low 0
-slid_at ms r k row i = rw i.low (slid_start ms r k)

@@ -1,13 +1,9 @@
 -- The band: the sums of the first parts from which the total can still be reached, and where their counts stand. Every count there is
 -- at most N, so where N is within the limit all of them are.
-use Rattle.std.specs.Prelude.{◌≡◌, ℕ, suc, ◌+◌, ◌-◌, ◌<◌, ◌≤◌, min, cond, List, length, nat_lt, slice_index}
+use Rattle.std.specs.Prelude.{◌≡◌, ℕ, suc, ◌+◌, ◌-◌, ◌<◌, ◌≤◌, min, List, length, slice_index}
 use Rattle.walsh.specs.Sums.{sum, sum_to}
-use Rattle.walsh.specs.Order.{count, count_of}
-use Rattle.bounds.specs.Refusal.{first_refusal, decided}
-use Rattle.bounds.specs.Edition.{whole, shape_checks, edition_checks}
-use Rattle.bounds.specs.declared.Refusal.{Refusal}
-use Rattle.band.specs.declared.Surveyed.{Surveyed}
-use Rattle.band.specs.declared.window.table.Counted.{Counted}
+use Rattle.walsh.specs.Order.{count}
+use Rattle.bounds.specs.Edition.{whole}
 use Rattle.band.specs.declared.Row.{Row}
 
 -- ---- the band
@@ -71,29 +67,3 @@ pub record Sizing (ms : List ℕ) (r k left' size' : ℕ) : Type 0 where
   pub few : k ≤ length ms
   pub left : left' ≡ sum_to ms k
   pub size : size' + row_start ms r k ≡ band_size ms r
-
--- ---- the answers
-
--- the checks 1 to 4; where they refuse nothing, the sum of the ceilings and the size of the table
-abbrev pub surveyed_by : Refusal → List ℕ → ℕ → Surveyed
-surveyed_by v ms r =
-    decided v
-    (record { number = 0; detail = 0; all = whole ms; size = band_size ms r })
-    (record { number = v.number; detail = v.detail; all = 0; size = 0 })
-
-unfoldable pub survey_of : List ℕ → ℕ → Surveyed
-survey_of ms r = surveyed_by (first_refusal (shape_checks ms r)) ms r
-
-abbrev pub counted_by : Refusal → List ℕ → ℕ → Counted
-counted_by v ms r =
-    decided v
-    (record { number = 0; detail = 0; count = count_of ms r })
-    (record { number = v.number; detail = v.detail; count = 0 })
-
--- N of an edition whose shape is accepted
-abbrev pub limited : ℕ → Counted
-limited n = cond (nat_lt 9223372036854775807 n) (record { number = 5; detail = 0; count = 0 }) (record { number = 0; detail = 0; count = n })
-
--- N, or the refusal of the edition
-unfoldable pub number_of : List ℕ → ℕ → Counted
-number_of ms r = counted_by (first_refusal (edition_checks ms r)) ms r

@@ -3,20 +3,21 @@ use Rattle.std.specs.Prelude.{◌≡◌, ℕ, ◌+◌, ◌-◌, ◌<◌, ◌≤�
 use Rattle.walsh.specs.Sums.{sum}
 use Rattle.walsh.specs.Order.{count}
 use Rattle.bounds.specs.Edition.{whole}
-use Rattle.band.specs.Band.{lowest, band_size, cap, RowHolds, RowsHold, IsRow}
+use Rattle.band.specs.Band.{lowest, cap, RowHolds, RowsHold, IsRow}
 use Rattle.band.specs.declared.Row.{Row}
 use Rattle.band.specs.declared.window.Span.{Span}
 use Rattle.band.specs.declared.window.Stretches.{Stretches}
 
--- what does not change while row k + 1 is filled from row k, in a table of `size` cells
-pub record Filling (ms : List ℕ) (r k : ℕ) (row next : Row) (size : ℕ) : Type 0 where
+-- what does not change while row k + 1 is filled from row k, over the part whose bound is m
+pub record Filling (ms : List ℕ) (r k m : ℕ) (row next : Row) : Type 0 where
   pub part : k < length ms
   pub few : k < 24
   pub small : r ≤ 255
   pub reached : r ≤ whole ms
+  pub bound : m ≡ slice_index ms k
+  pub byte : m ≤ 255
   pub from : IsRow ms r k row
   pub to : IsRow ms r (k + 1) next
-  pub room : band_size ms r ≤ size
 
 -- before the sum t: w is the sum of the cells t - 1, t - 2, .. of row k, as many as the bound and one, but none below the band
 abbrev pub Slid : List ℕ → ℕ → ℕ → ℕ → ℕ → Type 0

@@ -1,310 +1,201 @@
-// The two conversions, each with a band of as many cells as it needs: from a composition to its serial, and from a serial to its composition.
-ghost use Rattle.std.specs.Prelude.{◌≡◌, ◌≤◌, [], length, replicate};
-ghost use Rattle.walsh.specs.Order.{Composition};
+// The two conversions, each with a band of as many cells as it needs: from a composition to its serial, and from a serial to its composition. Both
+// fill the band by `find`, and each hands over the walk that is then made on it.
+ghost use Rattle.std.specs.Prelude.{◌≡◌, ◌≤◌, IfOk, length};
+ghost use Rattle.walsh.specs.Order.{Composition, count_of};
+ghost use Rattle.bounds.specs.Edition.{edition_checks, shape_checks};
+ghost use Rattle.bounds.specs.Reason.{told};
 ghost use Rattle.bounds.specs.Refusal.{first_refusal};
-ghost use Rattle.bounds.specs.Edition.{whole, shape_checks};
-ghost use Rattle.band.specs.Band.{band_size};
-ghost use Rattle.band.specs.Find.{clamp, Ready, Sized, Given, converted_of};
-ghost use Rattle.band.specs.declared.find.Conversion.TheVariants.{Rank, Unrank};
+ghost use Rattle.band.specs.Find.{clamp, early_checks, ranked, unranked, Sized, MayWalk, Walked};
 
 use crate::Row;
+use crate::walk::{self, Table};
 use crate::window::table;
+use bounds::Reason;
 
-// What is asked: the serial of a given composition, or the composition of a serial.
+// A shape that is accepted: the sum of its bounds, and how many cells its band has.
 #[derive(Clone, Copy)]
-pub enum Conversion {
-    Rank,
-    Unrank(u64),
+struct Shape<'a> {
+    upper: &'a [u8],
+    total: u32,
+    all: usize,
+    size: usize,
+    ghost sized: { Sized upper.now total all size },
 }
 
-// N, the entry's serial, and its cells where they were asked for; all zeros where something is refused.
-#[derive(Clone, Copy)]
+// N, the entry's serial, and its cells where they were asked for.
+#[derive(Clone, Copy, Debug, PartialEq, Eq)]
 pub struct Converted {
-    pub number: u32,
-    pub detail: u64,
     pub count: u64,
     pub serial: u64,
     pub composition: [u8; 24],
 }
 
-fn nothing(number: u32, detail: u64) -> Converted
-    ensures { result ≡ record { number = number; detail = detail; count = 0; serial = 0; composition = replicate 24 0 } }
+// The checks 1 to 4.
+fn survey(upper: &[u8], total: u32) -> Result<Shape<'_>, Reason>
+    ensures refusal { told result ≡ first_refusal (shape_checks upper.now total) }
+    ensures shape { IfOk result (λ s. (s.upper.now ≡ upper.now) × (s.total ≡ total)) }
 {
-    Converted {
-        number,
-        detail,
-        count: 0,
-        serial: 0,
-        composition: [0; 24],
-    }
+    let all = bounds::shape(upper, total)?;
+    let size = crate::size(upper, total as usize, all);
+    Ok(Shape {
+        upper,
+        total,
+        all,
+        size,
+    })
 }
 
-// The serial of 1..n that is nearest to s.
+// The serial of 1..n that is nearest to s. (The library's `min` and `max`, under the name that the clauses have.)
 fn clamp(n: u64, s: u64) -> u64
     ensures { result ≡ clamp n s }
 {
-    if s < 1 {
-        return 1;
-    }
-    if s < n {
-        return s;
-    }
-    if n < 1 { 1 } else { n }
+    s.min(n).max(1)
 }
 
-// The serial of `given`.
-fn rank_in(
-    upper: &[u8],
-    total: u32,
-    last: Row,
-    cells: &[u64],
-    count: u64,
-    given: &[u8],
-) -> Converted
-    requires { Ready upper.now total last cells.now count × Composition upper.now total given.now }
-    ensures { result ≡ converted_of Rank upper.now total given.now }
+// The serial of `given`, where N is `count`.
+fn rank_in(table: Table, count: u64, given: &[u8]) -> Converted
+    requires { (count ≡ count_of table.upper.now table.total) × Composition table.upper.now table.total given.now }
+    ensures { result ≡ ranked table.entry.upper.now table.entry.total given.now }
 {
-    let before = crate::walk::place(upper, total as usize, last, cells, given);
+    let before = walk::place(table, given);
     Converted {
-        number: 0,
-        detail: 0,
         count,
         serial: before + 1,
         composition: [0; 24],
     }
 }
 
-// The composition of the serial nearest to `serial`.
-fn unrank_in(
-    upper: &[u8],
-    total: u32,
-    last: Row,
-    cells: &[u64],
-    count: u64,
-    serial: u64,
-) -> Converted
-    requires { Ready upper.now total last cells.now count }
-    ensures { result ≡ converted_of (Unrank serial) upper.now total [] }
+// The composition of the serial nearest to `serial`, where N is `count`.
+fn unrank_in(table: Table, count: u64, serial: u64) -> Converted
+    requires { count ≡ count_of table.upper.now table.total }
+    ensures { result ≡ unranked table.entry.upper.now table.entry.total serial }
 {
     let s = clamp(count, serial);
-    let n = upper.len();
+    let n = table.upper.len();
     let mut composition = [0u8; 24];
-    crate::walk::write(
-        upper,
-        total as usize,
-        last,
-        cells,
-        s - 1,
-        &mut composition[..n],
-    );
+    walk::write(table, s - 1, &mut composition[..n]);
     Converted {
-        number: 0,
-        detail: 0,
         count,
         serial: s,
         composition,
     }
 }
 
-// What is asked of a shape that is accepted, whose bounds sum to `all`, with the cells of its band.
-fn find_in(
-    upper: &[u8],
-    total: u32,
-    all: usize,
+// The band is filled, in the cells that are handed over, and the walk made. (What the walk may be given is asked for by each of these: no field can say it
+// of a closure.)
+fn find_in<F: FnOnce(Table, u64) -> Converted>(
+    shape: Shape,
     cells: &mut [u64],
-    asked: Conversion,
-    given: &[u8],
-) -> Converted
-    requires { ((first_refusal (shape_checks upper.now total)).number ≡ 0) × (all ≡ whole upper.now)
-        × (length cells.old ≡ band_size upper.now total) × Given asked upper.now total given.now }
-    ensures { result ≡ converted_of asked upper.now total given.now }
+    walk: F,
+) -> Result<Converted, Reason>
+    requires { (length cells.old ≡ shape.size) × MayWalk (F.pre walk) shape.upper.now shape.total }
+    ensures refusal { told result ≡ first_refusal (edition_checks shape.entry.upper.now shape.entry.total) }
+    ensures found { IfOk result (Walked (F.post walk) shape.entry.upper.now shape.entry.total) }
 {
-    let c = table::fill(upper, total, all, cells);
-    if 0 < c.number {
-        return nothing(c.number, c.detail);
-    }
+    let count = table::fill(shape.upper, shape.total, shape.all, cells)?;
+    let total = shape.total as usize;
     let last = Row {
         start: cells.len() - 1,
-        left: all,
-        all,
-        low: total as usize,
-        high: total as usize,
+        left: shape.all,
+        all: shape.all,
+        low: total,
+        high: total,
     };
-    match asked {
-        Conversion::Rank => rank_in(upper, total, last, cells, c.count, given),
-        Conversion::Unrank(serial) => unrank_in(upper, total, last, cells, c.count, serial),
+    let table = Table {
+        upper: shape.upper,
+        total,
+        last,
+        cells,
+    };
+    Ok(walk(table, count))
+}
+
+// `find_in` of a band of at most `N` cells, which are the first of an array of `N`: all of it is cleared, so it should not be much longer.
+fn find_with<const N: usize, F: FnOnce(Table, u64) -> Converted>(
+    shape: Shape,
+    walk: F,
+) -> Result<Converted, Reason>
+    requires { (shape.size ≤ N) × (N ≤ 6145) × MayWalk (F.pre walk) shape.upper.now shape.total }
+    ensures refusal { told result ≡ first_refusal (edition_checks shape.entry.upper.now shape.entry.total) }
+    ensures found { IfOk result (Walked (F.post walk) shape.entry.upper.now shape.entry.total) }
+{
+    let mut cells = [0u64; N];
+    find_in(shape, &mut cells[..shape.size], walk)
+}
+
+// The same of any band, in one of the largest arrays: a call of its own, so that smaller bands have small frames.
+#[inline(never)]
+fn in_largest<F: FnOnce(Table, u64) -> Converted>(
+    shape: Shape,
+    walk: F,
+) -> Result<Converted, Reason>
+    requires { MayWalk (F.pre walk) shape.upper.now shape.total }
+    ensures refusal { told result ≡ first_refusal (edition_checks shape.entry.upper.now shape.entry.total) }
+    ensures found { IfOk result (Walked (F.post walk) shape.entry.upper.now shape.entry.total) }
+{
+    match shape.size {
+        ..=3072 => find_with::<3072, F>(shape, walk),
+        ..=3584 => find_with::<3584, F>(shape, walk),
+        ..=4096 => find_with::<4096, F>(shape, walk),
+        ..=5120 => find_with::<5120, F>(shape, walk),
+        _ => find_with::<6145, F>(shape, walk),
     }
 }
 
-// `find_in` of a band that is not large: its cells are the first of an array that is not much longer, since all of it is cleared.
-fn in_small(
-    upper: &[u8],
-    total: u32,
-    all: usize,
-    size: usize,
-    asked: Conversion,
-    given: &[u8],
-) -> Converted
-    requires { Sized upper.now total all size × (size ≤ 1024) × Given asked upper.now total given.now }
-    ensures { result ≡ converted_of asked upper.now total given.now }
+// The same of any band, in a large array, and so a call of its own too.
+#[inline(never)]
+fn in_large<F: FnOnce(Table, u64) -> Converted>(shape: Shape, walk: F) -> Result<Converted, Reason>
+    requires { MayWalk (F.pre walk) shape.upper.now shape.total }
+    ensures refusal { told result ≡ first_refusal (edition_checks shape.entry.upper.now shape.entry.total) }
+    ensures found { IfOk result (Walked (F.post walk) shape.entry.upper.now shape.entry.total) }
 {
-    if size <= 64 {
-        let mut cells = [0u64; 64];
-        return find_in(upper, total, all, &mut cells[..size], asked, given);
+    match shape.size {
+        ..=1152 => find_with::<1152, F>(shape, walk),
+        ..=1280 => find_with::<1280, F>(shape, walk),
+        ..=1536 => find_with::<1536, F>(shape, walk),
+        ..=1792 => find_with::<1792, F>(shape, walk),
+        ..=2048 => find_with::<2048, F>(shape, walk),
+        ..=2560 => find_with::<2560, F>(shape, walk),
+        _ => in_largest(shape, walk),
     }
-    if size <= 128 {
-        let mut cells = [0u64; 128];
-        return find_in(upper, total, all, &mut cells[..size], asked, given);
-    }
-    if size <= 192 {
-        let mut cells = [0u64; 192];
-        return find_in(upper, total, all, &mut cells[..size], asked, given);
-    }
-    if size <= 288 {
-        let mut cells = [0u64; 288];
-        return find_in(upper, total, all, &mut cells[..size], asked, given);
-    }
-    if size <= 384 {
-        let mut cells = [0u64; 384];
-        return find_in(upper, total, all, &mut cells[..size], asked, given);
-    }
-    if size <= 544 {
-        let mut cells = [0u64; 544];
-        return find_in(upper, total, all, &mut cells[..size], asked, given);
-    }
-    if size <= 704 {
-        let mut cells = [0u64; 704];
-        return find_in(upper, total, all, &mut cells[..size], asked, given);
-    }
-    if size <= 896 {
-        let mut cells = [0u64; 896];
-        return find_in(upper, total, all, &mut cells[..size], asked, given);
-    }
-    let mut cells = [0u64; 1024];
-    find_in(upper, total, all, &mut cells[..size], asked, given)
 }
 
-// The same of any band, in the largest arrays.
-fn in_largest(
-    upper: &[u8],
-    total: u32,
-    all: usize,
-    size: usize,
-    asked: Conversion,
-    given: &[u8],
-) -> Converted
-    requires { Sized upper.now total all size × Given asked upper.now total given.now }
-    ensures { result ≡ converted_of asked upper.now total given.now }
+// The same of any band, in the smallest of these arrays that has its cells. (Three lists of sizes: a const parameter wants a constant, and small bands want
+// small frames.)
+fn find<F: FnOnce(Table, u64) -> Converted>(shape: Shape, walk: F) -> Result<Converted, Reason>
+    requires { MayWalk (F.pre walk) shape.upper.now shape.total }
+    ensures refusal { told result ≡ first_refusal (edition_checks shape.entry.upper.now shape.entry.total) }
+    ensures found { IfOk result (Walked (F.post walk) shape.entry.upper.now shape.entry.total) }
 {
-    if size <= 3072 {
-        let mut cells = [0u64; 3072];
-        return find_in(upper, total, all, &mut cells[..size], asked, given);
+    match shape.size {
+        ..=64 => find_with::<64, F>(shape, walk),
+        ..=128 => find_with::<128, F>(shape, walk),
+        ..=192 => find_with::<192, F>(shape, walk),
+        ..=288 => find_with::<288, F>(shape, walk),
+        ..=384 => find_with::<384, F>(shape, walk),
+        ..=544 => find_with::<544, F>(shape, walk),
+        ..=704 => find_with::<704, F>(shape, walk),
+        ..=896 => find_with::<896, F>(shape, walk),
+        ..=1024 => find_with::<1024, F>(shape, walk),
+        _ => in_large(shape, walk),
     }
-    if size <= 3584 {
-        let mut cells = [0u64; 3584];
-        return find_in(upper, total, all, &mut cells[..size], asked, given);
-    }
-    if size <= 4096 {
-        let mut cells = [0u64; 4096];
-        return find_in(upper, total, all, &mut cells[..size], asked, given);
-    }
-    if size <= 5120 {
-        let mut cells = [0u64; 5120];
-        return find_in(upper, total, all, &mut cells[..size], asked, given);
-    }
-    let mut cells = [0u64; 6145];
-    find_in(upper, total, all, &mut cells[..size], asked, given)
-}
-
-// The same of a large band. It has two call places and many steps, so the compiler leaves it a call of its own, and the others have small frames. It
-// is handed slices of its own (`&upper[..]`): the caller's then stay in registers.
-fn in_large(
-    upper: &[u8],
-    total: u32,
-    all: usize,
-    size: usize,
-    asked: Conversion,
-    given: &[u8],
-) -> Converted
-    requires { Sized upper.now total all size × Given asked upper.now total given.now }
-    ensures { result ≡ converted_of asked upper.now total given.now }
-{
-    if size <= 1152 {
-        let mut cells = [0u64; 1152];
-        return find_in(upper, total, all, &mut cells[..size], asked, given);
-    }
-    if size <= 1280 {
-        let mut cells = [0u64; 1280];
-        return find_in(upper, total, all, &mut cells[..size], asked, given);
-    }
-    if size <= 1536 {
-        let mut cells = [0u64; 1536];
-        return find_in(upper, total, all, &mut cells[..size], asked, given);
-    }
-    if size <= 1792 {
-        let mut cells = [0u64; 1792];
-        return find_in(upper, total, all, &mut cells[..size], asked, given);
-    }
-    if size <= 2048 {
-        let mut cells = [0u64; 2048];
-        return find_in(upper, total, all, &mut cells[..size], asked, given);
-    }
-    if size <= 2560 {
-        let mut cells = [0u64; 2560];
-        return find_in(upper, total, all, &mut cells[..size], asked, given);
-    }
-    in_largest(upper, total, all, size, asked, given)
 }
 
 // The serial of a composition, or the refusal. What is no composition is refused before the table is filled, and so before 5 is known.
-pub fn serial_of(upper: &[u8], total: u32, composition: &[u8]) -> Converted
-    ensures { result ≡ converted_of Rank upper.now total composition.now }
+pub fn serial_of(upper: &[u8], total: u32, composition: &[u8]) -> Result<Converted, Reason>
+    ensures refusal { told result ≡ first_refusal (early_checks upper.now total composition.now) }
+    ensures found { IfOk result (λ c. c ≡ ranked upper.now total composition.now) }
 {
-    let s = crate::survey(upper, total);
-    if 0 < s.number {
-        return nothing(s.number, s.detail);
-    }
-    let v = places::composition_refusal(upper, total, composition);
-    if 0 < v.number {
-        return nothing(v.number, v.detail);
-    }
-    if s.size <= 1024 {
-        return in_small(upper, total, s.all, s.size, Conversion::Rank, composition);
-    }
-    in_large(
-        &upper[..],
-        total,
-        s.all,
-        s.size,
-        Conversion::Rank,
-        &composition[..],
-    )
+    let shape = survey(upper, total)?;
+    places::check_composition(upper, total, composition)?;
+    find(shape, |table, count| rank_in(table, count, composition))
 }
 
-// N and the composition of the serial nearest to `serial`, or the refusal. (No composition is given, so the bounds are lent for it.)
-pub fn composition_of(upper: &[u8], total: u32, serial: u64) -> Converted
-    ensures { result ≡ converted_of (Unrank serial) upper.now total [] }
+// N and the composition of the serial nearest to `serial`, or the refusal.
+pub fn composition_of(upper: &[u8], total: u32, serial: u64) -> Result<Converted, Reason>
+    ensures refusal { told result ≡ first_refusal (edition_checks upper.now total) }
+    ensures found { IfOk result (λ c. c ≡ unranked upper.now total serial) }
 {
-    let s = crate::survey(upper, total);
-    if 0 < s.number {
-        return nothing(s.number, s.detail);
-    }
-    if s.size <= 1024 {
-        return in_small(
-            upper,
-            total,
-            s.all,
-            s.size,
-            Conversion::Unrank(serial),
-            upper,
-        );
-    }
-    in_large(
-        &upper[..],
-        total,
-        s.all,
-        s.size,
-        Conversion::Unrank(serial),
-        &upper[..],
-    )
+    let shape = survey(upper, total)?;
+    find(shape, |table, count| unrank_in(table, count, serial))
 }

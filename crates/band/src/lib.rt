@@ -9,14 +9,11 @@
 ghost use Rattle.std.specs.Prelude.{◌≡◌, ◌+◌, ◌-◌, ◌<◌, ◌≤◌, min, length};
 ghost use Rattle.walsh.specs.Order.{count};
 ghost use Rattle.bounds.specs.Edition.{whole};
-ghost use Rattle.band.specs.Band.{InBand, band_size, cap, RowHolds, IsRow, survey_of};
+ghost use Rattle.band.specs.Band.{InBand, band_size, cap, RowHolds, IsRow};
 
 pub mod find;
 mod walk;
 pub mod window;
-
-// One more than the largest N that is accepted: what a count that stops there answers.
-pub const CAP: u64 = 9_223_372_036_854_775_808;
 
 // Row k: the cells before it, the sum of the first k bounds, which are those to the left of part k, and of all, and the lowest and the highest sum in
 // the band. A walk keeps `left`: it begins as `all`, and `walk::down` takes one bound off.
@@ -29,15 +26,6 @@ struct Row {
     high: usize,
 }
 
-// The answer of the checks 1 to 4; where they refuse nothing, the sum of the bounds and the number of cells of the band.
-#[derive(Clone, Copy)]
-struct Surveyed {
-    number: u32,
-    detail: u64,
-    all: usize,
-    size: usize,
-}
-
 fn row_of(total: usize, start: usize, left: usize, all: usize) -> Row
     requires { left ≤ all }
     ensures { (result.start ≡ start) × (result.left ≡ left) × (result.all ≡ all) × (result.low ≡ total - (all - left)) × (result.high ≡ min total left) }
@@ -46,18 +34,19 @@ fn row_of(total: usize, start: usize, left: usize, all: usize) -> Row
         start,
         left,
         all,
-        low: walsh::over(total, all - left),
-        high: walsh::lesser(total, left),
+        low: total.saturating_sub(all - left),
+        high: total.min(left),
     }
 }
 
-// The row after.
+// The row after. (It and `size`, as `down`, ask for what they need of bounds and total in a line: `Shape` and `Table`, which say it, are made of what they
+// answer.)
 fn up(upper: &[u8], total: usize, k: usize, from: Row) -> Row
     requires { (length upper.now ≤ 24) × (total ≤ 255) × (total ≤ whole upper.now) × (k < length upper.now)
         × IsRow upper.now total k from }
     ensures { IsRow upper.now total (k + 1) result }
 {
-    let m = walsh::wide(upper[k]);
+    let m = usize::from(upper[k]);
     row_of(
         total,
         from.start + (from.high + 1 - from.low),
@@ -74,42 +63,19 @@ fn size(upper: &[u8], total: usize, all: usize) -> usize
 {
     let mut cells = 1;
     let mut left = all;
-    let mut k = upper.len();
-    while 0 < k {
-        k -= 1;
-        left -= walsh::wide(upper[k]);
-        let low = walsh::over(total, all - left);
-        cells += walsh::lesser(total, left) + 1 - low;
+    for k in (0..upper.len()).rev() {
+        left -= usize::from(upper[k]);
+        let low = total.saturating_sub(all - left);
+        cells += total.min(left) + 1 - low;
     }
     cells
 }
 
-// The number of compositions of the sum `t` of the band into the first `k` parts.
+// The number of compositions of the sum `t` of the band into the first `k` parts. (Bounds and total apart, as in `up`.)
 fn cell(upper: &[u8], total: usize, k: usize, row: Row, cells: &[u64], t: usize) -> u64
     requires { (k ≤ length upper.now) × (k ≤ 24) × (total ≤ 255) × IsRow upper.now total k row × InBand upper.now total k t
         × (band_size upper.now total ≤ length cells.now) × RowHolds upper.now total cells.now k 256 }
     ensures { (result ≡ count upper.now k t) × (result < cap) }
 {
     cells[row.start + (t - row.low)]
-}
-
-// The checks 1 to 4, and how many cells the band has.
-fn survey(upper: &[u8], total: u32) -> Surveyed
-    ensures { result ≡ survey_of upper.now total }
-{
-    let s = bounds::shape(upper, total);
-    if 0 < s.number {
-        return Surveyed {
-            number: s.number,
-            detail: s.detail,
-            all: 0,
-            size: 0,
-        };
-    }
-    Surveyed {
-        number: 0,
-        detail: 0,
-        all: s.all,
-        size: size(upper, total as usize, s.all),
-    }
 }

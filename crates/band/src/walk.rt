@@ -9,6 +9,16 @@ ghost use Rattle.band.specs.Walk.{run_of, in_run, Here, Readable, Picked, Filled
 
 use crate::Row;
 
+// A filled band and its last row, from which a walk begins.
+#[derive(Clone, Copy)]
+pub(crate) struct Table<'a> {
+    pub(crate) upper: &'a [u8],
+    pub(crate) total: usize,
+    pub(crate) last: Row,
+    pub(crate) cells: &'a [u64],
+    ghost filled: { Filled upper.now total last cells.now },
+}
+
 // The values of a part in their order: rising from `low`, or falling from `high`.
 #[derive(Clone, Copy)]
 struct Run {
@@ -30,8 +40,8 @@ fn run_of(upper: &[u8], k: usize, left: usize, rem: usize, t: usize) -> Run
     ensures { result ≡ run_of upper.now k rem t }
 {
     Run {
-        low: walsh::over(rem, left),
-        high: walsh::lesser(walsh::wide(upper[k]), rem),
+        low: rem.saturating_sub(left),
+        high: usize::from(upper[k]).min(rem),
         falls: walsh::is_odd(t),
     }
 }
@@ -65,9 +75,9 @@ fn down(upper: &[u8], total: usize, k: usize, from: Row) -> Row
     requires { (total ≤ 255) × (total ≤ whole upper.now) × (k < length upper.now) × IsRow upper.now total (k + 1) from }
     ensures { IsRow upper.now total k result }
 {
-    let left = from.left - walsh::wide(upper[k]);
-    let low = walsh::over(total, from.all - left);
-    let high = walsh::lesser(total, left);
+    let left = from.left - usize::from(upper[k]);
+    let low = total.saturating_sub(from.all - left);
+    let high = total.min(left);
     Row {
         start: from.start - (high + 1 - low),
         left,
@@ -77,7 +87,7 @@ fn down(upper: &[u8], total: usize, k: usize, from: Row) -> Row
     }
 }
 
-// The value of part `k` at which `rank` falls.
+// The value of part `k` at which `rank` falls. (No `for`: the last value's block is never passed, so nothing could stand behind the loop.)
 fn pick_value(
     upper: &[u8],
     k: usize,
@@ -105,19 +115,21 @@ fn pick_value(
     }
 }
 
-// Writes the composition of `total` that has the rank `rank` into `out`, a byte for each part.
-pub(crate) fn write(upper: &[u8], total: usize, last: Row, cells: &[u64], rank: u64, out: &mut [u8])
-    requires { Filled upper.now total last cells.now × (length out.old ≡ length upper.now)
-        × (rank < count upper.now (length upper.now) total) }
-    ensures { out.new ≡ slice_index_or (order upper.now total) rank [] }
+// Writes the composition that has the rank `rank` into `out`, a byte for each part. (A call of its own: inlined, its counter was kept in memory, and
+// the way from a serial to 8 parts or more took 3 to 5 % longer.)
+#[inline(never)]
+pub(crate) fn write(table: Table, rank: u64, out: &mut [u8])
+    requires { (length out.old ≡ length table.upper.now) × (rank < count table.upper.now (length table.upper.now) table.total) }
+    ensures { out.new ≡ slice_index_or (order table.entry.upper.now table.entry.total) rank [] }
 {
-    let mut k = out.len();
-    let mut row = last;
+    let upper = table.upper;
+    let total = table.total;
+    let cells = table.cells;
+    let mut row = table.last;
     let mut rem = total;
     let mut t = 0;
     let mut s = rank;
-    while 0 < k {
-        k -= 1;
+    for k in (0..out.len()).rev() {
         row = down(upper, total, k, row);
         let p = pick_value(upper, k, row, cells, rem, t, s);
         let v = p.value;
@@ -136,29 +148,27 @@ fn earlier(upper: &[u8], k: usize, row: Row, cells: &[u64], rem: usize, t: usize
     let w = run_of(upper, k, row.left, rem, t);
     let steps = index(w, v);
     let mut s: u64 = 0;
-    let mut i = 0;
-    while i < steps {
+    for i in 0..steps {
         s += block(cells, row, rem, w, i);
-        i += 1;
     }
     s
 }
 
-// The rank of `g`, a composition of `total`.
-pub(crate) fn place(upper: &[u8], total: usize, last: Row, cells: &[u64], g: &[u8]) -> u64
-    requires { Filled upper.now total last cells.now × (length g.now ≡ length upper.now)
-        × CompositionTo upper.now (length upper.now) total g.now }
-    ensures { result ≡ rank_of upper.now (length upper.now) total 0 g.now }
+// The rank of a composition.
+pub(crate) fn place(table: Table, g: &[u8]) -> u64
+    requires { (length g.now ≡ length table.upper.now) × CompositionTo table.upper.now (length table.upper.now) table.total g.now }
+    ensures { result ≡ rank_of table.entry.upper.now (length table.entry.upper.now) table.entry.total 0 g.now }
 {
-    let mut k = g.len();
-    let mut row = last;
+    let upper = table.upper;
+    let total = table.total;
+    let cells = table.cells;
+    let mut row = table.last;
     let mut rem = total;
     let mut t = 0;
     let mut s: u64 = 0;
-    while 0 < k {
-        k -= 1;
+    for k in (0..g.len()).rev() {
         row = down(upper, total, k, row);
-        let v = walsh::wide(g[k]);
+        let v = usize::from(g[k]);
         s += earlier(upper, k, row, cells, rem, t, v);
         rem -= v;
         t += v;

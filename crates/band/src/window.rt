@@ -1,7 +1,8 @@
-// A row of the band, filled from the row before by a sliding window. It stops at the first number over 2^63 - 1, which shows that N is over it too.
-ghost use Rattle.std.specs.Prelude.{◌≡◌, ◌+◌, ◌-◌, ◌%◌, ◌<◌, ◌≤◌, true, false, length, slice_index};
+// A row of the band, filled from the row before by a sliding window. It stops at the first number over 2^63 - 1, which shows that N is over it too:
+// `None` says so.
+ghost use Rattle.std.specs.Prelude.{◌≡◌, ◌+◌, ◌-◌, ◌%◌, ◌<◌, ◌≤◌, length, MatchOption};
 ghost use Rattle.walsh.specs.Order.{count};
-ghost use Rattle.band.specs.Band.{cap, RowHolds, RowsHold};
+ghost use Rattle.band.specs.Band.{InBand, band_size, cap, RowHolds, RowsHold};
 ghost use Rattle.band.specs.Window.{Filling, Slid, FilledTo, Moves, Stretch, IsStretches};
 
 use crate::{Row, cell};
@@ -9,23 +10,50 @@ use bounds::LIMIT;
 
 pub mod table;
 
-// The window before the first sum of the row after, or a number over 2^63 - 1.
-fn head(upper: &[u8], total: usize, k: usize, row: Row, next: Row, cells: &[u64]) -> u64
-    requires { Filling upper.now total k row next (length cells.now) × RowHolds upper.now total cells.now k 256 }
-    ensures { (result < cap → Slid upper.now total k next.low result)
-        × (cap ≤ result → cap ≤ count upper.now (length upper.now) total) }
+// Part `k`, whose bound is `m`: the row before it, and the row after, which is filled.
+#[derive(Clone, Copy)]
+struct Part<'a> {
+    upper: &'a [u8],
+    total: usize,
+    k: usize,
+    m: usize,
+    row: Row,
+    next: Row,
+    ghost filling: { Filling upper.now total k m row next },
+}
+
+// A number of the band that is within the limit.
+fn within(n: u64) -> Option<u64>
+    ensures { MatchOption result (cap ≤ n) (λ w. (w ≡ n) × (w < cap)) }
 {
-    let end = walsh::lesser(next.low, row.high + 1);
-    let mut w: u64 = 0;
-    let mut t = row.low;
-    while t < end {
-        w += cell(upper, total, k, row, cells, t);
-        if LIMIT < w {
-            return w;
-        }
-        t += 1;
+    if LIMIT < n {
+        return None;
     }
-    w
+    Some(n)
+}
+
+// The cell of the row before for the sum `t`. (What is asked for, here, in `head` and in `step`, is said of the cells that the loop writes and of a sum in
+// it, not of the part.)
+fn cell_at(part: Part, cells: &[u64], t: usize) -> u64
+    requires { (band_size part.upper.now part.total ≤ length cells.now) × RowHolds part.upper.now part.total cells.now part.k 256
+        × InBand part.upper.now part.total part.k t }
+    ensures { (result ≡ count part.entry.upper.now part.entry.k t) × (result < cap) }
+{
+    cell(part.upper, part.total, part.k, part.row, cells, t)
+}
+
+// The window before the first sum of the row after.
+fn head(part: Part, cells: &[u64]) -> Option<u64>
+    requires { (band_size part.upper.now part.total ≤ length cells.now) × RowHolds part.upper.now part.total cells.now part.k 256 }
+    ensures { MatchOption result (cap ≤ count part.entry.upper.now (length part.entry.upper.now) part.entry.total)
+        (λ w. (w < cap) × Slid part.entry.upper.now part.entry.total part.entry.k part.entry.next.low w) }
+{
+    let end = part.next.low.min(part.row.high + 1);
+    let mut w: u64 = 0;
+    for t in part.row.low..end {
+        w = within(w + cell_at(part, cells, t))?;
+    }
+    Some(w)
 }
 
 // w - x + y modulo 2^64, which is w - x + y itself where the numbers are within the limit and x is at most w.
@@ -35,40 +63,29 @@ pub fn moved(w: u64, x: u64, y: u64) -> u64
     std::num::wrapping_add_u64(w, std::num::wrapping_sub_u64(y, x))
 }
 
-// The window over row `k` moved from the sum `t` to `t + 1`, where it is known whether a cell enters it and whether one leaves it.
-fn step(
-    upper: &[u8],
-    total: usize,
-    k: usize,
-    m: usize,
-    row: Row,
-    next: Row,
-    cells: &[u64],
-    t: usize,
-    w: u64,
-    enters: bool,
-    leaves: bool,
-) -> u64
-    requires { Filling upper.now total k row next (length cells.now) × (m ≡ slice_index upper.now k) × (next.low ≤ t) × (t ≤ next.high)
-        × FilledTo upper.now total k t w cells.now × Moves row m t enters leaves }
-    ensures { Slid upper.now total k (t + 1) result }
+// The window over the row before moved from the sum `t` to `t + 1`, where it is known whether a cell enters it and whether one leaves it.
+fn step(part: Part, cells: &[u64], t: usize, w: u64, enters: bool, leaves: bool) -> u64
+    requires { (band_size part.upper.now part.total ≤ length cells.now) × (part.next.low ≤ t) × (t ≤ part.next.high)
+        × FilledTo part.upper.now part.total part.k t w cells.now × Moves part.row part.m t enters leaves }
+    ensures { Slid part.entry.upper.now part.entry.total part.entry.k (t + 1) result }
 {
     if enters {
         if leaves {
             // the cell that enters is read first, which makes the faster loop
-            let y = cell(upper, total, k, row, cells, t);
-            let x = cell(upper, total, k, row, cells, t - (m + 1));
+            let y = cell_at(part, cells, t);
+            let x = cell_at(part, cells, t - (part.m + 1));
             return moved(w, x, y);
         }
-        return w + cell(upper, total, k, row, cells, t);
+        return w + cell_at(part, cells, t);
     }
     if leaves {
-        return w - cell(upper, total, k, row, cells, t - (m + 1));
+        return w - cell_at(part, cells, t - (part.m + 1));
     }
     w
 }
 
-// The sums from `from` up to `end` of a row, at which a cell enters the window or none does, and one leaves it or none does.
+// The sums from `from` up to `end` of a row, at which a cell enters the window or none does, and one leaves it or none does. (Flags and no closures: of the
+// middle stretch only the row's numbers say which.)
 #[derive(Clone, Copy)]
 struct Span {
     from: usize,
@@ -77,37 +94,20 @@ struct Span {
     leaves: bool,
 }
 
-// Fills these sums of row `k + 1` and answers the window, or a number over 2^63 - 1.
-fn fill_span(
-    upper: &[u8],
-    total: usize,
-    k: usize,
-    m: usize,
-    row: Row,
-    next: Row,
-    cells: &mut [u64],
-    span: Span,
-    w0: u64,
-) -> u64
-    requires { Filling upper.now total k row next (length cells.old) × (m ≡ slice_index upper.now k) × Stretch row next m span
-        × FilledTo upper.now total k span.from w0 cells.old }
-    ensures { (result < cap → FilledTo upper.now total k span.end result cells.new)
-        × (cap ≤ result → cap ≤ count upper.now (length upper.now) total) }
+// Fills these sums of the row after and answers the window.
+fn fill_span(part: Part, cells: &mut [u64], span: Span, w0: u64) -> Option<u64>
+    requires { (band_size part.upper.now part.total ≤ length cells.old) × Stretch part.row part.next part.m span
+        × FilledTo part.upper.now part.total part.k span.from w0 cells.old }
+    ensures { MatchOption result (cap ≤ count part.entry.upper.now (length part.entry.upper.now) part.entry.total)
+        (λ w. FilledTo part.entry.upper.now part.entry.total part.entry.k span.end w cells.new) }
 {
-    let end = span.end;
-    let enters = span.enters;
-    let leaves = span.leaves;
+    let next = part.next;
     let mut w = w0;
-    let mut t = span.from;
-    while t < end {
-        w = step(upper, total, k, m, row, next, cells, t, w, enters, leaves);
-        if LIMIT < w {
-            return w;
-        }
+    for t in span.from..span.end {
+        w = within(step(part, cells, t, w, span.enters, span.leaves))?;
         cells[next.start + (t - next.low)] = w;
-        t += 1;
     }
-    w
+    Some(w)
 }
 
 // The first sum past `x`, but at least `low` and at most `high`.
@@ -124,7 +124,7 @@ fn between(low: usize, x: usize, high: usize) -> usize
     x + 1
 }
 
-// Row `k + 1` in three: cells only enter the window, then they enter and leave it or neither, then they only leave it.
+// The row after in three: cells only enter the window, then they enter and leave it or neither, then they only leave it.
 #[derive(Clone, Copy)]
 struct Stretches {
     grows: Span,
@@ -132,13 +132,14 @@ struct Stretches {
     shrinks: Span,
 }
 
-fn stretches_of(row: Row, next: Row, m: usize) -> Stretches
-    requires { (row.low ≤ 255) × (row.high ≤ 255) × (m ≤ 255) × (next.low ≤ next.high) × (next.high ≤ 255) }
-    ensures { IsStretches row next m result }
+fn stretches_of(part: Part) -> Stretches
+    ensures { IsStretches part.entry.row part.entry.next part.entry.m result }
 {
-    let full = row.low + m;
+    let row = part.row;
+    let next = part.next;
+    let full = row.low + part.m;
     let end = next.high + 1;
-    let least = walsh::lesser(row.high, full);
+    let least = row.high.min(full);
     let first = between(next.low, least, end);
     let second = between(first, row.high + full - least, end);
     let both = full < row.high;
@@ -164,26 +165,16 @@ fn stretches_of(row: Row, next: Row, m: usize) -> Stretches
     }
 }
 
-// Fills row `k + 1` from row `k`, or stops at a number over 2^63 - 1 and answers false.
-fn fill_row(upper: &[u8], total: usize, k: usize, row: Row, next: Row, cells: &mut [u64]) -> bool
-    requires { Filling upper.now total k row next (length cells.old) × RowsHold upper.now total cells.old k }
-    ensures { (result ≡ true → RowsHold upper.now total cells.new (k + 1))
-        × (result ≡ false → cap ≤ count upper.now (length upper.now) total) }
+// Fills the row after.
+fn fill_row(part: Part, cells: &mut [u64]) -> Option<()>
+    requires { (band_size part.upper.now part.total ≤ length cells.old) × RowsHold part.upper.now part.total cells.old part.k }
+    ensures { MatchOption result (cap ≤ count part.entry.upper.now (length part.entry.upper.now) part.entry.total)
+        (λ _. RowsHold part.entry.upper.now part.entry.total cells.new (part.entry.k + 1)) }
 {
-    let w0 = head(upper, total, k, row, next, cells);
-    if LIMIT < w0 {
-        return false;
-    }
-    let m = walsh::wide(upper[k]);
-    let s = stretches_of(row, next, m);
-    let w1 = fill_span(upper, total, k, m, row, next, cells, s.grows, w0);
-    if LIMIT < w1 {
-        return false;
-    }
-    let w2 = fill_span(upper, total, k, m, row, next, cells, s.slides, w1);
-    if LIMIT < w2 {
-        return false;
-    }
-    let w3 = fill_span(upper, total, k, m, row, next, cells, s.shrinks, w2);
-    w3 <= LIMIT
+    let w0 = head(part, cells)?;
+    let s = stretches_of(part);
+    let w1 = fill_span(part, cells, s.grows, w0)?;
+    let w2 = fill_span(part, cells, s.slides, w1)?;
+    fill_span(part, cells, s.shrinks, w2)?;
+    Some(())
 }

@@ -12,11 +12,13 @@ use Rattle.walsh.specs.Sums.{sum_to}
 use Rattle.walsh.specs.Order.{Composition, is_odd, listing, count, count_of}
 use Rattle.walsh.specs.Serial.{composition_of}
 use Rattle.walsh.proofs.Cases.{on_test}
-use Rattle.walsh.proofs.Lists.{sum_same, sum_mono}
+use Rattle.walsh.proofs.Lists.{sum_same, sum_mono, sum_le}
+use Rattle.walsh.proofs.Complete.{composition_within}
 use Rattle.step.specs.Batch.{copies_of}
-use Rattle.blocks.specs.Lists.{joined, number_to}
-use Rattle.blocks.specs.Blocks.{Entered, listed_at, number_of, IsBlock, Readable, laid, Known}
+use Rattle.blocks.specs.Lists.{joined, number_to, most_of, Known}
+use Rattle.blocks.specs.Blocks.{Entered, listed_at, number_of, IsBlock, Readable, laid}
 use Rattle.blocks.specs.declared.copies.Block.{Block}
+use Rattle.blocks.specs.declared.lists.Fronts.{Fronts}
 use Rattle.blocks.proofs.Listed.{joined_same}
 use Rattle.blocks.proofs.Entries.{same_block, count_front, entry_is, entry_fits, front_sum}
 
@@ -44,21 +46,48 @@ module _ (ms : List ℕ) (r : ℕ) where
       rw (add-suc, copies_add s a b, ← (add_assoc s a b))
       (append_assoc (copies_of ms r s a) (copies_of ms r (s + a) b) (composition_of ms r (s + a + b)))
 
-  -- ---- what stands before the list of the first parts' sum, and before the next
+module _ (f : Fronts) where
+  abbrev ms : List ℕ
+  ms = f.job.upper.now
 
-  module _ (w : ℕ) (entries starts : List ℕ) (known : Known ms r w entries starts) (g : List ℕ) (valid : Composition ms r g) where
+  abbrev r : ℕ
+  r = f.job.total
+
+  abbrev w : ℕ
+  w = f.width
+
+  abbrev entries : List ℕ
+  entries = f.entries
+
+  abbrev starts : List ℕ
+  starts = f.starts
+
+  abbrev known : Known ms r w entries starts
+  known = f.known
+
+  -- ---- the sum of the first parts has a list; what stands before it, and before the next
+
+  reached : (g : List ℕ) → Composition ms r g → sum_to g w ≤ most_of ms r w
+  reached g valid =
+      omega (
+        arith,
+        composition_within valid w known.inside,
+        sum_le (λ i. get_or g i 0) (λ i. get_or ms i 0) w (λ i b. valid.parts.fits i (omega (arith, known.inside))),
+      )
+
+  module _ (g : List ℕ) (valid : Composition ms r g) where
     pub list_before : get_or starts (sum_to g w) 0 ≡ number_to (take w ms) (sum_to g w)
-    list_before = known.lists.listed.before (sum_to g w) (omega (arith, known.reached g valid))
+    list_before = known.lists.listed.before (sum_to g w) (omega (arith, reached g valid))
 
     pub list_after : get_or starts (sum_to g w + 1) 0 ≡ number_to (take w ms) (sum_to g w) + count ms w (sum_to g w)
     list_after =
-        known.lists.listed.before (sum_to g w + 1) (omega (arith, known.reached g valid))
+        known.lists.listed.before (sum_to g w + 1) (omega (arith, reached g valid))
         ∙ ap (number_to (take w ms)) (add-one (sum_to g w))
         ∙ ap (λ (k : ℕ). number_to (take w ms) (sum_to g w) + k) (count_front ms w known.inside (sum_to g w))
 
   -- ---- a block: g, the composition of serial p in the first n of the cells, is its entry number i
 
-  module _ (w : ℕ) (entries starts : List ℕ) (known : Known ms r w entries starts) (cells : List ℕ) (room : length ms ≤ length cells)
+  module _ (cells : List ℕ) (room : length ms ≤ length cells)
       (p : ℕ) (low : 0 < p) (high : p ≤ count_of ms r) (is : take (length ms) cells ≡ composition_of ms r p)
       (valid : Composition ms r (take (length ms) cells)) (i : ℕ) (at : Entered ms r w (take (length ms) cells) i) where
     abbrev g : List ℕ
@@ -70,14 +99,14 @@ module _ (ms : List ℕ) (r : ℕ) where
     abbrev front : List ℕ
     front = take w ms
 
-    inside : s ≤ known.most
-    inside = known.reached g valid
+    inside : s ≤ most_of ms r w
+    inside = reached g valid
 
     before : get_or starts s 0 ≡ number_to front s
-    before = list_before w entries starts known g valid
+    before = list_before g valid
 
     after : get_or starts (s + 1) 0 ≡ number_to front s + count ms w s
-    after = list_after w entries starts known g valid
+    after = list_after g valid
 
     pub within : get_or starts s 0 + i < get_or starts (s + 1) 0
     within = omega (arith, before, after, at.inside)
@@ -104,23 +133,23 @@ module _ (ms : List ℕ) (r : ℕ) where
           rw (e, even) (omega arith))
 
       -- the copies of the block are those of the batch
-      pub laid_is : (j : ℕ) → j < b.count → laid entries w (length ms) b cells j ≡ composition_of ms r (p + j)
+      pub laid_is : (j : ℕ) → j < b.count → laid f b cells j ≡ composition_of ms r (p + j)
       laid_is j l =
           let inside-j : i + j < count ms w s = omega (arith, count_is) in
           let here = same_block ms r w known.inside g valid i at p low high is j inside-j in
           let entry : take w (drop (number_of b j * w) entries) ≡ get_or (listing ms w s (r - s)) (i + j) [] =
           ap (λ (k : ℕ). take w (drop (k * w) entries)) (number_is j l)
-          ∙ entry_is ms w known.inside known.most entries starts known.lists s (r - s) (i + j) inside inside-j in
+          ∙ entry_is ms w known.inside (most_of ms r w) entries starts known.lists s (r - s) (i + j) inside inside-j in
           let ending : take (length ms - w) (drop w cells) ≡ drop w g =
           sym (drop_take w (length ms) cells known.inside (omega (arith, known.inside))) in
           ap (λ (x : List ℕ). x ++ take (length ms - w) (drop w cells)) entry
           ∙ ap (λ (x : List ℕ). get_or (listing ms w s (r - s)) (i + j) [] ++ x) ending
           ∙ sym here.1
 
-      pub block_copies : (k : ℕ) → k ≤ b.count → joined (laid entries w (length ms) b cells) k ≡ copies_of ms r p k
+      pub block_copies : (k : ℕ) → k ≤ b.count → joined (laid f b cells) k ≡ copies_of ms r p k
       block_copies k l =
-          joined_same (laid entries w (length ms) b cells) (λ j. composition_of ms r (p + j)) k (λ j h. laid_is j (omega arith))
-          ∙ copies_joined p k
+          joined_same (laid f b cells) (λ j. composition_of ms r (p + j)) k (λ j h. laid_is j (omega arith))
+          ∙ copies_joined ms r p k
 
       pub readable : (k : ℕ) → k ≤ b.count → Readable w b k (length entries)
       readable k l =
@@ -133,7 +162,7 @@ module _ (ms : List ℕ) (r : ℕ) where
           fits_at : (j : ℕ) → j < b.count → number_of b j * w + 16 ≤ length entries
           fits_at j h =
               subst (λ (x : ℕ). x * w + 16 ≤ length entries) (sym (number_is j h))
-              (entry_fits ms w known.inside known.most entries starts known.lists s (r - s) (i + j) inside (omega (arith, count_is)))
+              (entry_fits ms w known.inside (most_of ms r w) entries starts known.lists s (r - s) (i + j) inside (omega (arith, count_is)))
 
           back_at : b.falling ≡ true → k ≤ b.count → k ≤ b.from + 1
           back_at e h =
@@ -143,14 +172,14 @@ module _ (ms : List ℕ) (r : ℕ) where
           ahead_at : b.falling ≡ false → b.from + k ≤ length entries
           ahead_at e =
               let from : b.from ≡ get_or starts s 0 + i = rw e at block.from in
-              let all : get_or starts (s + 1) 0 ≤ number_to front (suc known.most) =
+              let all : get_or starts (s + 1) 0 ≤ number_to front (suc (most_of ms r w)) =
               omega (
                 arith,
                 known.lists.listed.before (s + 1) (omega (arith, inside)),
                 ap (number_to front) (add-one s),
-                sum_mono (count_of front) (suc s) (suc known.most) (omega (arith, inside)),
+                sum_mono (count_of front) (suc s) (suc (most_of ms r w)) (omega (arith, inside)),
               ) in
               let width : length front ≡ w = length-take-le w ms known.inside in
-              let least : number_to front (suc known.most) * 1 ≤ number_to front (suc known.most) * length front =
-              mul-le-mul_left (number_to front (suc known.most)) (omega (arith, width, known.some)) in
-              omega (arith, count_is, before, after, all, least, known.lists.room, mul-one (number_to front (suc known.most)))
+              let least : number_to front (suc (most_of ms r w)) * 1 ≤ number_to front (suc (most_of ms r w)) * length front =
+              mul-le-mul_left (number_to front (suc (most_of ms r w))) (omega (arith, width, known.some)) in
+              omega (arith, count_is, before, after, all, least, known.lists.room, mul-one (number_to front (suc (most_of ms r w))))

@@ -8,11 +8,19 @@ use native.Mathlib.Numerals.{add-one}
 use native.Mathlib.Omega.{arith}
 use lib.ListN.{length, get_or, set, take, drop, length-append, length-drop, take-append-drop}
 use lib.Seq.{length-take-le, take-append-le, drop-append-le, drop-append-add, get_or-set_same, get_or-set_other}
+use Rattle.std.proofs.Common.{Result, Ok, Err, Option, Some, None}
+use Rattle.std.specs.Result.{result_ok}
+use Rattle.bounds.specs.declared.Reason.{Reason}
 use Rattle.walsh.specs.Order.{count_of}
 use Rattle.walsh.specs.Serial.{composition_of}
 use Rattle.walsh.proofs.Lists.{sum_mono}
 use Rattle.step.proofs.Copies.{copies_length, copy_at_lem, put_taken}
 use Rattle.blocks.specs.Lists.{joined, all_of, lists_to, number_to, ListedTo, Lists, ListsAll}
+
+-- what `.ok()?` found
+pub was_ok : {A : Type 0} (r : Result A Reason) (o : Option A) (x : A) → o ≡ result_ok r → o ≡ Some x → r ≡ Ok x
+was_ok (Ok y) o x e w = let same : Some y ≡ Some x = sym e ∙ w in cc
+was_ok (Err y) o x e w = let other : None ≡ Some x = sym e ∙ w in absurd (cc)
 
 -- ---- what is joined
 

@@ -2,12 +2,13 @@
 -- first w parts run through `listing ms w s t` there, where they sum to s and the ending to t.
 use Rattle.std.specs.Prelude.{◌≡◌, Bool, true, false, cond, List, [], ◌++◌, ℕ, ◌+◌, ◌-◌, ◌*◌, ◌≤◌, ◌<◌, length, get_or, take, drop}
 use Rattle.walsh.specs.Sums.{sum_to}
-use Rattle.walsh.specs.Order.{Composition, is_odd, listing, count}
+use Rattle.walsh.specs.Order.{is_odd, listing, count}
 use Rattle.walsh.specs.Serial.{composition_of}
 use Rattle.step.specs.Batch.{copies_of}
 use Rattle.step.specs.Run.{copies_from}
-use Rattle.blocks.specs.Lists.{Lists}
 use Rattle.blocks.specs.declared.copies.Block.{Block}
+use Rattle.blocks.specs.declared.job.Job.{Job}
+use Rattle.blocks.specs.declared.lists.Fronts.{Fronts}
 
 -- the first w parts of g are entry number i of what they run through in the block of g
 pub record Entered (ms : List ℕ) (r w : ℕ) (g : List ℕ) (i : ℕ) : Type 0 where
@@ -34,31 +35,30 @@ pub record Readable (w : ℕ) (b : Block) (k size : ℕ) : Type 0 where
   pub ahead : b.falling ≡ false → b.from + k ≤ size
   pub room : (j : ℕ) → j < k → number_of b j * w + 16 ≤ size
 
--- copy j of a block: the entry, and the ending of the cells
-abbrev pub laid : List ℕ → ℕ → ℕ → Block → List ℕ → ℕ → List ℕ
-laid entries w n b cells j = take w (drop (number_of b j * w) entries) ++ take (n - w) (drop w cells)
+-- copy j of a block: the entry in the lists, and the ending of the cells
+abbrev pub laid : Fronts → Block → List ℕ → ℕ → List ℕ
+laid f b cells j = take f.width (drop (number_of b j * f.width) f.entries) ++ take (length f.job.upper.now - f.width) (drop f.width cells)
 
--- what does not change from block to block: the edition, and the lists of its first w parts, for each of their sums in a composition
-pub record Known (ms : List ℕ) (r w : ℕ) (entries starts : List ℕ) : Type 0 where
-  pub few : length ms ≤ 24
-  pub small : r ≤ 255
-  pub some : 0 < w
-  pub narrow : w ≤ 16
-  pub inside : w ≤ length ms
-  pub most : ℕ
-  pub reached : (g : List ℕ) → Composition ms r g → sum_to g w ≤ most
-  pub lists : Lists (take w ms) most entries starts
-  pub entry_bytes : length entries ≡ 12288
-  pub start_cells : length starts ≡ 257
+-- the composition of a job's edition in the first cells
+abbrev pub shown : Job → List ℕ → List ℕ
+shown job cells = take (length job.upper.now) cells
+
+-- that of serial p
+abbrev pub copy_of : Job → ℕ → List ℕ
+copy_of job p = composition_of job.upper.now job.total p
+
+-- the first parts of the composition in the cells are entry number i of its block
+abbrev pub Enters : Fronts → List ℕ → ℕ → Type 0
+Enters f cells i = Entered f.job.upper.now f.job.total f.width (shown f.job cells) i
 
 -- k copies from serial p on are written, and the cells have the composition after them; with fewer than `most` the block has ended, so that it is the
 -- first of the next
-pub record WentOn (ms : List ℕ) (r w p most k : ℕ) (cells out : List ℕ) : Type 0 where
-  pub copies : take (k * length ms) out ≡ copies_of ms r p k
-  pub next : take (length ms) cells ≡ composition_of ms r (p + k)
-  pub entered : k < most → Entered ms r w (take (length ms) cells) 0
+pub record WentOn (f : Fronts) (p most k : ℕ) (cells out : List ℕ) : Type 0 where
+  pub copies : take (k * length f.job.upper.now) out ≡ copies_of f.job.upper.now f.job.total p k
+  pub next : shown f.job cells ≡ copy_of f.job (p + k)
+  pub entered : k < most → Enters f cells 0
 
--- of c copies from `first` on the first k are written, and 40 or more are left
-pub record Begun (ms : List ℕ) (r : ℕ) (first : List ℕ) (c k : ℕ) (out : List ℕ) : Type 0 where
-  pub left : k + 40 ≤ c
-  pub copies : take (k * length ms) out ≡ copies_from ms r first k
+-- of the copies of a job the first k are written, and 40 or more are left
+pub record Begun (job : Job) (k : ℕ) (out : List ℕ) : Type 0 where
+  pub left : k + 40 ≤ job.copies
+  pub copies : take (k * length job.upper.now) out ≡ copies_from job.upper.now job.total job.first k

@@ -1,6 +1,6 @@
 -- The lists: for each sum all that the first parts can be, in Walsh's order, one list behind the other.
-use Rattle.std.specs.Prelude.{◌≡◌, List, [], ◌++◌, ℕ, zero, suc, ◌+◌, ◌*◌, ◌≤◌, ◌<◌, length, get_or, take}
-use Rattle.walsh.specs.Sums.{sum}
+use Rattle.std.specs.Prelude.{◌≡◌, List, [], ◌++◌, ℕ, zero, suc, ◌+◌, ◌*◌, ◌≤◌, ◌<◌, min, length, get_or, take}
+use Rattle.walsh.specs.Sums.{sum, sum_to}
 use Rattle.walsh.specs.Order.{count_of}
 use Rattle.step.specs.Batch.{copies_of}
 
@@ -37,3 +37,16 @@ pub record ListsAll (u : List ℕ) (s number : ℕ) (out : List ℕ) : Type 0 wh
   pub number_is : number ≡ count_of u s
   pub room : number * length u ≤ length out
   pub held : take (number * length u) out ≡ all_of u s
+
+-- the largest sum that the first w parts may have in a composition
+abbrev pub most_of : List ℕ → ℕ → ℕ → ℕ
+most_of ms r w = min r (sum_to ms w)
+
+-- the lists of the first w parts, for each of their sums in a composition
+pub record Known (ms : List ℕ) (r w : ℕ) (entries starts : List ℕ) : Type 0 where
+  pub some : 0 < w
+  pub narrow : w ≤ 16
+  pub inside : w ≤ length ms
+  pub lists : Lists (take w ms) (most_of ms r w) entries starts
+  pub entry_bytes : length entries ≡ 12288
+  pub start_cells : length starts ≡ 257

@@ -1,13 +1,12 @@
 // The copies of a batch, block by block.
-ghost use Rattle.std.specs.Prelude.{◌≡◌, true, false, ◌++◌, ℕ, ◌+◌, ◌-◌, ◌*◌, ◌≤◌, ◌<◌, length, get_or, take};
+ghost use Rattle.std.specs.Prelude.{◌≡◌, true, false, ◌++◌, ℕ, ◌+◌, ◌-◌, ◌*◌, ◌≤◌, ◌<◌, length, get_or, take, drop};
 ghost use Rattle.walsh.specs.Order.{Composition, is_odd, count_of};
-ghost use Rattle.walsh.specs.Serial.{composition_of};
-ghost use Rattle.step.specs.Run.{Asked};
 ghost use Rattle.blocks.specs.Lists.{joined};
-ghost use Rattle.blocks.specs.Blocks.{Entered, listed_at, number_of, IsBlock, Readable, laid, Known, WentOn, Begun};
+ghost use Rattle.blocks.specs.Blocks.{Enters, listed_at, number_of, IsBlock, Readable, laid, shown, copy_of, WentOn, Begun};
 
+use crate::lists::{Fronts, sum_of};
 use bounds::copy;
-use walsh::{is_odd, lesser};
+use walsh::is_odd;
 
 // A copy is written by more bytes than its own, up to 40, which the next copies overwrite. So the last 40 copies are not written here.
 const MARGIN: usize = 40;
@@ -28,41 +27,56 @@ fn listed_at(falling: bool, count: usize, i: usize) -> usize
     if falling { count - 1 - i } else { i }
 }
 
-// The number in its block of the entry that is number `x` in the list of the sum `s`.
-pub(crate) fn entered_at(total: usize, starts: &[usize], s: usize, x: usize) -> usize
-    requires { (length starts.now ≡ 257) × (s ≤ 255) × (s ≤ total) × (get_or starts.now s 0 + x < get_or starts.now (s + 1) 0) }
-    ensures { result ≡ listed_at (is_odd (total - s)) (get_or starts.now (s + 1) 0 - get_or starts.now s 0) x }
-{
-    let low = starts[s];
-    let high = starts[s + 1];
-    listed_at(is_odd(total - s), high - low, x)
-}
-
-// The block whose first parts sum to `s`, from its entry number `i` on.
-fn block_of(total: usize, starts: &[usize], s: usize, i: usize) -> Block
-    requires { (length starts.now ≡ 257) × (s ≤ 255) × (s ≤ total) × (get_or starts.now s 0 + i < get_or starts.now (s + 1) 0) }
-    ensures { IsBlock total s (get_or starts.now s 0) (get_or starts.now (s + 1) 0) i result }
-{
-    let low = starts[s];
-    let high = starts[s + 1];
-    let falling = is_odd(total - s);
-    let from = low + listed_at(falling, high - low, i);
-    Block {
-        count: high - low - i,
-        from,
-        falling,
+impl Block {
+    // The number in the lists of entry `j` of a block.
+    fn number_of(self, j: usize) -> usize
+        requires { (self.falling ≡ true → j ≤ self.from) × (self.falling ≡ false → self.from + j ≤ 12288) }
+        ensures { result ≡ number_of self j }
+    {
+        if self.falling {
+            self.from - j
+        } else {
+            self.from + j
+        }
     }
 }
 
-// The number in the lists of entry `j` of a block.
-fn number_of(block: Block, j: usize) -> usize
-    requires { (block.falling ≡ true → j ≤ block.from) × (block.falling ≡ false → block.from + j ≤ 12288) }
-    ensures { result ≡ number_of block j }
+impl Fronts<'_> {
+    // The number in its block of the entry that is number `x` in the list of the sum `s`.
+    pub(crate) fn entered_at(&self, s: usize, x: usize) -> usize
+        requires { (s ≤ self.now.job.total) × (get_or self.now.starts s 0 + x < get_or self.now.starts (s + 1) 0) }
+        ensures { result ≡ listed_at (is_odd (self.now.job.total - s)) (get_or self.now.starts (s + 1) 0 - get_or self.now.starts s 0) x }
+    {
+        let low = self.starts[s];
+        let high = self.starts[s + 1];
+        listed_at(is_odd(self.job.total as usize - s), high - low, x)
+    }
+
+    // The block whose first parts sum to `s`, from its entry number `i` on.
+    fn block_of(&self, s: usize, i: usize) -> Block
+        requires { (s ≤ self.now.job.total) × (get_or self.now.starts s 0 + i < get_or self.now.starts (s + 1) 0) }
+        ensures { IsBlock self.now.job.total s (get_or self.now.starts s 0) (get_or self.now.starts (s + 1) 0) i result }
+    {
+        let low = self.starts[s];
+        let high = self.starts[s + 1];
+        let falling = is_odd(self.job.total as usize - s);
+        let from = low + listed_at(falling, high - low, i);
+        Block {
+            count: high - low - i,
+            from,
+            falling,
+        }
+    }
+}
+
+// Writes the first N bytes of `from` over those of `out`. (Speed: `copy_from_slice` asks each time whether the two overlap, and a batch takes 3 to 38 %
+// longer.)
+fn store<const N: usize>(from: &[u8], out: &mut [u8])
+    requires { (N ≤ length from.now) × (N ≤ length out.old) }
+    ensures { out.new ≡ take N from.now ++ drop N out.old }
 {
-    if block.falling {
-        block.from - j
-    } else {
-        block.from + j
+    for i in 0..N {
+        out[i] = from[i];
     }
 }
 
@@ -71,122 +85,77 @@ fn lay(entry: &[u8], width: usize, ending: &[u8], out: &mut [u8])
     requires { (length entry.now ≡ 16) × (length ending.now ≡ 24) × (width ≤ 16) × (40 ≤ length out.old) }
     ensures { (d : ℕ) → d ≤ 24 → take (width + d) out.new ≡ take width entry.now ++ take d ending.now }
 {
-    copy(entry, &mut out[..16]);
-    copy(ending, &mut out[width..width + 24]);
+    store::<16>(entry, out);
+    store::<24>(ending, &mut out[width..width + 24]);
 }
 
-// Writes `k` copies of a block, with the ending of `cells` behind each entry.
-fn write_block(
-    entries: &[u8],
-    width: usize,
-    n: usize,
-    block: Block,
-    cells: &[u8],
-    k: usize,
-    out: &mut [u8],
-)
-    requires { (0 < width) × (width ≤ 16) × (width ≤ n) × (n ≤ 24) × (length entries.now ≡ 12288) × (length cells.now ≡ 40)
-        × Readable width block k (length entries.now) × (k * n + 40 ≤ length out.old) }
-    ensures { take (k * n) out.new ≡ joined (laid entries.now width n block cells.now) k }
+// Writes `k` copies of a block, with the ending of `cells` behind each entry. (`at` is where the next copy starts.)
+fn write_block(fronts: &Fronts, block: Block, cells: &[u8; 40], k: usize, out: &mut [u8])
+    requires { Readable fronts.now.width block k 12288 × (k * length fronts.now.job.upper.now + 40 ≤ length out.old) }
+    ensures { take (k * length fronts.now.job.upper.now) out.new
+        ≡ joined (laid fronts.now block cells.now) k }
 {
+    let n = fronts.job.upper.len();
+    let width = fronts.width;
     let ending = bounds::pack(&cells[width..width + 24]);
     let mut at = 0;
-    let mut j = 0;
-    while j < k {
-        let from = number_of(block, j) * width;
-        lay(&entries[from..from + 16], width, &ending, &mut out[at..]);
+    for j in 0..k {
+        let from = block.number_of(j) * width;
+        lay(
+            &fronts.entries[from..from + 16],
+            width,
+            &ending,
+            &mut out[at..],
+        );
         at += n;
-        j += 1;
     }
 }
 
 // From entry `j` of a block, with the ending of `cells`, to the composition after it.
-fn go_on(
-    upper: &[u8],
-    total: u32,
-    entries: &[u8],
-    width: usize,
-    block: Block,
-    j: usize,
-    cells: &mut [u8],
-)
-    requires { (length upper.now ≤ 24) × (0 < width) × (width ≤ 16) × (width ≤ length upper.now) × (length entries.now ≡ 12288)
-        × (length cells.old ≡ 40) × Readable width block (j + 1) (length entries.now) }
-    ensures { (p : ℕ) → 0 < p → p < count_of upper.now total
-        → laid entries.now width (length upper.now) block cells.old j ≡ composition_of upper.now total p
-        → take (length upper.now) cells.new ≡ composition_of upper.now total (p + 1) }
+fn go_on(fronts: &Fronts, block: Block, j: usize, cells: &mut [u8; 40])
+    requires { Readable fronts.now.width block (j + 1) 12288 }
+    ensures { (p : ℕ) → 0 < p → p < count_of fronts.now.job.upper.now fronts.now.job.total
+        → laid fronts.now block cells.old j ≡ copy_of fronts.now.job p → shown fronts.now.job cells.new ≡ copy_of fronts.now.job (p + 1) }
 {
-    let n = upper.len();
-    let from = number_of(block, j) * width;
-    copy(&entries[from..from + width], &mut cells[..width]);
-    step::advance(upper, total, &mut cells[..n]);
+    let upper = fronts.job.upper;
+    let width = fronts.width;
+    let from = block.number_of(j) * width;
+    cells[..width].copy_from_slice(&fronts.entries[from..from + width]);
+    step::advance(upper, fronts.job.total, &mut cells[..upper.len()]);
 }
 
 // Writes the copies of a block from the composition in `cells` on, its entry number `i`, but `most` at most, and answers how many. The cells then have
 // the composition after them.
-fn next_block(
-    upper: &[u8],
-    total: u32,
-    width: usize,
-    entries: &[u8],
-    starts: &[usize],
-    i: usize,
-    most: usize,
-    cells: &mut [u8],
-    out: &mut [u8],
-) -> usize
-    requires { Known upper.now total width entries.now starts.now × Composition upper.now total (take (length upper.now) cells.old)
-        × Entered upper.now total width (take (length upper.now) cells.old) i × (length cells.old ≡ 40) × (0 < most)
-        × (most * length upper.now + 40 ≤ length out.old) }
+fn next_block(fronts: &Fronts, i: usize, most: usize, cells: &mut [u8; 40], out: &mut [u8]) -> usize
+    requires { Composition fronts.now.job.upper.now fronts.now.job.total (shown fronts.now.job cells.old) × Enters fronts.now cells.old i
+        × (0 < most) × (most * length fronts.now.job.upper.now + 40 ≤ length out.old) }
     ensures { (0 < result) × (result ≤ most)
-        × ((p : ℕ) → 0 < p → p + most ≤ count_of upper.now total
-        → take (length upper.now) cells.old ≡ composition_of upper.now total p
-        → WentOn upper.now total width p most result cells.new out.new) }
+        × ((p : ℕ) → 0 < p → p + most ≤ count_of fronts.now.job.upper.now fronts.now.job.total
+        → shown fronts.now.job cells.old ≡ copy_of fronts.now.job p → WentOn fronts.now p most result cells.new out.new) }
 {
-    let n = upper.len();
-    let s = crate::lists::sum_of(&cells[..width]);
-    let block = block_of(total as usize, starts, s, i);
-    let k = lesser(block.count, most);
-    write_block(entries, width, n, block, cells, k, out);
-    go_on(upper, total, entries, width, block, k - 1, cells);
+    let s = sum_of(&cells[..fronts.width]);
+    let block = fronts.block_of(s, i);
+    let k = block.count.min(most);
+    write_block(fronts, block, cells, k, out);
+    go_on(fronts, block, k - 1, cells);
     k
 }
 
-// Writes the copies from `first` on, entry number `index` of its block, but for the last 40, and answers how many.
-pub(crate) fn write(
-    upper: &[u8],
-    total: u32,
-    width: usize,
-    entries: &[u8],
-    starts: &[usize],
-    first: [u8; 24],
-    index: usize,
-    copies: usize,
-    out: &mut [u8],
-) -> usize
-    requires { Known upper.now total width entries.now starts.now × Asked upper.now total first copies (length out.old)
-        × (40 ≤ copies) × Entered upper.now total width (take (length upper.now) first) index }
-    ensures { Begun upper.now total first copies result out.new }
+// Writes the copies of a job from the first on, entry number `index` of its block, but for the last 40, and answers how many. (A `while`, since each
+// block has a number of copies of its own.)
+pub(crate) fn write(fronts: &Fronts, index: usize, out: &mut [u8]) -> usize
+    requires { (length out.old ≡ fronts.now.job.copies * length fronts.now.job.upper.now)
+        × Enters fronts.now fronts.now.job.first index }
+    ensures { Begun fronts.now.job result out.new }
 {
-    let n = upper.len();
-    let end = copies - MARGIN;
+    let n = fronts.job.upper.len();
+    let end = fronts.job.copies - MARGIN;
     let mut cells = [0u8; 40];
-    copy(&first, &mut cells);
+    copy(&fronts.job.first, &mut cells);
     let mut i = index;
     let mut j = 0;
     while j < end {
-        let at = j * n;
-        let k = next_block(
-            upper,
-            total,
-            width,
-            entries,
-            starts,
-            i,
-            end - j,
-            &mut cells,
-            &mut out[at..],
-        );
+        let k = next_block(fronts, i, end - j, &mut cells, &mut out[j * n..]);
         i = 0;
         j += k;
     }

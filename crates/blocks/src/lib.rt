@@ -3,98 +3,92 @@
 // block of the batch is such a list with the ending behind each entry (`copies`); between two blocks stands one step.
 #![tactic(auto)]
 
-ghost use Rattle.std.specs.Prelude.{◌≡◌, List, ℕ, ◌≤◌, length, take};
+ghost use Rattle.std.specs.Prelude.{◌≡◌, List, ℕ, ◌*◌, IfSome, length, take};
 ghost use Rattle.walsh.specs.Serial.{serial_of};
-ghost use Rattle.bounds.specs.Refusal.{first_refusal};
+ghost use Rattle.bounds.specs.Refusal.{refused, first_refusal};
 ghost use Rattle.bounds.specs.Edition.{edition_checks};
+ghost use Rattle.bounds.specs.Reason.{told};
 ghost use Rattle.bounds.specs.declared.Refusal.{Refusal};
 ghost use Rattle.step.specs.Batch.{copies_of, batch_of};
-ghost use Rattle.step.specs.Run.{Asked};
-ghost use Rattle.blocks.specs.Blocks.{Known, Begun};
+ghost use Rattle.blocks.specs.Blocks.{Begun};
 
-use bounds::{Refusal, refused};
-use rank::locate;
-use step::batch::room_refusal;
+use bounds::Reason;
+use rank::{Located, locate};
+use step::batch::check_room;
 
 mod copies;
+mod job;
 mod lists;
+
+use crate::job::Job;
+use crate::lists::Fronts;
 
 // From so many copies on a batch is written by blocks. The lists take as long as some 5,000 copies.
 const LONG: u64 = 20_000;
 
-// Writes the first copies by blocks, with the lists of the first `width` parts, and answers how many; none if `first` does not stand there.
-fn by_lists(
-    upper: &[u8],
-    total: u32,
-    width: usize,
-    entries: &[u8],
-    starts: &[usize],
-    first: [u8; 24],
-    copies: usize,
-    out: &mut [u8],
-) -> usize
-    requires { Known upper.now total width entries.now starts.now × Asked upper.now total first copies (length out.old)
-        × (40 ≤ copies) }
-    ensures { Begun upper.now total first copies result out.new }
+// Writes the first copies by blocks and answers how many; none where the first of them does not stand in the lists.
+fn by_lists(fronts: &Fronts, out: &mut [u8]) -> Option<usize>
+    requires { length out.old ≡ fronts.now.job.copies * length fronts.now.job.upper.now }
+    ensures { IfSome result (λ done. Begun fronts.now.job done out.new) }
 {
-    let s = lists::sum_of(&first[..width]);
-    let x = lists::place_of(&upper[..width], s, &first[..width]);
-    if x == 0 {
-        return 0;
-    }
-    let index = copies::entered_at(total as usize, starts, s, x - 1);
-    copies::write(
-        upper, total, width, entries, starts, first, index, copies, out,
-    )
+    let job = fronts.job;
+    let front = &job.first[..fronts.width];
+    let s = lists::sum_of(front);
+    let x = lists::place_of(&job.upper[..fronts.width], s, front)?;
+    let index = fronts.entered_at(s, x);
+    Some(copies::write(fronts, index, out))
 }
 
-// The same; none where the lists have no room or do not pay.
-fn by_blocks(upper: &[u8], total: u32, first: [u8; 24], copies: usize, out: &mut [u8]) -> usize
-    requires { Asked upper.now total first copies (length out.old) × (40 ≤ copies) }
-    ensures { Begun upper.now total first copies result out.new }
+// The same; none where the lists have no room or do not pay, too.
+fn by_blocks(job: Job, out: &mut [u8]) -> Option<usize>
+    requires { length out.old ≡ job.copies * length job.upper.now }
+    ensures { IfSome result (λ done. Begun job.entry done out.new) }
 {
-    let width = lists::width_of(upper);
-    if width == 0 {
-        return 0;
-    }
-    let most = lists::most_of(&upper[..width], total as usize);
-    let mut entries = [0u8; 12288];
-    let mut starts = [0usize; 257];
-    if !lists::fill(&upper[..width], most, &mut entries, &mut starts) {
-        return 0;
-    }
-    by_lists(upper, total, width, &entries, &starts, first, copies, out)
+    let fronts = Fronts::new(job)?;
+    by_lists(&fronts, out)
 }
 
 // Writes the copies: by blocks, and those that are left by runs.
-fn write(upper: &[u8], total: u32, serial: u64, first: [u8; 24], copies: u64, out: &mut [u8])
-    requires { ((first_refusal (edition_checks upper.now total)).number ≡ 0) × Asked upper.now total first copies (length out.old)
-        × (40 ≤ copies) × (serial ≡ serial_of upper.now total (take (length upper.now) first)) }
-    ensures { out.new ≡ copies_of upper.now total serial copies }
+fn write(job: Job, serial: u64, out: &mut [u8]) -> Result<(), Reason>
+    requires { ((first_refusal (edition_checks job.upper.now job.total)).number ≡ 0)
+        × (length out.old ≡ job.copies * length job.upper.now)
+        × (serial ≡ serial_of job.upper.now job.total (take (length job.upper.now) job.first)) }
+    ensures accepted { told result ≡ refused 0 0 }
+    ensures written { out.new ≡ copies_of job.entry.upper.now job.entry.total serial job.entry.copies }
 {
-    let done = by_blocks(upper, total, first, copies as usize, out);
-    let at = done * upper.len();
-    let n = done as u64;
-    step::batch::batch(upper, total, serial + n, copies - n, &mut out[at..]);
+    let done = by_blocks(job, out).unwrap_or(0);
+    let at = done * job.upper.len();
+    let left = job.copies - done;
+    step::batch::batch(
+        job.upper,
+        job.total,
+        serial + done as u64,
+        left as u64,
+        &mut out[at..],
+    )
 }
 
 // Writes `copies` compositions from that of `serial` on into `out`, or answers the refusal and writes nothing.
-pub fn batch(upper: &[u8], total: u32, serial: u64, copies: u64, out: &mut [u8]) -> Refusal
-    ensures { ◌≡◌ {A = Refusal × List ℕ} (result, out.new)
+pub fn batch(
+    upper: &[u8],
+    total: u32,
+    serial: u64,
+    copies: u64,
+    out: &mut [u8],
+) -> Result<(), Reason>
+    ensures { ◌≡◌ {A = Refusal × List ℕ} (told result, out.new)
         (batch_of upper.now total serial copies out.old) }
 {
     if copies < LONG {
         return step::batch::batch(upper, total, serial, copies, out);
     }
-    let first = locate(upper, total, serial);
-    if 0 < first.number {
-        return refused(first.number, first.detail);
-    }
-    let answer = room_refusal(first.count, upper.len(), serial, copies, out.len());
-    if 0 < answer.number {
-        return answer;
-    }
-    let parts = first.composition;
-    write(upper, total, serial, parts, copies, out);
-    answer
+    let Located { count, composition } = locate(upper, total, serial)?;
+    check_room(count, upper.len(), serial, copies, out.len())?;
+    let job = Job {
+        upper,
+        total,
+        first: composition,
+        copies: copies as usize,
+    };
+    write(job, serial, out)
 }

@@ -1,47 +1,52 @@
 // The lists: for each sum all that the first parts can be, in the order, one list behind the other.
-ghost use Rattle.std.specs.Prelude.{◌≡◌, true, ◌≤◌, ◌<◌, min, length};
+ghost use Rattle.std.specs.Prelude.{◌≡◌, true, ◌+◌, ◌≤◌, ◌<◌, IfSome, length};
 ghost use Rattle.walsh.specs.Sums.{sum_to};
 ghost use Rattle.walsh.specs.Serial.{serial_of};
-ghost use Rattle.blocks.specs.Lists.{Lists, ListsAll};
+ghost use Rattle.blocks.specs.Lists.{Lists, ListsAll, Known};
 
-use rank::Ranking;
-use walsh::{lesser, wide};
+use crate::job::Job;
 
 // The bytes that the lists may take. There are 16 more, since an entry is read by 16 bytes.
 const ROOM: usize = 12_272;
 
-// `w` parts, where three of them or more are left (have a bound that is not 0) and they have 16 entries or more for each of their sums on the average;
-// else none. A list of two parts is a run, and short blocks do not pay.
-fn worth(w: usize, number: usize, sums: usize, left: usize) -> usize
-    ensures { result ≤ w }
+// The lists for a job: those of its first `width` parts, by their sum. Before that of the sum s stand `starts[s]` entries. (Arrays and no `Vec`: the
+// project has no heap.)
+#[derive(Drop)]
+pub(crate) struct Fronts<'a> {
+    pub(crate) job: Job<'a>,
+    pub(crate) width: usize,
+    pub(crate) entries: [u8; 12288],
+    pub(crate) starts: [usize; 257],
+    ghost known: { Known job.upper.now job.total width entries starts },
+}
+
+// Three parts or more are left (have a bound that is not 0) and they have 16 entries or more for each of their sums on the average. A list of two
+// parts is a run, and short blocks do not pay.
+fn pays(number: usize, sums: usize, left: usize) -> bool
+    ensures { result ≡ true → 3 ≤ left }
 {
-    if left < 3 {
-        return 0;
-    }
-    if number / 16 < sums { 0 } else { w }
+    3 <= left && sums <= number / 16
 }
 
 // How many of the first parts are listed: as many as have room, but 16 at most; none where it does not pay.
-pub(crate) fn width_of(upper: &[u8]) -> usize
-    ensures { (result ≤ 16) × (result ≤ length upper.now) }
+fn width_of(upper: &[u8]) -> Option<usize>
+    ensures { IfSome result (λ w. (0 < w) × (w ≤ 16) × (w ≤ length upper.now)) }
 {
-    let most = lesser(upper.len(), 16);
+    let most = upper.len().min(16);
     let mut number = 1;
     let mut sums = 1;
     let mut left = 0;
-    let mut w = 0;
-    while w < most {
-        let m = wide(upper[w]);
+    for w in 0..most {
+        let m = usize::from(upper[w]);
         let more = number * (m + 1);
         if ROOM < more * (w + 1) {
-            return worth(w, number, sums, left);
+            return pays(number, sums, left).then_some(w);
         }
         number = more;
         sums += m;
-        left += lesser(m, 1);
-        w += 1;
+        left += m.min(1);
     }
-    worth(w, number, sums, left)
+    pays(number, sums, left).then_some(most)
 }
 
 // The sum of up to 24 parts or bounds.
@@ -50,72 +55,67 @@ pub(crate) fn sum_of(parts: &[u8]) -> usize
     ensures { result ≡ sum_to parts.now (length parts.now) }
 {
     let mut sum = 0;
-    let mut i = 0;
-    while i < parts.len() {
-        sum += wide(parts[i]);
-        i += 1;
+    for x in parts {
+        sum += usize::from(*x);
     }
     sum
 }
 
-// Writes all compositions of an edition over the beginning of `out` and answers how many there are; 0 where it is refused or there is no room.
-fn list_all(upper: &[u8], total: u32, out: &mut [u8]) -> usize
-    ensures { 0 < result → ListsAll upper.now total result out.new }
+// Writes all compositions of an edition over the beginning of `out` and answers how many there are; none where it is refused or there is no room.
+fn list_all(upper: &[u8], total: u32, out: &mut [u8]) -> Option<usize>
+    ensures { IfSome result (λ number. ListsAll upper.now total number out.new) }
 {
-    let n = count::row::number(upper, total);
-    if 0 < n.number {
-        return 0;
-    }
+    let n = count::row::number(upper, total).ok()?;
     let parts = upper.len();
-    if ((out.len() / parts) as u64) < n.count {
-        return 0;
+    if ((out.len() / parts) as u64) < n {
+        return None;
     }
-    let size = n.count as usize * parts;
-    let answer = step::batch::batch(upper, total, 1, n.count, &mut out[..size]);
-    if 0 < answer.number {
-        return 0;
-    }
-    n.count as usize
+    let number = n as usize;
+    step::batch::batch(upper, total, 1, n, &mut out[..number * parts]).ok()?;
+    Some(number)
 }
 
-// Fills the lists of the sums 0 to `most`, or answers false where they have no room. Before that of sum s stand `starts[s]` entries.
-pub(crate) fn fill(upper: &[u8], most: usize, entries: &mut [u8], starts: &mut [usize]) -> bool
+// Fills the lists of the sums 0 to `most`, or answers none where they have no room.
+fn fill(upper: &[u8], most: usize, entries: &mut [u8], starts: &mut [usize]) -> Option<()>
     requires { (most ≤ 255) × (16 ≤ length entries.old) × (length starts.old ≡ 257) }
-    ensures { result ≡ true → Lists upper.now most entries.new starts.new }
+    ensures { IfSome result (λ _. Lists upper.now most entries.new starts.new) }
 {
     let parts = upper.len();
     let end = entries.len() - 16;
     let mut number = 0;
-    let mut s = 0;
     starts[0] = 0;
-    while s <= most {
-        let at = number * parts;
-        let more = list_all(upper, s as u32, &mut entries[at..end]);
-        if more == 0 {
-            return false;
-        }
-        number += more;
-        s += 1;
-        starts[s] = number;
+    for s in 0..most + 1 {
+        number += list_all(upper, s as u32, &mut entries[number * parts..end])?;
+        starts[s + 1] = number;
     }
-    true
+    Some(())
 }
 
-// The largest sum of the first parts, with the bounds `upper`, in a composition of `total`.
-pub(crate) fn most_of(upper: &[u8], total: usize) -> usize
-    requires { length upper.now ≤ 24 }
-    ensures { result ≡ min total (sum_to upper.now (length upper.now)) }
-{
-    lesser(total, sum_of(upper))
+impl<'a> Fronts<'a> {
+    // The lists of the first parts, for each sum that they have in a composition; none where they have no room or do not pay.
+    pub(crate) fn new(job: Job<'a>) -> Option<Fronts<'a>>
+        ensures { IfSome result (λ fronts. fronts.job ≡ job.entry) }
+    {
+        let width = width_of(job.upper)?;
+        let front = &job.upper[..width];
+        let most = (job.total as usize).min(sum_of(front));
+        let mut entries = [0u8; 12288];
+        let mut starts = [0usize; 257];
+        fill(front, most, &mut entries, &mut starts)?;
+        Some(Fronts {
+            job,
+            width,
+            entries,
+            starts,
+        })
+    }
 }
 
-// The number from 1 of `parts` in the list of their sum; 0 where they do not stand there.
-pub(crate) fn place_of(upper: &[u8], sum: usize, parts: &[u8]) -> usize
+// The number from 0 of `parts` in the list of their sum; none where they do not stand there.
+pub(crate) fn place_of(upper: &[u8], sum: usize, parts: &[u8]) -> Option<usize>
     requires { sum ≤ 255 }
-    ensures { 0 < result → result ≡ serial_of upper.now sum parts.now }
+    ensures { IfSome result (λ x. x + 1 ≡ serial_of upper.now sum parts.now) }
 {
-    match rank::rank(upper, sum as u32, parts) {
-        Ranking::Serial(x) => x as usize,
-        Ranking::Refused(_, _) => 0,
-    }
+    let serial = rank::rank(upper, sum as u32, parts).ok()?;
+    Some(serial as usize - 1)
 }

@@ -1,5 +1,5 @@
 -- The answers of specs/Edition.antt, case by case.
-use mathlib.Core.Path.{◌≡◌, refl, sym, ap, ◌∙◌}
+use mathlib.Core.Path.{◌≡◌, refl, sym, ◌∙◌}
 use mathlib.Core.List.{List}
 use Prim.Native.Nat.{ℕ, ◌≤◌, ◌<◌}
 use native.Mathlib.Omega.{arith}
@@ -7,11 +7,10 @@ use lib.ListN.{take}
 use borrow.Author.Tests.{lt-ltb, le-ltb}
 use Rattle.walsh.specs.Order.{count_of}
 use Rattle.bounds.specs.Refusal.{refused, first_refusal}
-use Rattle.bounds.specs.Edition.{whole, shape_checks, limit_checks, edition_checks, shaped_of, record_checks}
+use Rattle.bounds.specs.Edition.{shape_checks, limit_checks, edition_checks, record_checks}
 use Rattle.bounds.specs.declared.Refusal.{Refusal}
-use Rattle.bounds.specs.declared.Shaped.{Shaped}
 use Rattle.bounds.specs.declared.Bounds.{Bounds}
-use Rattle.bounds.proofs.Refusals.{refusal_here, refusal_next, refusal_first, refusal_later, is_refused, is_accepted}
+use Rattle.bounds.proofs.Refusals.{refusal_here, refusal_next, refusal_first, refusal_later}
 
 module _ (ms : List ℕ) (r : ℕ) where
   abbrev shape : Refusal
@@ -19,18 +18,6 @@ module _ (ms : List ℕ) (r : ℕ) where
 
   abbrev edition : Refusal
   edition = first_refusal (edition_checks ms r)
-
-  -- ---- the checks 1 to 4
-
-  pub shaped_refused : (x : Shaped) → x ≡ shaped_of ms r → 0 < x.number → shape ≡ refused x.number x.detail
-  unfolding shaped_of
-  shaped_refused x e l = is_refused shape _ _ (λ (y : Shaped). y.number) (λ (y : Shaped). y.detail) refl refl refl x e l
-
-  pub shaped_accepted : (x : Shaped) → x ≡ shaped_of ms r → x.number ≡ 0 → (shape.number ≡ 0) × (x.all ≡ whole ms)
-  unfolding shaped_of
-  shaped_accepted x e z =
-      let p = is_accepted shape _ _ (λ (y : Shaped). y.number) (λ (y : Shaped). y.detail) refl refl refl x e z in
-      (p.0, ap (λ (y : Shaped). y.all) p.1)
 
   -- ---- the edition: refused by its shape, or by N, or not
 

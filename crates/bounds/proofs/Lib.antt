@@ -1,4 +1,5 @@
 pub mod Refusals
+pub mod Reasons
 pub mod Editions
 pub mod Answers
 pub mod Compositions

@@ -4,10 +4,8 @@ use Rattle.std.specs.Prelude.{Bool, cond, List, [], ◌∷◌, ◌++◌, ℕ, �
 use Rattle.walsh.specs.Tests.{either}
 use Rattle.walsh.specs.Sums.{sum_to}
 use Rattle.walsh.specs.Order.{count_of}
-use Rattle.bounds.specs.Refusal.{Check, check, first_refusal, decided}
-use Rattle.bounds.specs.declared.Refusal.{Refusal}
+use Rattle.bounds.specs.Refusal.{Check, check}
 use Rattle.bounds.specs.declared.Bounds.{Bounds}
-use Rattle.bounds.specs.declared.Shaped.{Shaped}
 
 -- "a ceiling is outside 1..60"; since request (ii) "number 2 is given only above 60"
 abbrev pub outside : ℕ → Bool
@@ -22,11 +20,14 @@ first_outside (m ∷ ms) i = cond (outside m) (i + 1) (first_outside ms (i + 1))
 abbrev pub whole : List ℕ → ℕ
 whole ms = sum_to ms (length ms)
 
+abbrev pub bound_check : List ℕ → Check
+bound_check ms = check 2 (ltb 0 (first_outside ms 0)) (first_outside ms 0)
+
 -- the place 'edition', without its last check
 abbrev pub shape_checks : List ℕ → ℕ → List Check
 shape_checks ms r =
     check 1 (either (eqb (length ms) 0) (ltb 24 (length ms))) 0
-    ∷ check 2 (ltb 0 (first_outside ms 0)) (first_outside ms 0)
+    ∷ bound_check ms
     ∷ check 3 (ltb 255 r) 0
     ∷ check 4 (ltb (whole ms) r) 0
     ∷ []
@@ -38,16 +39,6 @@ limit_checks ms r = check 5 (ltb 9223372036854775807 (count_of ms r)) 0 ∷ []
 -- the place 'edition'
 abbrev pub edition_checks : List ℕ → ℕ → List Check
 edition_checks ms r = shape_checks ms r ++ limit_checks ms r
-
--- the answer of the checks 1 to 4, with the sum of the ceilings where they refuse nothing
-abbrev pub shaped_by : Refusal → List ℕ → Shaped
-shaped_by v ms =
-    decided v
-    (record { number = 0; detail = 0; all = whole ms })
-    (record { number = v.number; detail = v.detail; all = 0 })
-
-unfoldable pub shaped_of : List ℕ → ℕ → Shaped
-shaped_of ms r = shaped_by (first_refusal (shape_checks ms r)) ms
 
 -- "the record keeps n, 24 cells and r"; "Array cells past n are 0."
 unfoldable pub cells_of : List ℕ → List ℕ

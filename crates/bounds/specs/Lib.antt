@@ -1,3 +1,4 @@
 pub mod Refusal
+pub mod Reason
 pub mod Edition
 pub mod Places

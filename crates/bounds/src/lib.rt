@@ -1,9 +1,10 @@
 // Editions (document 01, "Editions and their number"): the record, refusals as tables, and the checks 1 to 4. Check 5 asks for N: crate `count`.
 #![tactic(auto)]
 
-ghost use Rattle.std.specs.Prelude.{◌≡◌, ◌≤◌, length, take};
-ghost use Rattle.bounds.specs.Refusal.{refused};
-ghost use Rattle.bounds.specs.Edition.{whole, outside, first_outside, shaped_of, cells_of, blank_bounds};
+ghost use Rattle.std.specs.Prelude.{◌≡◌, ◌≤◌, [], ◌∷◌, IfOk, length, take};
+ghost use Rattle.bounds.specs.Refusal.{first_refusal};
+ghost use Rattle.bounds.specs.Reason.{coded, told};
+ghost use Rattle.bounds.specs.Edition.{whole, bound_check, shape_checks, cells_of, blank_bounds};
 ghost use Rattle.bounds.specs.Places.{copied};
 
 // The largest N that is accepted (document 01: number 5).
@@ -12,7 +13,10 @@ pub const LIMIT: u64 = 9_223_372_036_854_775_807;
 // The largest N of a ledger or a listing (document 01: number 14).
 pub const MOST_ENTRIES: u64 = 1_000_000;
 
-// A refusal's number and detail; 0 and 0 where nothing is refused.
+// The largest bound (document 01: number 2).
+const MOST_BOUND: u8 = 60;
+
+// A refusal's number and detail; 0 and 0 where nothing is refused. (Numbers and no `Result`: the C interface.)
 #[repr(C)]
 #[derive(Clone, Copy)]
 pub struct Refusal {
@@ -20,7 +24,7 @@ pub struct Refusal {
     pub detail: u64,
 }
 
-// document 01: an edition, as the record keeps it: n, 24 cells, r. Cells past n are 0.
+// document 01: an edition, as the record keeps it: n, 24 cells, r. Cells past n are 0. (A number of cells beside them, and no `Vec`: the C interface.)
 #[repr(C)]
 #[derive(Clone, Copy)]
 pub struct Bounds {
@@ -29,101 +33,174 @@ pub struct Bounds {
     pub total: u32,
 }
 
-pub fn refused(number: u32, detail: u64) -> Refusal
-    ensures { result ≡ refused number detail }
-{
-    Refusal { number, detail }
+// Why a call is refused, in the order of document 01's fixed numbers; a reason with a detail holds it.
+#[derive(Clone, Copy, Debug, PartialEq, Eq)]
+pub enum Reason {
+    // no parts, or more than 24
+    Parts,
+    // a bound over 60: the first such part, from 1
+    Bound(u64),
+    // a total over 255
+    Total,
+    // a total over the sum of the bounds
+    Sum,
+    // N over the limit
+    Limit,
+    // no serial of 1..N
+    Serial,
+    // a composition with another number of parts
+    Length,
+    // a part over its bound, or another sum
+    Composition,
+    // no composition on that side
+    NoStep,
+    // bounds that are no staircase
+    Staircase,
+    // no permutation
+    Permutation,
+    // a permutation with another number of inversions
+    Inversions,
+    // a lent part of another length than what is to be written
+    Room,
+    // N over `MOST_ENTRIES`
+    Entries,
+    // columns shorter than N
+    Columns,
+    // a record and columns that do not belong together
+    Ledger,
+    // order number 0
+    Order,
+    // a serial that is written already: the order that stands there
+    Written(u64),
+    // a serial after the next one, which is the detail
+    Ahead(u64),
+    // an order that stands in an earlier line: its serial
+    Repeated(u64),
+    // no serial left
+    Full,
+    // a text that asks for no listing
+    Request,
+    // a permutation with another major index
+    MajorIndex,
+    // a bundle of no orders or of too many, or with another number of item lines
+    Bundle,
+    // an item line outside 1..99
+    Item,
+    // an order number whose check digit is wrong
+    CheckDigit,
 }
 
-// What the checks 1 to 4 answer, and the sum of the bounds where they refuse nothing.
-#[derive(Clone, Copy)]
-pub struct Shaped {
-    pub number: u32,
-    pub detail: u64,
-    pub all: usize,
+impl Reason {
+    pub fn number(self) -> u32
+        ensures { result ≡ (coded self).number }
+    {
+        match self {
+            Reason::Parts => 1,
+            Reason::Bound(_) => 2,
+            Reason::Total => 3,
+            Reason::Sum => 4,
+            Reason::Limit => 5,
+            Reason::Serial => 6,
+            Reason::Length => 7,
+            Reason::Composition => 8,
+            Reason::NoStep => 9,
+            Reason::Staircase => 10,
+            Reason::Permutation => 11,
+            Reason::Inversions => 12,
+            Reason::Room => 13,
+            Reason::Entries => 14,
+            Reason::Columns => 15,
+            Reason::Ledger => 16,
+            Reason::Order => 17,
+            Reason::Written(_) => 18,
+            Reason::Ahead(_) => 19,
+            Reason::Repeated(_) => 20,
+            Reason::Full => 21,
+            Reason::Request => 22,
+            Reason::MajorIndex => 23,
+            Reason::Bundle => 24,
+            Reason::Item => 25,
+            Reason::CheckDigit => 26,
+        }
+    }
+
+    pub fn detail(self) -> u64
+        ensures { result ≡ (coded self).detail }
+    {
+        match self {
+            Reason::Bound(x) | Reason::Written(x) | Reason::Ahead(x) | Reason::Repeated(x) => x,
+            _ => 0,
+        }
+    }
 }
 
-// The first part, from 1, with a bound over 60, or 0; and the sum of the bounds before it.
-#[derive(Clone, Copy)]
-struct Scanned {
-    outside: usize,
-    all: usize,
+impl From<Reason> for Refusal {
+    ghost from_gives = { λ reason refusal. refusal ≡ coded reason };
+
+    fn from(reason: Reason) -> Refusal {
+        Refusal {
+            number: reason.number(),
+            detail: reason.detail(),
+        }
+    }
 }
 
-fn is_outside(m: usize) -> bool
-    ensures { result ≡ outside m }
-{
-    60 < m
+impl From<Result<(), Reason>> for Refusal {
+    ghost from_gives = { λ answer refusal. refusal ≡ told answer };
+
+    fn from(answer: Result<(), Reason>) -> Refusal {
+        match answer {
+            Ok(()) => Refusal {
+                number: 0,
+                detail: 0,
+            },
+            Err(reason) => reason.into(),
+        }
+    }
 }
 
-fn scan(upper: &[u8]) -> Scanned
+// The sum of up to 24 bounds, none of which is over 60.
+fn scan(upper: &[u8]) -> Result<usize, Reason>
     requires { length upper.now ≤ 24 }
-    ensures { (result.outside ≡ first_outside upper.now 0) × (result.outside ≡ 0 → result.all ≡ whole upper.now) }
+    ensures refusal { told result ≡ first_refusal (bound_check upper.now ∷ []) }
+    ensures sum { IfOk result (λ all. all ≡ whole upper.now) }
 {
     let mut all = 0;
-    let mut i = 0;
-    while i < upper.len() {
-        let m = walsh::wide(upper[i]);
-        if is_outside(m) {
-            return Scanned {
-                outside: i + 1,
-                all,
-            };
+    for (i, bound) in upper.iter().enumerate() {
+        if MOST_BOUND < *bound {
+            return Err(Reason::Bound(i as u64 + 1));
         }
+        let m = usize::from(*bound);
         all += m;
-        i += 1;
     }
-    Scanned { outside: 0, all }
+    Ok(all)
 }
 
-// The checks 1 to 4, in one pass over the bounds.
-pub fn shape(upper: &[u8], total: u32) -> Shaped
-    ensures { result ≡ shaped_of upper.now total }
+// The checks 1 to 4, in one pass over the bounds: their sum where nothing is refused. (Bounds and total come apart, here and in the crates above: so the C
+// interface lends them, and so every clause speaks of them.)
+pub fn shape(upper: &[u8], total: u32) -> Result<usize, Reason>
+    ensures refusal { told result ≡ first_refusal (shape_checks upper.now total) }
+    ensures sum { IfOk result (λ all. all ≡ whole upper.now) }
 {
-    let n = upper.len();
-    if n == 0 {
-        return unshaped(1, 0);
+    if upper.is_empty() || 24 < upper.len() {
+        return Err(Reason::Parts);
     }
-    if 24 < n {
-        return unshaped(1, 0);
-    }
-    let s = scan(upper);
-    if 0 < s.outside {
-        return unshaped(2, s.outside as u64);
-    }
+    let all = scan(upper)?;
     if 255 < total {
-        return unshaped(3, 0);
+        return Err(Reason::Total);
     }
-    if s.all < total as usize {
-        return unshaped(4, 0);
+    if all < total as usize {
+        return Err(Reason::Sum);
     }
-    Shaped {
-        number: 0,
-        detail: 0,
-        all: s.all,
-    }
+    Ok(all)
 }
 
-fn unshaped(number: u32, detail: u64) -> Shaped
-    ensures { result ≡ record { number = number; detail = detail; all = 0 } }
-{
-    Shaped {
-        number,
-        detail,
-        all: 0,
-    }
-}
-
-// Copies the beginning of `from` over the beginning of `out`, as many bytes as both have.
+// Copies the beginning of `from` over the beginning of `out`, as many bytes as both have. (The library's method asks for equal lengths.)
 pub fn copy(from: &[u8], out: &mut [u8])
     ensures { out.new ≡ copied from.now out.old }
 {
-    let n = walsh::lesser(from.len(), out.len());
-    let mut i = 0;
-    while i < n {
-        out[i] = from[i];
-        i += 1;
-    }
+    let n = from.len().min(out.len());
+    out[..n].copy_from_slice(&from[..n]);
 }
 
 // A list in 24 cells, with zeros behind it; of a longer one, the first 24.

@@ -35,106 +35,115 @@ before = omega arith
 min_le : (r s t : ℕ) → t ≤ min r s → t ≤ r
 min_le r s t l = omega arith
 
--- at a sum t of row k + 1
-module _ (ms : List ℕ) (r : ℕ) (part : Part) (p : Passing ms r part) (t : ℕ) (l : part.next.low ≤ t) (h : t ≤ part.next.high) where
-  at_high : t ≤ highest ms r (part.k + 1)
-  at_high = rw (← p.to.high) h
+module _ (part : Part) where
+  abbrev ms : List ℕ
+  ms = part.upper.now
 
-  pub at_total : t ≤ r
-  at_total = min_le r (sum_to ms (part.k + 1)) t at_high
+  abbrev r : ℕ
+  r = part.total
 
-  pub at_next : InBand ms r (part.k + 1) t
-  at_next = band_ends ms r (part.k + 1) t (rw (← p.to.low) l) at_high
+  abbrev p : Passing ms r part.k part.m part.row part.next
+  p = part.passing
 
-  pub at_low : lowest ms r part.k ≤ t
-  at_low = le_trans (low_high ms r part.k p.reached p.given).1 (rw (← p.to.low) l)
+  -- at a sum t of row k + 1
+  module _ (t : ℕ) (l : part.next.low ≤ t) (h : t ≤ part.next.high) where
+    at_high : t ≤ highest ms r (part.k + 1)
+    at_high = rw (← p.to.high) h
 
-  -- the cell that leaves, where there is one
-  pub leaving_in : t ≤ part.row.high → InBand ms r part.k t
-  leaving_in g = band_ends ms r part.k t at_low (rw (← p.from.high) g)
+    pub at_total : t ≤ r
+    at_total = min_le r (sum_to ms (part.k + 1)) t at_high
 
-  pub passed_none : part.row.high < t → 0 ≡ count ms part.k t
-  passed_none g = sym (count_none ms part.k t (beyond r (sum_to ms part.k) part.row.high t p.from.high g at_total))
+    pub at_next : InBand ms r (part.k + 1) t
+    at_next = band_ends ms r (part.k + 1) t (rw (← p.to.low) l) at_high
 
-  -- and the cell that enters
-  full_at : part.row.low + part.m < t → lowest ms r part.k + part.m < t
-  full_at g = rw (← p.from.low) g
+    pub at_low : lowest ms r part.k ≤ t
+    at_low = le_trans (low_high ms r part.k p.reached p.given).1 (rw (← p.to.low) l)
 
-  pub entering_in : part.row.low + part.m < t → InBand ms r part.k (t - (part.m + 1))
-  entering_in g = behind_in ms r part.k t part.m p.bound at_high (full_at g)
+    -- the cell that leaves, where there is one
+    pub leaving_in : t ≤ part.row.high → InBand ms r part.k t
+    leaving_in g = band_ends ms r part.k t at_low (rw (← p.from.high) g)
 
-  module _ (w : ℕ) (cells : List ℕ) (s : Passed ms r part.k (t + 1) w cells) where
-    pub leaving_most : (x : ℕ) → x ≡ count ms part.k t → x ≤ w
-    leaving_most x ex = fall_leaves ms r part.k t part.m w x 0 s.window p.bound at_low ex
+    pub passed_none : part.row.high < t → 0 ≡ count ms part.k t
+    passed_none g = sym (count_none ms part.k t (beyond r (sum_to ms part.k) part.row.high t p.from.high g at_total))
 
-    move_over : (x y v : ℕ) → part.row.low + part.m < t → x ≡ count ms part.k t → y ≡ count ms part.k (t - (part.m + 1)) → v ≡ w - x + y
-        → Moved ms r part.k t v
-    move_over x y v g ex ey ev =
-        let slid : Slid ms r part.k t v = rw ev (fall_over ms r part.k t part.m w x y s.window p.bound (full_at g) ex ey) in
-        let c = fall_count ms r part.k t v p.given p.reached slid (rw (← p.bound) (full_at g)) at_high in
-        record {
-          slid = slid;
-          within = λ q. rw c.1 (q (t - 1) c.0);
-          over = λ q. le_trans (rw c.1 at q) (band_most ms r (part.k + 1) (t - 1) (suc_le p.given) c.0);
-        }
+    -- and the cell that enters
+    full_at : part.row.low + part.m < t → lowest ms r part.k + part.m < t
+    full_at g = rw (← p.from.low) g
 
-    move_under : (x v : ℕ) → t ≤ part.row.low + part.m → x ≡ count ms part.k t → v ≡ w - x → Moved ms r part.k t v
-    move_under x v g ex ev =
-        record {
-          slid = rw ev (fall_under ms r part.k t part.m w x 0 s.window p.bound at_low (rw (← p.from.low) g) ex);
-          within = λ q. less s.small;
-          over = λ q. absurd (omega (arith, q, less s.small));
-        }
-      where
-        less : w < cap → v < cap
-        less q = omega arith
+    pub entering_in : part.row.low + part.m < t → InBand ms r part.k (t - (part.m + 1))
+    entering_in g = behind_in ms r part.k t part.m p.bound at_high (full_at g)
 
-    -- x leaves, and y enters where a cell does
-    pub moves : (enters : Bool) (x y v : ℕ) → Enters part.row part.m t enters → x ≡ count ms part.k t
-        → (enters ≡ true → y ≡ count ms part.k (t - (part.m + 1))) → (enters ≡ false → y ≡ 0) → v ≡ w - x + y → Moved ms r part.k t v
-    moves enters x y v q ex ey ez ev =
-        on_test enters
-        (λ h. move_over x y v (q.entering h) ex (ey h) ev)
-        (λ h. move_under x v (q.staying h) ex (ev ∙ rw (ez h) (add-zero (w - x))))
+    module _ (w : ℕ) (cells : List ℕ) (s : Passed ms r part.k (t + 1) w cells) where
+      pub leaving_most : (x : ℕ) → x ≡ count ms part.k t → x ≤ w
+      leaving_most x ex = fall_leaves ms r part.k t part.m w x 0 s.window p.bound at_low ex
 
-    -- the window's number is stored
-    pub stored : (v : ℕ) → t < 256 → Slid ms r part.k t v → v < cap → Passed ms r part.k t v (set cells t w)
-    stored v b slid small =
-        record {
-          long = length-set cells t w ∙ s.long;
-          below = λ u i a c. let old = s.below u i a (lt_suc c) in (get_or-set_other cells t u w 0 (λ q. omega (arith, c, q)) ∙ old.0, old.1);
-          above = λ u i a c. on_less t u
-              (λ tu _. let old = s.above u i (suc_le tu) c in (get_or-set_other cells t u w 0 (λ q. omega (arith, tu, q)) ∙ old.0, old.1))
-              (λ ut _. let q : t ≡ u = omega arith in subst Here q here);
-          window = slid;
-          small = small;
-        }
-      where
-        is : w ≡ count ms (part.k + 1) t
-        is = slid_done ms r part.k t w p.given p.reached s.window (rw (← p.to.low) l)
+      move_over : (x y v : ℕ) → part.row.low + part.m < t → x ≡ count ms part.k t → y ≡ count ms part.k (t - (part.m + 1)) → v ≡ w - x + y
+          → Moved ms r part.k t v
+      move_over x y v g ex ey ev =
+          let slid : Slid ms r part.k t v = rw ev (fall_over ms r part.k t part.m w x y s.window p.bound (full_at g) ex ey) in
+          let c = fall_count ms r part.k t v p.given p.reached slid (rw (← p.bound) (full_at g)) at_high in
+          record {
+            slid = slid;
+            within = λ q. rw c.1 (q (t - 1) c.0);
+            over = λ q. le_trans (rw c.1 at q) (band_most ms r (part.k + 1) (t - 1) (suc_le p.given) c.0);
+          }
 
-        Here : ℕ → Type 0
-        Here n = (get_or (set cells t w) n 0 ≡ count ms (part.k + 1) n) × (count ms (part.k + 1) n < cap)
+      move_under : (x v : ℕ) → t ≤ part.row.low + part.m → x ≡ count ms part.k t → v ≡ w - x → Moved ms r part.k t v
+      move_under x v g ex ev =
+          record {
+            slid = rw ev (fall_under ms r part.k t part.m w x 0 s.window p.bound at_low (rw (← p.from.low) g) ex);
+            within = λ q. less s.small;
+            over = λ q. absurd (omega (arith, q, less s.small));
+          }
+        where
+          less : w < cap → v < cap
+          less q = omega arith
 
-        here : Here t
-        here = (get_or-set_same cells t w 0 (rw s.long b) ∙ is, rw is at s.small)
+      -- x leaves, and y enters where a cell does
+      pub moves : (enters : Bool) (x y v : ℕ) → Enters part.row part.m t enters → x ≡ count ms part.k t
+          → (enters ≡ true → y ≡ count ms part.k (t - (part.m + 1))) → (enters ≡ false → y ≡ 0) → v ≡ w - x + y → Moved ms r part.k t v
+      moves enters x y v q ex ey ez ev =
+          on_test enters
+          (λ h. move_over x y v (q.entering h) ex (ey h) ev)
+          (λ h. move_under x v (q.staying h) ex (ev ∙ rw (ez h) (add-zero (w - x))))
 
-        lt_suc : {u : ℕ} → u < t → u < t + 1
-        lt_suc q = omega arith
+      -- the window's number is stored
+      pub stored : (v : ℕ) → t < 256 → Slid ms r part.k t v → v < cap → Passed ms r part.k t v (set cells t w)
+      stored v b slid small =
+          record {
+            long = length-set cells t w ∙ s.long;
+            below = λ u i a c. let old = s.below u i a (lt_suc c) in (get_or-set_other cells t u w 0 (λ q. omega (arith, c, q)) ∙ old.0, old.1);
+            above = λ u i a c. on_less t u
+                (λ tu _. let old = s.above u i (suc_le tu) c in (get_or-set_other cells t u w 0 (λ q. omega (arith, tu, q)) ∙ old.0, old.1))
+                (λ ut _. let q : t ≡ u = omega arith in subst Here q here);
+            window = slid;
+            small = small;
+          }
+        where
+          is : w ≡ count ms (part.k + 1) t
+          is = slid_done ms r part.k t w p.given p.reached s.window (rw (← p.to.low) l)
 
--- the first window of row k + 1 has the cells from a up to the row's end
-module _ (ms : List ℕ) (r : ℕ) (part : Part) (p : Passing ms r part) where
+          Here : ℕ → Type 0
+          Here n = (get_or (set cells t w) n 0 ≡ count ms (part.k + 1) n) × (count ms (part.k + 1) n < cap)
+
+          here : Here t
+          here = (get_or-set_same cells t w 0 (rw s.long b) ∙ is, rw is at s.small)
+
+          lt_suc : {u : ℕ} → u < t → u < t + 1
+          lt_suc q = omega arith
+
+  -- the first window of row k + 1 has the cells from a up to the row's end
   abbrev f : ℕ → ℕ
   f = count ms part.k
 
   next_left : sum_to ms (part.k + 1) ≡ sum_to ms part.k + part.m
-  next_left = rw p.bound (sum_to_step ms part.k)
+  next_left = omega (arith, p.bound, sum_to_step ms part.k)
 
   pub next_rises : part.next.low ≤ part.next.high
-  next_rises = rw (p.to.low, p.to.high) (low_high ms r part.k p.reached p.given).0
+  next_rises = omega (arith, p.to.low, p.to.high, (low_high ms r part.k p.reached p.given).0)
 
   pub top_next : InBand ms r (part.k + 1) part.next.high
-  top_next = at_next ms r part p part.next.high next_rises (le_refl _)
+  top_next = at_next part.next.high next_rises (le_refl _)
 
   high_rises : part.row.high ≤ part.next.high
   high_rises = go (sum_to ms part.k) (sum_to ms (part.k + 1)) p.from.high p.to.high next_left

@@ -14,8 +14,7 @@ use Rattle.walsh.proofs.Cases.{on_test}
 use Rattle.mahonian.specs.Mahonian.{top, in_table}
 use Rattle.mahonian.specs.Staircase.{staircase, is_staircase}
 use Rattle.mahonian.specs.Read.{staircase_count_of}
-use Rattle.mahonian.specs.declared.Entry.{Entry}
-use Rattle.mahonian.specs.declared.Entry.TheVariants.{Count, Outside}
+use Rattle.std.proofs.Common.{Option, Some, None}
 use Rattle.mahonian.proofs.Rows.{staircase_sum}
 use Rattle.mahonian.proofs.Staircase.{staircase_iff}
 use Rattle.bounds.specs.Refusal.{first_refusal}
@@ -46,7 +45,7 @@ module _ (ms : List ℕ) (r : ℕ) where
       (ne_eqb n 0 (omega arith), le-ltb 24 n (omega arith), none, le-ltb 255 r (omega arith), le-ltb (whole ms) r (rw sums reached))
       refl
 
-pub staircase_shape : (ms : List ℕ) (r : ℕ) (x : Entry) (n : ℕ) → x ≡ staircase_count_of ms r → x ≡ Count n
+pub staircase_shape : (ms : List ℕ) (r : ℕ) (x : Option ℕ) (n : ℕ) → x ≡ staircase_count_of ms r → x ≡ Some n
     → (first_refusal (shape_checks ms r)).number ≡ 0
 unfolding staircase_count_of
 staircase_shape ms r x n e q =
@@ -59,4 +58,4 @@ staircase_shape ms r x n e q =
     (leb-true 2 (suc (length ms)) (both_left _ _ i))
     (leb-true (suc (length ms)) 16 (both_left _ _ j))
     (leb-true r (top (suc (length ms))) (both_right (leb (suc (length ms)) 16) _ j)))
-    (λ t. let c : x ≡ Outside = rw t at e in cc)
+    (λ t. let c : x ≡ None = rw t at e in cc)

@@ -14,12 +14,12 @@ use Rattle.band.specs.Window.{Slid}
 use Rattle.band.proofs.Numbers.{no, no', below_256}
 use Rattle.band.proofs.Bands.{low_next}
 use Rattle.band.proofs.Stretches.{up_to_lem, between, beyond}
-use Rattle.count.specs.Row.{Passing, RowCounts, Passed, Stretch, IsStretches}
+use Rattle.count.specs.Row.{RowCounts, Passed, Stretch, IsStretches}
 use Rattle.count.specs.declared.row.Part.{Part}
 use Rattle.count.specs.declared.row.Stretches.{Stretches}
 use Rattle.count.proofs.Rows.{next_rises}
 
-module _ (ms : List ℕ) (r : ℕ) (part : Part) (p : Passing ms r part) (s : Stretches) (i : IsStretches part s) where
+module _ (part : Part) (s : Stretches) (i : IsStretches part.row part.next part.m s) where
   abbrev high : ℕ
   high = part.row.high
 
@@ -33,7 +33,7 @@ module _ (ms : List ℕ) (r : ℕ) (part : Part) (p : Passing ms r part) (s : St
   past_both t h = beyond high full least t refl (omega (arith, i.first))
 
   low_full : part.next.low ≤ full
-  low_full = rw (p.to.low, p.from.low, p.bound) (low_next ms r part.k p.given)
+  low_full = rw (part.passing.to.low, part.passing.from.low, part.passing.bound) (low_next part.upper.now part.total part.k part.passing.given)
 
   low_first : part.next.low ≤ s.first
   low_first = omega (arith, i.first, low_full)
@@ -81,23 +81,23 @@ module _ (ms : List ℕ) (r : ℕ) (part : Part) (p : Passing ms r part) (s : St
 
       -- they end at the row's lowest sum
       pub ends : (t : ℕ) → t ≡ min last part.next.low → t ≡ part.next.low
-      ends t et = omega (arith, et, q, e, i.from, i.second, low_first, next_rises ms r part p)
+      ends t et = omega (arith, et, q, e, i.from, i.second, low_first, next_rises part)
 
 -- before the row is written, and when it is
-module _ (ms : List ℕ) (r : ℕ) (part : Part) (p : Passing ms r part) (w : ℕ) (cells : List ℕ) where
-  pub unwritten : length cells ≡ 256 → RowCounts ms r cells part.k 0 256 → Slid ms r part.k (part.next.high + 1) w → w < cap
-      → Passed ms r part.k (part.next.high + 1) w cells
+module _ (part : Part) (w : ℕ) (cells : List ℕ) where
+  pub unwritten : length cells ≡ 256 → RowCounts part.upper.now part.total cells part.k 0 256 → Slid part.upper.now part.total part.k (part.next.high + 1) w → w < cap
+      → Passed part.upper.now part.total part.k (part.next.high + 1) w cells
   unwritten long old s small =
       record {
         long = long;
-        below = λ u i a b. old u i a (below_256 (le_trans i.high p.small));
-        above = λ u i a b. absurd (omega (arith, i.high, i.inside, p.to.high, a));
+        below = λ u i a b. old u i a (below_256 (le_trans i.high part.passing.small));
+        above = λ u i a b. absurd (omega (arith, i.high, i.inside, part.passing.to.high, a));
         window = s;
         small = small;
       }
 
-  pub written : (t : ℕ) → t ≡ part.next.low → Passed ms r part.k t w cells → RowCounts ms r cells (part.k + 1) 0 256
+  pub written : (t : ℕ) → t ≡ part.next.low → Passed part.upper.now part.total part.k t w cells → RowCounts part.upper.now part.total cells (part.k + 1) 0 256
   written t e s u i a b = s.above u i (le i.low) b
     where
-      le : r ≤ u + (whole ms - sum_to ms (part.k + 1)) → t ≤ u
-      le h = omega (arith, e, p.to.low)
+      le : part.total ≤ u + (whole part.upper.now - sum_to part.upper.now (part.k + 1)) → t ≤ u
+      le h = omega (arith, e, part.passing.to.low)

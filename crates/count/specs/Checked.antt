@@ -1,11 +1,19 @@
 -- Document 01, "Editions and their number": an accepted edition's record and N.
-use Rattle.std.specs.Prelude.{List, ℕ, take}
+use Rattle.std.specs.Prelude.{List, ℕ, Result, Ok, Err, take}
 use Rattle.walsh.specs.Order.{count_of}
 use Rattle.bounds.specs.Refusal.{first_refusal, decided}
 use Rattle.bounds.specs.Edition.{edition_checks, bounds_of, blank_bounds, record_checks}
 use Rattle.bounds.specs.declared.Refusal.{Refusal}
 use Rattle.bounds.specs.declared.Bounds.{Bounds}
+use Rattle.bounds.specs.declared.Reason.{Reason}
+use Rattle.bounds.specs.Reason.{coded}
+use Rattle.count.specs.declared.Accepted.{Accepted}
 use Rattle.count.specs.declared.Checked.{Checked}
+
+-- an answer as C gets it: this paper's number and detail, and the record with N
+abbrev pub checked_of : Result Accepted Reason → Checked
+checked_of (Ok edition) = record { number = 0; detail = 0; bounds = edition.bounds; count = edition.count }
+checked_of (Err reason) = record { number = (coded reason).number; detail = (coded reason).detail; bounds = blank_bounds; count = 0 }
 
 -- the record and N, and all zeros with the number and detail of a refusal
 abbrev pub checked_by : Refusal → List ℕ → ℕ → Checked

@@ -1,12 +1,17 @@
 -- How N is counted in one row of cells, a cell for each sum: the row of one part more is written over it from its highest sum down.
 use Rattle.std.specs.Prelude.{◌≡◌, Bool, true, false, List, ℕ, ◌+◌, ◌≤◌, ◌<◌, min, max, ltb, length, get_or}
 use Rattle.walsh.specs.Order.{count}
-use Rattle.bounds.specs.Edition.{whole}
+use Rattle.bounds.specs.Refusal.{first_refusal}
+use Rattle.bounds.specs.Edition.{whole, shape_checks}
 use Rattle.band.specs.Band.{InBand, lowest, highest, cap}
 use Rattle.band.specs.Window.{Slid}
 use Rattle.count.specs.declared.row.Ends.{Ends}
-use Rattle.count.specs.declared.row.Part.{Part}
 use Rattle.count.specs.declared.row.Stretches.{Stretches}
+
+-- a shape that is accepted, and the sum of its bounds
+pub record Shaped (ms : List ℕ) (r all : ℕ) : Type 0 where
+  pub accepted : (first_refusal (shape_checks ms r)).number ≡ 0
+  pub all_is : all ≡ whole ms
 
 -- the code's numbers of row k
 pub record IsEnds (ms : List ℕ) (r k : ℕ) (e : Ends) : Type 0 where
@@ -14,14 +19,14 @@ pub record IsEnds (ms : List ℕ) (r k : ℕ) (e : Ends) : Type 0 where
   pub high : e.high ≡ highest ms r k
 
 -- what does not change while row k + 1 is written over row k; m is the bound of part k
-pub record Passing (ms : List ℕ) (r : ℕ) (part : Part) : Type 0 where
-  pub given : part.k < length ms
+pub record Passing (ms : List ℕ) (r k m : ℕ) (row next : Ends) : Type 0 where
+  pub given : k < length ms
   pub small : r ≤ 255
   pub reached : r ≤ whole ms
-  pub bound : part.m ≡ get_or ms part.k 0
-  pub narrow : part.m ≤ 255
-  pub from : IsEnds ms r part.k part.row
-  pub to : IsEnds ms r (part.k + 1) part.next
+  pub bound : m ≡ get_or ms k 0
+  pub narrow : m ≤ 255
+  pub from : IsEnds ms r k row
+  pub to : IsEnds ms r (k + 1) next
 
 -- the cells of the sums of row k from a on and below b have their counts, which are within the limit
 abbrev pub RowCounts : List ℕ → ℕ → List ℕ → ℕ → ℕ → ℕ → Type 0
@@ -68,8 +73,8 @@ pub record Stretch (row next : Ends) (m from end : ℕ) (enters leaves : Bool) :
 
 -- a cell leaves the window up to the highest sum of the row before, and one enters it past the lowest and the bound: the code's numbers of the three
 -- stretches, past both, between the two, and up to both
-pub record IsStretches (part : Part) (s : Stretches) : Type 0 where
-  pub from : s.from ≡ part.next.high + 1
-  pub first : s.first ≡ max part.row.high (part.row.low + part.m) + 1
-  pub second : s.second ≡ max part.next.low (min part.row.high (part.row.low + part.m) + 1)
-  pub both : s.both ≡ ltb (part.row.low + part.m) part.row.high
+pub record IsStretches (row next : Ends) (m : ℕ) (s : Stretches) : Type 0 where
+  pub from : s.from ≡ next.high + 1
+  pub first : s.first ≡ max row.high (row.low + m) + 1
+  pub second : s.second ≡ max next.low (min row.high (row.low + m) + 1)
+  pub both : s.both ≡ ltb (row.low + m) row.high

@@ -1,20 +1,25 @@
 // An edition with its number N (document 01, "Editions and their number"): the checks 1 to 5, of lent bounds and of a record that nobody has checked.
 #![tactic(auto)]
 
-ghost use Rattle.std.specs.Prelude.{◌≡◌, true, List, ℕ, ◌*◌, ◌≤◌, ◌<◌, length};
+ghost use Rattle.std.specs.Prelude.{◌≡◌, List, ℕ, ◌*◌, ◌≤◌, ◌<◌, IfSome, IfOk, length};
 ghost use Rattle.bounds.specs.Refusal.{first_refusal};
-ghost use Rattle.bounds.specs.Edition.{whole, blank_bounds, edition_checks};
-ghost use Rattle.count.specs.Checked.{check_of, record_of};
-ghost use Rattle.count.specs.Row.{UpTo, Within};
+ghost use Rattle.bounds.specs.Reason.{told};
+ghost use Rattle.bounds.specs.Edition.{shape_checks, edition_checks};
+ghost use Rattle.count.specs.Checked.{checked_of, check_of, record_of};
+ghost use Rattle.count.specs.Row.{Shaped, UpTo, Within};
 
-use bounds::{Bounds, LIMIT, Refusal, refused};
+use bounds::{Bounds, LIMIT, Reason};
 
 pub mod row;
 
-// 2^55: a smaller number times 256 is within the limit.
-const SMALL: u64 = 36_028_797_018_963_968;
+// An accepted edition and N.
+#[derive(Clone, Copy)]
+pub struct Accepted {
+    pub bounds: Bounds,
+    pub count: u64,
+}
 
-// An accepted edition and N, or the refusal, with all else 0.
+// The same; or the refusal, with all else 0. (A number and no `Result`: the C interface.)
 #[repr(C)]
 #[derive(Clone, Copy)]
 pub struct Checked {
@@ -24,51 +29,73 @@ pub struct Checked {
     pub count: u64,
 }
 
-fn refuse(number: u32, detail: u64) -> Checked
-    ensures { result ≡ record { number = number; detail = detail; bounds = blank_bounds; count = 0 } }
-{
-    Checked {
-        number,
-        detail,
-        bounds: bounds::blank(),
-        count: 0,
+impl From<Result<Accepted, Reason>> for Checked {
+    ghost from_gives = { λ answer checked. checked ≡ checked_of answer };
+
+    fn from(answer: Result<Accepted, Reason>) -> Checked {
+        match answer {
+            Ok(edition) => Checked {
+                number: 0,
+                detail: 0,
+                bounds: edition.bounds,
+                count: edition.count,
+            },
+            Err(reason) => Checked {
+                number: reason.number(),
+                detail: reason.detail(),
+                bounds: bounds::blank(),
+                count: 0,
+            },
+        }
     }
+}
+
+// A shape that is accepted, and the sum of its bounds.
+#[derive(Clone, Copy)]
+struct Shape<'a> {
+    upper: &'a [u8],
+    total: u32,
+    all: usize,
+    ghost shaped: { Shaped upper.now total all },
+}
+
+// The checks 1 to 4.
+fn survey(upper: &[u8], total: u32) -> Result<Shape<'_>, Reason>
+    ensures refusal { told result ≡ first_refusal (shape_checks upper.now total) }
+    ensures shape { IfOk result (λ s. (s.upper.now ≡ upper.now) × (s.total ≡ total)) }
+{
+    let all = bounds::shape(upper, total)?;
+    Ok(Shape { upper, total, all })
 }
 
 // The edition's record and N, or the first of the refusals 1 to 5 that holds.
-pub fn check(upper: &[u8], total: u32) -> Checked
-    ensures { result ≡ check_of upper.now total }
+pub fn check(upper: &[u8], total: u32) -> Result<Accepted, Reason>
+    ensures { checked_of result ≡ check_of upper.now total }
 {
-    let n = row::number(upper, total);
-    if 0 < n.number {
-        return refuse(n.number, n.detail);
-    }
-    Checked {
-        number: 0,
-        detail: 0,
+    let count = row::number(upper, total)?;
+    Ok(Accepted {
         bounds: bounds::record(upper, total),
-        count: n.count,
-    }
+        count,
+    })
 }
 
 // The same of a record that nobody has checked. Where it is accepted, the cells past n are 0 in the answer.
-pub fn check_record(bounds: Bounds) -> Checked
-    ensures { result ≡ record_of bounds }
+pub fn check_record(bounds: Bounds) -> Result<Accepted, Reason>
+    ensures { checked_of result ≡ record_of bounds }
 {
     let n = bounds.parts;
     if 24 < n {
-        return refuse(1, 0);
+        return Err(Reason::Parts);
     }
     let upper = bounds.upper;
     check(&upper[..n], bounds.total)
 }
 
-// True only where a product is within the limit; the division is seldom needed.
-fn is_within(a: u64, b: u64) -> bool
-    requires { (0 < b) × (b ≤ 256) }
-    ensures { result ≡ true → a * b ≤ 9223372036854775807 }
+// A product, if it is within the limit.
+fn limited_product(a: u64, b: u64) -> Option<u64>
+    ensures { IfSome result (λ p. (p ≡ a * b) × (p ≤ 9223372036854775807)) }
 {
-    if a < SMALL { true } else { a <= LIMIT / b }
+    a.checked_mul(b).filter(|p| *p <= LIMIT)
 }
 
 // Of how many first parts the product of the numbers of values of all but the widest is within the limit, where no value is over `most`: then every
@@ -78,18 +105,16 @@ fn few_values(upper: &[u8], most: usize) -> usize
 {
     let mut product: u64 = 1;
     let mut widest: usize = 1;
-    let mut k = 0;
-    while k < upper.len() {
-        let values = walsh::lesser(walsh::wide(upper[k]), most) + 1;
-        let factor = walsh::lesser(values, widest);
+    for (k, bound) in upper.iter().enumerate() {
+        let values = usize::from(*bound).min(most) + 1;
+        let factor = values.min(widest);
         widest = values + widest - factor;
-        if !is_within(product, factor as u64) {
-            return k;
+        match limited_product(product, factor as u64) {
+            Some(more) => product = more,
+            None => return k,
         }
-        product *= factor as u64;
-        k += 1;
     }
-    k
+    upper.len()
 }
 
 // A sum whose compositions into up to n parts are within the limit whatever the bounds, as those of smaller sums are: 51 for 24 parts, and 3, 4, 5, ..
@@ -102,31 +127,30 @@ fn free_sum(n: usize) -> usize
 }
 
 // Of how many first parts a bound that costs nothing says that every number of the band is within the limit. There are as many compositions of the
-// total as of what it leaves of the bounds' sum `all` (each part taken from its bound), so the smaller of the two counts.
-fn few_parts(upper: &[u8], total: usize, all: usize) -> usize
-    requires { (length upper.now ≤ 24) × (total ≤ whole upper.now) × (all ≡ whole upper.now) }
-    ensures { (result ≤ length upper.now) × ((k : ℕ) → k ≤ result → Within upper.now total k) }
+// total as of what it leaves of the bounds' sum (each part taken from its bound), so the smaller of the two counts.
+#[tactic(auto, using(crate::proofs::Answers::shape_facts))]
+fn few_parts(shape: Shape) -> usize
+    ensures { (result ≤ length shape.entry.upper.now)
+        × ((k : ℕ) → k ≤ result → Within shape.entry.upper.now shape.entry.total k) }
 {
-    let smaller = walsh::lesser(total, all - total);
-    if smaller <= free_sum(upper.len()) {
-        return upper.len();
+    let n = shape.upper.len();
+    let total = shape.total as usize;
+    let smaller = total.min(shape.all - total);
+    if smaller <= free_sum(n) {
+        return n;
     }
-    few_values(upper, smaller)
+    few_values(shape.upper, smaller)
 }
 
 // The first of the refusals 1 to 5 that holds, for calls that need no N: where a bound on N that costs nothing is within the limit, nothing is
 // counted.
-pub fn bounds_refusal(upper: &[u8], total: u32) -> Refusal
-    ensures { result ≡ first_refusal (edition_checks upper.now total) }
+pub fn check_bounds(upper: &[u8], total: u32) -> Result<(), Reason>
+    ensures { told result ≡ first_refusal (edition_checks upper.now total) }
 {
-    let s = bounds::shape(upper, total);
-    if 0 < s.number {
-        return refused(s.number, s.detail);
+    let shape = survey(upper, total)?;
+    let few = few_parts(shape);
+    if few < shape.upper.len() {
+        row::count_row(shape, few)?;
     }
-    let few = few_parts(upper, total as usize, s.all);
-    if few == upper.len() {
-        return refused(0, 0);
-    }
-    let n = row::counted(upper, total, s.all, few, false);
-    refused(n.number, n.detail)
+    Ok(())
 }

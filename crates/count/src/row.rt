@@ -1,20 +1,16 @@
 // N in one row of cells, a cell for each sum: the row of one part more is written over it from its highest sum down, by a window that slides along
 // it.
-ghost use Rattle.std.specs.Prelude.{◌≡◌, true, false, ℕ, ◌+◌, ◌-◌, ◌≤◌, ◌<◌, min, length};
-ghost use Rattle.walsh.specs.Order.{count};
-ghost use Rattle.bounds.specs.Edition.{whole, shape_checks, shaped_of};
+ghost use Rattle.std.specs.Prelude.{◌≡◌, true, false, ℕ, ◌+◌, ◌-◌, ◌≤◌, ◌<◌, IfOk, MatchOption, min, length};
+ghost use Rattle.walsh.specs.Order.{count, count_of};
+ghost use Rattle.bounds.specs.Edition.{edition_checks};
 ghost use Rattle.bounds.specs.Refusal.{first_refusal};
-ghost use Rattle.mahonian.specs.Read.{staircase_count_of};
-ghost use Rattle.mahonian.specs.declared.Entry.TheVariants.{Count};
-ghost use Rattle.band.specs.Band.{InBand, cap, number_of};
+ghost use Rattle.bounds.specs.Reason.{told};
+ghost use Rattle.band.specs.Band.{InBand, cap};
 ghost use Rattle.band.specs.Window.{Slid};
 ghost use Rattle.count.specs.Row.{Passing, RowCounts, Within, Passed, Enters, Leaves, Stretch, IsStretches};
 
-use band::CAP;
-use band::window::table;
-use band::window::table::Counted;
-use bounds::{LIMIT, Shaped};
-use mahonian::Entry;
+use crate::Shape;
+use bounds::{LIMIT, Reason};
 
 // The lowest and the highest sum of a row from which the total can still be reached.
 #[derive(Clone, Copy)]
@@ -32,117 +28,113 @@ struct At {
 
 // Part `k`, counted from 0, with its bound, and the sums of the rows before and after it.
 #[derive(Clone, Copy)]
-struct Part {
+struct Part<'a> {
+    upper: &'a [u8],
+    total: usize,
     k: usize,
     m: usize,
     row: Ends,
     next: Ends,
+    ghost passing: { Passing upper.now total k m row next },
 }
 
+// (Band's `row_of` has these two too, with a place in its table; both are private.)
 fn ends_of(total: usize, left: usize, all: usize) -> Ends
     requires { left ≤ all }
     ensures { (result.low ≡ total - (all - left)) × (result.high ≡ min total left) }
 {
     Ends {
-        low: walsh::over(total, all - left),
-        high: walsh::lesser(total, left),
+        low: total.saturating_sub(all - left),
+        high: total.min(left),
     }
 }
 
-// Whether a number is over 2^63 - 1. It is looked at only where `careful` is true: elsewhere every number of the row is known to be within the limit.
-fn is_over(w: u64, careful: bool) -> bool
-    ensures { (result ≡ true → cap ≤ w) × (result ≡ false → careful ≡ true → w < cap) }
-{
-    if careful { LIMIT < w } else { false }
-}
-
-// The number for the sum `t` of the first `k` parts.
-fn cell(upper: &[u8], total: usize, k: usize, cells: &[u64], t: usize) -> u64
-    requires { (total ≤ 255) × (length cells.now ≡ 256) × InBand upper.now total k t
-        × RowCounts upper.now total cells.now k 0 (t + 1) }
-    ensures { (result ≡ count upper.now k t) × (result < cap) }
+// The number for the sum `t` of the row before.
+fn cell(part: Part, cells: &[u64; 256], t: usize) -> u64
+    requires { InBand part.upper.now part.total part.k t
+        × RowCounts part.upper.now part.total cells.now part.k 0 (t + 1) }
+    ensures { (result ≡ count part.entry.upper.now part.entry.k t) × (result < cap) }
 {
     cells[t]
 }
 
-// The window for the highest sum of the row after, or a number over 2^63 - 1.
-fn top(upper: &[u8], total: usize, part: Part, cells: &[u64], careful: bool) -> u64
-    requires { Passing upper.now total part × (length cells.now ≡ 256)
-        × RowCounts upper.now total cells.now part.k 0 256 × (careful ≡ false → Within upper.now total (part.k + 1)) }
-    ensures { (result < cap → Slid upper.now total part.k (part.next.high + 1) result)
-        × (cap ≤ result → cap ≤ count upper.now (length upper.now) total) × (careful ≡ false → result < cap) }
+// The window for the highest sum of the row after, or none where a number is over the limit. It is looked at only where `careful` is true: elsewhere
+// every number of the row is known to be within the limit.
+// (A parameter of `top`, `fall` and `pass`: tried as a field of `Part` with a ghost field for that, N of 24 bounds took 2 % more instructions and 8 to
+// 18 % longer.)
+fn top(part: Part, cells: &[u64; 256], careful: bool) -> Option<u64>
+    requires { RowCounts part.upper.now part.total cells.now part.k 0 256
+        × (careful ≡ false → Within part.upper.now part.total (part.k + 1)) }
+    ensures { MatchOption result (cap ≤ count part.entry.upper.now (length part.entry.upper.now) part.entry.total)
+        (λ w. Slid part.entry.upper.now part.entry.total part.entry.k (part.entry.next.high + 1) w × (w < cap)) }
 {
     let row = part.row;
-    let next = part.next;
-    let end = row.high + 1;
+    let first = row.low.max(part.next.high.saturating_sub(part.m));
     let mut w: u64 = 0;
-    let mut t = row.low + walsh::over(walsh::over(next.high, part.m), row.low);
-    while t < end {
-        w += cell(upper, total, part.k, cells, t);
-        if is_over(w, careful) {
-            return w;
+    for t in first..row.high + 1 {
+        w += cell(part, cells, t);
+        if careful && LIMIT < w {
+            return None;
         }
-        t += 1;
     }
-    w
+    Some(w)
 }
 
-// The cell that leaves the window as it moves from the sum `t` to the sum before, or 0.
-fn leaving(upper: &[u8], total: usize, part: Part, cells: &[u64], t: usize, leaves: bool) -> u64
-    requires { Passing upper.now total part × (part.next.low ≤ t) × (t ≤ part.next.high) × (length cells.now ≡ 256)
-        × RowCounts upper.now total cells.now part.k 0 (t + 1) × Leaves part.row t leaves }
-    ensures { result ≡ count upper.now part.k t }
+// The cell that leaves the window as it moves from the sum `t` to the sum before, or 0. (What is asked for is said of a sum in a loop and of the cells that
+// it writes, not of the part.)
+fn leaving(part: Part, cells: &[u64; 256], t: usize, leaves: bool) -> u64
+    requires { (part.next.low ≤ t) × (t ≤ part.next.high)
+        × RowCounts part.upper.now part.total cells.now part.k 0 (t + 1) × Leaves part.row t leaves }
+    ensures { result ≡ count part.entry.upper.now part.entry.k t }
 {
-    if leaves {
-        cell(upper, total, part.k, cells, t)
-    } else {
-        0
-    }
+    if leaves { cell(part, cells, t) } else { 0 }
 }
 
-// The cell that enters it, or 0.
-fn entering(upper: &[u8], total: usize, part: Part, cells: &[u64], t: usize, enters: bool) -> u64
-    requires { Passing upper.now total part × (part.next.low ≤ t) × (t ≤ part.next.high) × (length cells.now ≡ 256)
-        × RowCounts upper.now total cells.now part.k 0 (t + 1) × Enters part.row part.m t enters }
-    ensures { (result < cap) × (enters ≡ true → result ≡ count upper.now part.k (t - (part.m + 1))) × (enters ≡ false → result ≡ 0) }
+// The cell that enters it, or 0. (As `leaving`.)
+fn entering(part: Part, cells: &[u64; 256], t: usize, enters: bool) -> u64
+    requires { (part.next.low ≤ t) × (t ≤ part.next.high)
+        × RowCounts part.upper.now part.total cells.now part.k 0 (t + 1) × Enters part.row part.m t enters }
+    ensures { (result < cap) × (enters ≡ true → result ≡ count part.entry.upper.now part.entry.k (t - (part.entry.m + 1)))
+        × (enters ≡ false → result ≡ 0) }
 {
     if enters {
-        cell(upper, total, part.k, cells, t - (part.m + 1))
+        cell(part, cells, t - (part.m + 1))
     } else {
         0
     }
 }
 
-// Writes the row after from the sum before `at` down to `end`, or stops at a number over 2^63 - 1.
+// Writes the row after from the sum before `at` down to `end`, or stops at a number over the limit. (Flags and no closures: of the middle stretch only the
+// row's numbers say which.)
 fn fall(
-    upper: &[u8],
-    total: usize,
     part: Part,
-    cells: &mut [u64],
+    cells: &mut [u64; 256],
     at: At,
     end: usize,
     enters: bool,
     leaves: bool,
     careful: bool,
-) -> At
-    requires { Passing upper.now total part × Stretch part.row part.next part.m at.t end enters leaves
-        × Passed upper.now total part.k at.t at.window cells.old × (careful ≡ false → Within upper.now total (part.k + 1)) }
-    ensures { (result.window < cap → (result.t ≡ min at.t end) × Passed upper.now total part.k result.t result.window cells.new)
-        × (cap ≤ result.window → cap ≤ count upper.now (length upper.now) total) × (careful ≡ false → result.window < cap) }
+) -> Option<At>
+    requires { Stretch part.row part.next part.m at.t end enters leaves
+        × Passed part.upper.now part.total part.k at.t at.window cells.old
+        × (careful ≡ false → Within part.upper.now part.total (part.k + 1)) }
+    ensures { MatchOption result (cap ≤ count part.entry.upper.now (length part.entry.upper.now) part.entry.total)
+        (λ to. (to.t ≡ min at.t end) × Passed part.entry.upper.now part.entry.total part.entry.k to.t to.window cells.new) }
 {
     let mut w = at.window;
-    let mut t = at.t;
-    while end < t {
-        t -= 1;
-        let x = leaving(upper, total, part, cells, t, leaves);
-        let y = entering(upper, total, part, cells, t, enters);
+    for t in (end..at.t).rev() {
+        let x = leaving(part, cells, t, leaves);
+        let y = entering(part, cells, t, enters);
         cells[t] = w;
         w = band::window::moved(w, x, y);
-        if is_over(w, careful) {
-            return At { t, window: w };
+        if careful && LIMIT < w {
+            return None;
         }
     }
-    At { t, window: w }
+    Some(At {
+        t: at.t.min(end),
+        window: w,
+    })
 }
 
 // The row after in three, from `from` down: to `first` cells only enter the window, to `second` they enter and leave it (`both`) or neither, then
@@ -156,145 +148,90 @@ struct Stretches {
 }
 
 fn stretches_of(part: Part) -> Stretches
-    requires { (part.row.low ≤ 255) × (part.row.high ≤ 255) × (part.m ≤ 255) × (part.next.low ≤ 255) × (part.next.high ≤ 255) }
-    ensures { IsStretches part result }
+    ensures { IsStretches part.entry.row part.entry.next part.entry.m result }
 {
     let row = part.row;
     let next = part.next;
     let full = row.low + part.m;
-    let least = walsh::lesser(row.high, full);
+    let least = row.high.min(full);
     Stretches {
         from: next.high + 1,
         first: row.high + full - least + 1,
-        second: next.low + walsh::over(least + 1, next.low),
+        second: next.low + (least + 1).saturating_sub(next.low),
         both: full < row.high,
     }
 }
 
-// The row of one part more over the row before, or false at a number over 2^63 - 1.
-fn pass(upper: &[u8], total: usize, part: Part, cells: &mut [u64], careful: bool) -> bool
-    requires { Passing upper.now total part × (length cells.old ≡ 256)
-        × RowCounts upper.now total cells.old part.k 0 256 × (careful ≡ false → Within upper.now total (part.k + 1)) }
-    ensures { (result ≡ true → RowCounts upper.now total cells.new (part.k + 1) 0 256)
-        × (result ≡ false → cap ≤ count upper.now (length upper.now) total) }
+// The row of one part more over the row before, or none where a number is over the limit.
+fn pass(part: Part, cells: &mut [u64; 256], careful: bool) -> Option<()>
+    requires { RowCounts part.upper.now part.total cells.old part.k 0 256
+        × (careful ≡ false → Within part.upper.now part.total (part.k + 1)) }
+    ensures { MatchOption result (cap ≤ count part.entry.upper.now (length part.entry.upper.now) part.entry.total)
+        (λ _. (length cells.new ≡ 256) × RowCounts part.entry.upper.now part.entry.total cells.new (part.entry.k + 1) 0 256) }
 {
-    let w = top(upper, total, part, cells, careful);
-    if is_over(w, careful) {
-        return false;
-    }
+    let window = top(part, cells, careful)?;
     let s = stretches_of(part);
-    let at = At {
-        t: s.from,
-        window: w,
-    };
-    let at = fall(upper, total, part, cells, at, s.first, true, false, careful);
-    if is_over(at.window, careful) {
-        return false;
-    }
+    let start = At { t: s.from, window };
+    let grown = fall(part, cells, start, s.first, true, false, careful)?;
     let both = s.both;
-    let at = fall(upper, total, part, cells, at, s.second, both, both, careful);
-    if is_over(at.window, careful) {
-        return false;
-    }
+    let slid = fall(part, cells, grown, s.second, both, both, careful)?;
     let low = part.next.low;
-    let at = fall(upper, total, part, cells, at, low, false, true, careful);
-    !is_over(at.window, careful)
+    fall(part, cells, slid, low, false, true, careful)?;
+    Some(())
 }
 
-// The number of compositions, or 2^63 where that is less. Numbers are looked at only from the first row on that `few_parts` does not bound.
-fn rows(upper: &[u8], total: usize, all: usize, few: usize, cells: &mut [u64]) -> u64
-    requires { (length upper.now ≤ 24) × (total ≤ 255) × (total ≤ whole upper.now) × (all ≡ whole upper.now)
-        × (length cells.old ≡ 256) × ((k : ℕ) → k ≤ few → Within upper.now total k) }
-    ensures { result ≡ min (count upper.now (length upper.now) total) cap }
+// The number of compositions, or none where it is over the limit. Numbers are looked at only from the first row on that `few_parts` does not bound.
+#[tactic(auto, using(crate::proofs::Answers::shape_facts))]
+fn rows(shape: Shape, few: usize, cells: &mut [u64; 256]) -> Option<u64>
+    requires { (k : ℕ) → k ≤ few → Within shape.upper.now shape.total k }
+    ensures { MatchOption result (cap ≤ count shape.entry.upper.now (length shape.entry.upper.now) shape.entry.total)
+        (λ n. (n ≡ count shape.entry.upper.now (length shape.entry.upper.now) shape.entry.total) × (n < cap)) }
 {
+    let upper = shape.upper;
+    let total = shape.total as usize;
+    let all = shape.all;
     let mut left = 0;
     let mut row = ends_of(total, 0, all);
     cells[0] = 1;
-    let mut k = 0;
-    while k < upper.len() {
-        let m = walsh::wide(upper[k]);
+    for (k, bound) in upper.iter().enumerate() {
+        let m = usize::from(*bound);
         left += m;
         let next = ends_of(total, left, all);
-        let part = Part { k, m, row, next };
-        if !pass(upper, total, part, cells, few <= k) {
-            return CAP;
-        }
+        let part = Part {
+            upper,
+            total,
+            k,
+            m,
+            row,
+            next,
+        };
+        pass(part, cells, few <= k)?;
         row = next;
-        k += 1;
     }
-    cells[total]
+    Some(cells[total])
 }
 
-// N of a shape that is accepted, where the numbers of the first `few` rows are within the limit.
-fn count_row(upper: &[u8], total: u32, all: usize, few: usize) -> Counted
-    requires { ((first_refusal (shape_checks upper.now total)).number ≡ 0) × (all ≡ whole upper.now)
-        × ((k : ℕ) → k ≤ few → Within upper.now total k) }
-    ensures { result ≡ number_of upper.now total }
+// N of a shape, where the numbers of the first `few` rows are within the limit.
+pub(crate) fn count_row(shape: Shape, few: usize) -> Result<u64, Reason>
+    requires { (k : ℕ) → k ≤ few → Within shape.upper.now shape.total k }
+    ensures refusal { told result ≡ first_refusal (edition_checks shape.entry.upper.now shape.entry.total) }
+    ensures count { IfOk result (λ n. n ≡ count_of shape.entry.upper.now shape.entry.total) }
 {
     let mut cells = [0u64; 256];
-    let n = rows(upper, total as usize, all, few, &mut cells);
-    table::within_limit(n)
-}
-
-// "N of a puzzle edition of 2 to 16 sheets is read from" the constant table. It is not asked where N was not found in it, or need not be.
-fn looked_up(upper: &[u8], total: u32, fresh: bool) -> Entry
-    ensures { (n : ℕ) → result ≡ Count n → staircase_count_of upper.now total ≡ Count n }
-{
-    if fresh {
-        return mahonian::staircase_count(upper, total);
-    }
-    Entry::Outside
-}
-
-// The checks 1 to 4; where `fresh` is false they are known to refuse nothing.
-fn shape_of(upper: &[u8], total: u32, all: usize, fresh: bool) -> Shaped
-    requires { fresh ≡ false → ((first_refusal (shape_checks upper.now total)).number ≡ 0) × (all ≡ whole upper.now) }
-    ensures { result ≡ shaped_of upper.now total }
-{
-    if fresh {
-        return bounds::shape(upper, total);
-    }
-    Shaped {
-        number: 0,
-        detail: 0,
-        all,
-    }
-}
-
-// How many first rows are within the limit; where `fresh` is false, as many as are known to be.
-fn few_of(upper: &[u8], total: usize, all: usize, few: usize, fresh: bool) -> usize
-    requires { (length upper.now ≤ 24) × (total ≤ whole upper.now) × (all ≡ whole upper.now)
-        × (fresh ≡ false → (k : ℕ) → k ≤ few → Within upper.now total k) }
-    ensures { (k : ℕ) → k ≤ result → Within upper.now total k }
-{
-    if fresh {
-        return crate::few_parts(upper, total, all);
-    }
-    few
-}
-
-// N, or the refusal; where `fresh` is false, of a shape that is accepted, whose bounds sum to `all` and whose first `few` rows are within the limit.
-// (One function for both, so that the count is part of it: a slice that is handed on is read from memory again.)
-pub(crate) fn counted(upper: &[u8], total: u32, all: usize, few: usize, fresh: bool) -> Counted
-    requires { (fresh ≡ false → ((first_refusal (shape_checks upper.now total)).number ≡ 0) × (all ≡ whole upper.now))
-        × (fresh ≡ false → (k : ℕ) → k ≤ few → Within upper.now total k) }
-    ensures { result ≡ number_of upper.now total }
-{
-    let e = looked_up(upper, total, fresh);
-    if let Entry::Count(n) = e {
-        return table::within_limit(n);
-    }
-    let s = shape_of(upper, total, all, fresh);
-    if 0 < s.number {
-        return table::uncounted(s.number, s.detail);
-    }
-    let known = few_of(upper, total as usize, s.all, few, fresh);
-    count_row(upper, total, s.all, known)
+    rows(shape, few, &mut cells).ok_or(Reason::Limit)
 }
 
 // N, or the refusal. Where N stands in the constant table, the checks 1 to 4 refuse nothing.
-pub fn number(upper: &[u8], total: u32) -> Counted
-    ensures { result ≡ number_of upper.now total }
+pub fn number(upper: &[u8], total: u32) -> Result<u64, Reason>
+    ensures refusal { told result ≡ first_refusal (edition_checks upper.now total) }
+    ensures count { IfOk result (λ n. n ≡ count_of upper.now total) }
 {
-    counted(upper, total, 0, 0, true)
+    if let Some(n) = mahonian::staircase_count(upper, total) {
+        if LIMIT < n {
+            return Err(Reason::Limit);
+        }
+        return Ok(n);
+    }
+    let shape = crate::survey(upper, total)?;
+    count_row(shape, crate::few_parts(shape))
 }

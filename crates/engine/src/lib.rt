@@ -26,7 +26,7 @@ use step::Stepped;
 
 const VERSION: u32 = 1500;
 
-// A serial, or a refusal's number and detail with serial 0.
+// A serial, or a refusal's number and detail with serial 0. (A number and no `Result`: the C interface.)
 #[repr(C)]
 #[derive(Clone, Copy)]
 pub struct Ranked {
@@ -47,23 +47,23 @@ pub extern "C" fn huz_version() -> u32
 pub extern "C" fn huz_check(upper: &[u8], total: u32) -> Checked
     ensures { result ≡ check_of upper.now total }
 {
-    count::check(upper, total)
+    count::check(upper, total).into()
 }
 
+// (Taken apart by a `match` and no `From`: so document 01 wants it of callers of mix to serial.)
 #[unsafe(no_mangle)]
 pub extern "C" fn huz_rank(upper: &[u8], total: u32, composition: &[u8]) -> Ranked
     ensures { result ≡ ranked_of (rank_answer upper.now total composition.now) }
 {
-    let answer = rank::rank(upper, total, composition);
-    match answer {
-        rank::Ranking::Serial(serial) => Ranked {
+    match rank::rank(upper, total, composition) {
+        Ok(serial) => Ranked {
             number: 0,
             detail: 0,
             serial,
         },
-        rank::Ranking::Refused(number, detail) => Ranked {
-            number,
-            detail,
+        Err(reason) => Ranked {
+            number: reason.number(),
+            detail: reason.detail(),
             serial: 0,
         },
     }
@@ -73,21 +73,21 @@ pub extern "C" fn huz_rank(upper: &[u8], total: u32, composition: &[u8]) -> Rank
 pub extern "C" fn huz_unrank(upper: &[u8], total: u32, serial: u64, out: &mut [u8]) -> Refusal
     ensures { ◌≡◌ {A = Refusal × List ℕ} (result, out.new) (unrank_call upper.now total serial out.old) }
 {
-    rank::unrank(upper, total, serial, out)
+    rank::unrank(upper, total, serial, out).into()
 }
 
 #[unsafe(no_mangle)]
 pub extern "C" fn huz_successor(upper: &[u8], total: u32, composition: &[u8]) -> Stepped
     ensures { result ≡ successor_of upper.now total composition.now }
 {
-    step::successor(upper, total, composition)
+    step::successor(upper, total, composition).into()
 }
 
 #[unsafe(no_mangle)]
 pub extern "C" fn huz_predecessor(upper: &[u8], total: u32, composition: &[u8]) -> Stepped
     ensures { result ≡ predecessor_of upper.now total composition.now }
 {
-    step::predecessor(upper, total, composition)
+    step::predecessor(upper, total, composition).into()
 }
 
 #[unsafe(no_mangle)]
@@ -101,14 +101,14 @@ pub extern "C" fn huz_batch(
     ensures { ◌≡◌ {A = Refusal × List ℕ} (result, out.new)
         (batch_of upper.now total serial copies out.old) }
 {
-    blocks::batch(upper, total, serial, copies, out)
+    blocks::batch(upper, total, serial, copies, out).into()
 }
 
 #[unsafe(no_mangle)]
 pub extern "C" fn huz_listing(upper: &[u8], total: u32, out: &mut [u8]) -> Refusal
     ensures { ◌≡◌ {A = Refusal × List ℕ} (result, out.new) (listing_of upper.now total out.old) }
 {
-    listing::list(upper, total, out)
+    listing::list(upper, total, out).into()
 }
 
 #[unsafe(no_mangle)]
@@ -121,7 +121,7 @@ pub extern "C" fn huz_permutation(
     ensures { ◌≡◌ {A = Refusal × List ℕ} (result, out.new)
         (to_permutation by_inversions upper.now total composition.now out.old) }
 {
-    permutation::permutation(upper, total, composition, out)
+    permutation::permutation(upper, total, composition, out).into()
 }
 
 #[unsafe(no_mangle)]
@@ -134,7 +134,7 @@ pub extern "C" fn huz_inversions(
     ensures { ◌≡◌ {A = Refusal × List ℕ} (result, out.new)
         (to_composition by_inversions upper.now total permutation.now out.old) }
 {
-    permutation::inversions(upper, total, permutation, out)
+    permutation::inversions(upper, total, permutation, out).into()
 }
 
 #[unsafe(no_mangle)]
@@ -147,7 +147,7 @@ pub extern "C" fn huz_major_permutation(
     ensures { ◌≡◌ {A = Refusal × List ℕ} (result, out.new)
         (to_permutation by_major upper.now total composition.now out.old) }
 {
-    major::permutation(upper, total, composition, out)
+    major::permutation(upper, total, composition, out).into()
 }
 
 #[unsafe(no_mangle)]
@@ -160,7 +160,7 @@ pub extern "C" fn huz_major_code(
     ensures { ◌≡◌ {A = Refusal × List ℕ} (result, out.new)
         (to_composition by_major upper.now total permutation.now out.old) }
 {
-    major::code(upper, total, permutation, out)
+    major::code(upper, total, permutation, out).into()
 }
 
 // Whether the check digit of an order number is right, for forms that ask before a claim does.
@@ -175,14 +175,14 @@ pub extern "C" fn huz_order_passes(order: u32) -> bool
 pub extern "C" fn huz_open(upper: &[u8], total: u32, orders: &[u32], items: &[u8]) -> Opened
     ensures { result ≡ opening (record { bounds = upper.now; total = total }) (columns orders.now items.now) }
 {
-    ledger::open(upper, total, orders, items)
+    ledger::open(upper, total, orders, items).into()
 }
 
 #[unsafe(no_mangle)]
 pub extern "C" fn huz_peek(ledger: Ledger, orders: &[u32], items: &[u8]) -> Peeked
     ensures { result ≡ peeking ledger (columns orders.now items.now) }
 {
-    ledger::peek(ledger, orders, items)
+    ledger::peek(ledger, orders, items).into()
 }
 
 #[unsafe(no_mangle)]
@@ -232,7 +232,7 @@ pub extern "C" fn huz_claim_all(
 // ---- on a record that is lent
 // Document 01, "The register": "the record is also lent to take and spoil, which update it there with the same answers". Each copies the record,
 // calls the by-value core, and writes back the record that it answers, on acceptance alone: a refusal writes nothing at all, no padding between
-// the fields either, which no contract speaks of.
+// the fields either, which no contract speaks of. They look at the number that C gets, and are two since C has both.
 
 #[unsafe(no_mangle)]
 pub extern "C" fn huz_claim_in(

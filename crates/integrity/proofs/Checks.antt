@@ -1,38 +1,42 @@
 -- The tests of number 16, one law for each way out of them.
 use mathlib.Core.Path.{◌≡◌, refl, sym, ap, ◌∙◌}
+use mathlib.Core.Logic.{◌≢◌}
 use mathlib.Core.Bool.{Bool, true, false}
 use mathlib.Core.List.{List, []}
+use Rattle.std.specs.Prelude.{Option, Some, None}
+use Rattle.std.specs.Bool.{then_some}
 use Prim.Native.Nat.{ℕ, ◌+◌, ◌-◌, ◌≤◌, ◌<◌, min, max}
 use native.Mathlib.Omega.{arith}
 use lib.Dec.{eqb, leb}
-use lib.ListN.{length, get_or, take}
-use lib.Seq.{length-take-le}
+use lib.ListN.{length, get_or, take, length-take}
 use borrow.Author.Tests.{lt-leb, le-leb, leb-true, eq-eqb, ne_eqb}
 use Rattle.walsh.specs.Order.{order}
 use Rattle.walsh.specs.Serial.{same, composition_of}
 use Rattle.walsh.specs.Tests.{both}
 use Rattle.walsh.proofs.Cases.{on_less}
-use Rattle.bounds.specs.Refusal.{first_refusal}
+use Rattle.bounds.specs.Refusal.{refused, first_refusal}
+use Rattle.bounds.specs.Reason.{coded}
 use Rattle.bounds.specs.Edition.{record_checks, cells_of}
 use Rattle.bounds.specs.Places.{most_entries}
-use Rattle.bounds.specs.declared.Refusal.{Refusal}
-use Rattle.rank.specs.Locate.{nearest, locate_record_of}
+use Rattle.bounds.specs.declared.Reason.{Reason}
+use Rattle.bounds.proofs.Reasons.{accepted, coded-refuses}
+use Rattle.rank.specs.Locate.{nearest, Locates}
 use Rattle.rank.specs.declared.Located.{Located}
-use Rattle.rank.proofs.Locations.{record_refused, record_accepted}
-use Rattle.model.specs.Basics.{first_place}
-use Rattle.model.specs.Entry.{Entry, is_voided, Lent, columns, pairs, entries_in, same_order, room, sold_in, voided_in, unsound_in}
+use Rattle.model.specs.Entry.{Entry, is_voided, Lent, columns, pairs, entries_in, room, sold_in, voided_in, unsound_in}
 use Rattle.model.specs.Printing.{Printing, size, capacity, serial_at, next_composition}
 use Rattle.model.specs.Record.{upper_of, printing_of, written, consistent}
 use Rattle.model.specs.declared.Ledger.{Ledger}
-use Rattle.model.proofs.Entries.{take_pairs}
+use Rattle.model.proofs.Entries.{room_entries}
 use Rattle.model.proofs.Compositions.{compositions_at}
 use Rattle.model.proofs.Records.{few_parts, each, one_fails, sold_of}
+use Rattle.integrity.specs.Lines.{lines_in, stands_at}
+use Rattle.integrity.specs.declared.lines.Lines.{Lines}
 use Rattle.integrity.specs.Again.{first_again, place_again}
 use Rattle.integrity.specs.Examine.{frame_tests, framed, seen_by, found_by, met_by}
-use Rattle.integrity.specs.declared.Seen.{Seen}
 use Rattle.integrity.specs.declared.Found.{Found}
 use Rattle.integrity.specs.declared.Met.{Met}
-use Rattle.integrity.proofs.Pairs.{both_false}
+use Rattle.integrity.proofs.Options.{some_given, none_given}
+use Rattle.integrity.proofs.Pairs.{both_false, pairs_length}
 use Rattle.integrity.proofs.Places.{many_few}
 
 -- the composition of the nearest serial to the next is that of the next, of serial N when full
@@ -50,84 +54,82 @@ pub record Asked (r : Ledger) (at : Located) : Type 0 where
   pub next : at.composition ≡ next_composition (printing_of r) r.entries
   pub few : r.bounds.parts ≤ 24
 
-pub asked : (r : Ledger) (at : Located) → at ≡ locate_record_of r.bounds (r.entries + 1) → at.number ≡ 0 → Asked r at
-asked r at is z =
-    let p = record_accepted r.bounds (r.entries + 1) at is z in
+pub asked : (r : Ledger) (at : Located) → refused 0 0 ≡ first_refusal (record_checks r.bounds)
+    → Locates (upper_of r.bounds) r.bounds.total (r.entries + 1) at
+    → Asked r at
+asked r at e p =
+    let z = accepted (first_refusal (record_checks r.bounds)) e in
     record {
-      sound = p.0;
-      count = p.1.count;
-      next = p.1.cells ∙ nearest_next (printing_of r) r.entries;
-      few = few_parts r.bounds p.0;
+      sound = z;
+      count = p.count;
+      next = p.cells ∙ nearest_next (printing_of r) r.entries;
+      few = few_parts r.bounds z;
     }
 
 -- ---- what is answered
 
-module _ (r : Ledger) {b : Bool} {s : Seen} where
-  pub seen_fits : s ≡ seen_by b r → s.fits ≡ b
+module _ (r : Ledger) {b : Bool} where
+  pub seen_some : {n : ℕ} → Some n ≡ seen_by b r → (b ≡ true) × (n ≡ size (printing_of r))
   unfolding seen_by
-  seen_fits e = ap (λ (x : Seen). x.fits) e
+  seen_some e = some_given e
 
-  pub seen_count : b ≡ true → s ≡ seen_by b r → s.count ≡ size (printing_of r)
+  pub seen_none : None ≡ seen_by b r → b ≡ false
   unfolding seen_by
-  seen_count t e = ap (λ (x : Seen). x.count) e ∙ rw t
+  seen_none e = none_given _ e
 
-  pub seen_none : b ≡ false → s ≡ record { fits = false; count = 0 } → s ≡ seen_by b r
+  pub seen_not : b ≡ false → None ≡ seen_by b r
   unfolding seen_by
-  seen_none f e = e ∙ rw f
+  seen_not f = rw f
 
-module _ (r : Ledger) (col : Lent) (o : Entry) {b : Bool} {s : Found} where
-  pub found_fits : s ≡ found_by b r col o → s.fits ≡ b
+  pub seen_tested : {t : Bool} {n : ℕ} → t ≡ b → n ≡ size (printing_of r) → then_some t n ≡ seen_by b r
+  unfolding seen_by
+  seen_tested t e = rw (t, e)
+
+module _ (r : Ledger) (col : Lent) (o : Entry) {b : Bool} where
+  pub found_some : {s : Found} → Some s ≡ found_by b r col o
+      → (b ≡ true) × (s.count ≡ size (printing_of r)) × (s.place ≡ stands_at o (written r col))
   unfolding found_by
-  found_fits e = ap (λ (x : Found). x.fits) e
+  found_some e = let g = some_given e in (g.0, ap (λ (x : Found). x.count) g.1, ap (λ (x : Found). x.place) g.1)
 
-  pub found_count : b ≡ true → s ≡ found_by b r col o → s.count ≡ size (printing_of r)
+  pub found_none : None ≡ found_by b r col o → b ≡ false
   unfolding found_by
-  found_count t e = ap (λ (x : Found). x.count) e ∙ rw t
+  found_none e = none_given _ e
 
-  pub found_place : b ≡ true → s ≡ found_by b r col o → s.place ≡ first_place (same_order o) (written r col)
+  pub found_not : b ≡ false → None ≡ found_by b r col o
   unfolding found_by
-  found_place t e = ap (λ (x : Found). x.place) e ∙ rw t
+  found_not f = rw f
 
-  pub found_none : b ≡ false → s ≡ record { fits = false; count = 0; place = 0 } → s ≡ found_by b r col o
+  pub found_tested : {t : Bool} {n : ℕ} {k : Option ℕ} → t ≡ b
+      → n ≡ size (printing_of r)
+      → k ≡ stands_at o (written r col)
+      → then_some t (record { count = n; place = k }) ≡ found_by b r col o
   unfolding found_by
-  found_none f e = e ∙ rw f
+  found_tested t en ek = rw (t, en, ek)
 
-pub found_made : (r : Ledger) (col : Lent) (o : Entry) {b : Bool} {n k : ℕ} → b ≡ true
-    → n ≡ size (printing_of r)
-    → k ≡ first_place (same_order o) (written r col)
-    → record { fits = true; count = n; place = k } ≡ found_by b r col o
-unfolding found_by
-found_made r col o t en ek = rw (t, en, ek)
-
-module _ (r : Ledger) (col es : Lent) {b : Bool} {s : Met} where
-  pub met_fits : s ≡ met_by b r col es → s.fits ≡ b
+module _ (r : Ledger) (col es : Lent) {b : Bool} where
+  pub met_some : {s : Met} → Some s ≡ met_by b r col es
+      → (b ≡ true) × (s.count ≡ size (printing_of r)) × (s.first ≡ first_again (written r col) (entries_in es))
+      × (s.place ≡ place_again (written r col) (entries_in es))
   unfolding met_by
-  met_fits e = ap (λ (x : Met). x.fits) e
+  met_some e =
+      let g = some_given e in
+      (g.0, ap (λ (x : Met). x.count) g.1, ap (λ (x : Met). x.first) g.1, ap (λ (x : Met). x.place) g.1)
 
-  module _ (t : b ≡ true) (e : s ≡ met_by b r col es) where
-    pub met_count : s.count ≡ size (printing_of r)
-    unfolding met_by
-    met_count = ap (λ (x : Met). x.count) e ∙ rw t
-
-    pub met_first : s.first ≡ first_again (written r col) (entries_in es)
-    unfolding met_by
-    met_first = ap (λ (x : Met). x.first) e ∙ rw t
-
-    pub met_place : s.place ≡ place_again (written r col) (entries_in es)
-    unfolding met_by
-    met_place = ap (λ (x : Met). x.place) e ∙ rw t
-
-  pub met_none : b ≡ false → s ≡ record { fits = false; count = 0; first = 0; place = 0 } → s ≡ met_by b r col es
+  pub met_none : None ≡ met_by b r col es → b ≡ false
   unfolding met_by
-  met_none f e = e ∙ rw f
+  met_none e = none_given _ e
 
-pub met_made : (r : Ledger) (col es : Lent) {b : Bool} {n k p : ℕ} → b ≡ true
-    → n ≡ size (printing_of r)
-    → k ≡ first_again (written r col) (entries_in es)
-    → p ≡ place_again (written r col) (entries_in es)
-    → record { fits = true; count = n; first = k; place = p } ≡ met_by b r col es
-unfolding met_by
-met_made r col es t en ek ep = rw (t, en, ek, ep)
+  pub met_not : b ≡ false → None ≡ met_by b r col es
+  unfolding met_by
+  met_not f = rw f
+
+  pub met_tested : {t : Bool} {n k p : ℕ} → t ≡ b
+      → n ≡ size (printing_of r)
+      → k ≡ first_again (written r col) (entries_in es)
+      → p ≡ place_again (written r col) (entries_in es)
+      → then_some t (record { count = n; first = k; place = p }) ≡ met_by b r col es
+  unfolding met_by
+  met_tested t en ek ep = rw (t, en, ek, ep)
 
 -- ---- the tests that look at no line
 
@@ -139,37 +141,36 @@ module _ (r : Ledger) (n : ℕ) where
   unfolding framed
   stops i e = one_fails i (frame_tests r n) e
 
-  module _ {s : Seen} (no : s ≡ record { fits = false; count = 0 }) where
-    apart : framed r n ≡ false → s ≡ seen_by (framed r n) r
-    apart f = seen_none r f no
+  apart : framed r n ≡ false → None ≡ seen_by (framed r n) r
+  apart f = seen_not r f
 
-    -- so many entries are either more than N, or N is over the most
-    pub too_full : most_entries < r.entries → s ≡ seen_by (framed r n) r
-    too_full l =
-        on_less most_entries most
-        (λ m t. apart (stops 1 (lt-leb most most_entries m)))
-        (λ m t. apart (stops 3 (lt-leb r.entries most (omega arith))))
+  -- so many entries are either more than N, or N is over the most
+  pub too_full : most_entries < r.entries → None ≡ seen_by (framed r n) r
+  too_full l =
+      on_less most_entries most
+      (λ m t. apart (stops 1 (lt-leb most most_entries m)))
+      (λ m t. apart (stops 3 (lt-leb r.entries most (omega arith))))
 
-    pub no_edition : {at : Located} → at ≡ locate_record_of r.bounds (r.entries + 1) → 0 < at.number → s ≡ seen_by (framed r n) r
-    no_edition {at} is l =
-        let e = ap (λ (v : Refusal). v.number) (record_refused r.bounds (r.entries + 1) at is l) in
-        apart (stops 0 (ne_eqb (first_refusal (record_checks r.bounds)).number 0 (λ z. omega (arith, e, z))))
+  pub no_edition : (e : Reason) → coded e ≡ first_refusal (record_checks r.bounds) → None ≡ seen_by (framed r n) r
+  no_edition e p =
+      let l = coded-refuses e (first_refusal (record_checks r.bounds)) p in
+      apart (stops 0 (ne_eqb (first_refusal (record_checks r.bounds)).number 0 (λ z. omega (arith, l, z))))
 
-    module _ {at : Located} (a : Asked r at) where
-      pub too_many : most_entries < at.count → s ≡ seen_by (framed r n) r
-      too_many l = apart (stops 1 (lt-leb most most_entries (omega (arith, a.count))))
+  module _ {at : Located} (a : Asked r at) where
+    pub too_many : most_entries < at.count → None ≡ seen_by (framed r n) r
+    too_many l = apart (stops 1 (lt-leb most most_entries (omega (arith, a.count))))
 
-      pub no_room : n < at.count → s ≡ seen_by (framed r n) r
-      no_room l = apart (stops 2 (lt-leb most n (omega (arith, a.count))))
+    pub no_room : n < at.count → None ≡ seen_by (framed r n) r
+    no_room l = apart (stops 2 (lt-leb most n (omega (arith, a.count))))
 
-      pub past_end : at.count < r.entries → s ≡ seen_by (framed r n) r
-      past_end l = apart (stops 3 (lt-leb r.entries most (omega (arith, a.count))))
+    pub past_end : at.count < r.entries → None ≡ seen_by (framed r n) r
+    past_end l = apart (stops 3 (lt-leb r.entries most (omega (arith, a.count))))
 
-      pub other_next : same r.next at.composition ≡ false → s ≡ seen_by (framed r n) r
-      other_next f = apart (stops 4 (ap (same r.next) (sym a.next) ∙ f))
+    pub other_next : same r.next at.composition ≡ false → None ≡ seen_by (framed r n) r
+    other_next f = apart (stops 4 (ap (same r.next) (sym a.next) ∙ f))
 
-    pub no_spare : same r.bounds.upper (cells_of (upper_of r.bounds)) ≡ false → s ≡ seen_by (framed r n) r
-    no_spare f = apart (stops 5 f)
+  pub no_spare : same r.bounds.upper (cells_of (upper_of r.bounds)) ≡ false → None ≡ seen_by (framed r n) r
+  no_spare f = apart (stops 5 f)
 
   -- all of them pass
   pub frame_passes : {at : Located}
@@ -179,7 +180,7 @@ module _ (r : Ledger) (n : ℕ) where
       → r.entries ≤ at.count
       → same r.next at.composition ≡ true
       → same r.bounds.upper (cells_of (upper_of r.bounds)) ≡ true
-      → record { fits = true; count = at.count } ≡ seen_by (framed r n) r
+      → Some at.count ≡ seen_by (framed r n) r
   unfolding framed seen_by
   frame_passes {at} a small fits inside next spare =
       rw (
@@ -235,37 +236,33 @@ module _ (r : Ledger) (col : Lent) where
   pub not_framed : framed r (room col) ≡ false → consistent r col ≡ false
   not_framed f = lines_behind ∙ rw f
 
--- ---- the lines written, as the pass has them: the beginnings of both columns
+  pub not_sound : unsound_in (written r col) ≢ 0 → consistent r col ≡ false
+  not_sound n = lines_behind ∙ rw (ne_eqb (unsound_in (written r col)) 0 n) (both_false (framed r (room col)))
 
-module _ (r : Ledger) (os is : List ℕ) (t : framed r (min (length os) (length is)) ≡ true) where
-  abbrev lines : List Entry
-  lines = pairs (take r.entries os) (take r.entries is)
-
-  pub as_written : lines ≡ written r (columns os is)
-  as_written = sym (take_pairs r.entries os is)
-
-  pub orders_within : length (take r.entries os) ≡ r.entries
-  orders_within = length-take-le r.entries os (omega (arith, (frame_room r _ t).0))
-
-  pub items_within : length (take r.entries is) ≡ r.entries
-  items_within = length-take-le r.entries is (omega (arith, (frame_room r _ t).0))
-
-  -- what is asked of the pass
-  pub passable : (length (take r.entries is) ≡ length (take r.entries os)) × (length (take r.entries os) ≤ most_entries)
-  passable = (items_within ∙ sym orders_within, omega (arith, orders_within, (frame_room r _ t).1))
-
-  -- what it counts decides
-  module _ (z : ℕ) (e : z ≡ voided_in lines) where
-    as_zeros : z ≡ voided_in (written r (columns os is))
-    as_zeros = e ∙ ap voided_in as_written
-
+  -- what a pass counts decides
+  module _ (t : framed r (room col) ≡ true) {z : ℕ} (e : z ≡ voided_in (written r col)) where
     pub few_zeros : z ≤ r.entries
-    few_zeros = many_few is_voided (pairs os is) r.entries z as_zeros
+    few_zeros = many_few is_voided (entries_in col) r.entries z e
 
-    pub by_counts : (b : Bool) → b ≡ eqb (unsound_in lines) 0
-        → consistent r (columns os is) ≡ both b (both (eqb r.voided z) (eqb r.sold (r.entries - z)))
-    by_counts b f =
-        let sold : sold_in (written r (columns os is)) ≡ r.entries - z =
-        sold_of r (columns os is) (frame_room r _ t).0 ∙ ap (λ (k : ℕ). r.entries - k) (sym as_zeros) in
-        let sound = f ∙ ap (λ (l : List Entry). eqb (unsound_in l) 0) as_written in
-        lines_behind r (columns os is) ∙ rw (t, sym as_zeros, sold, sym sound)
+    pub by_counts : unsound_in (written r col) ≡ 0 → consistent r col ≡ both (eqb r.voided z) (eqb r.sold (r.entries - z))
+    by_counts s =
+        let sold : sold_in (written r col) ≡ r.entries - z =
+        sold_of r col (frame_room r _ t).0 ∙ ap (λ (k : ℕ). r.entries - k) (sym e) in
+        lines_behind ∙ rw (t, sym e, sold, eq-eqb (unsound_in (written r col)) 0 s)
+
+-- ---- the lines lent, and those written, as the passes have them
+
+module _ (os is : List ℕ) (lent : Lines) (e : lines_in lent ≡ pairs os is) where
+  pub lent_room : length lent.orders.now ≡ room (columns os is)
+  lent_room =
+      omega (arith, pairs_length lent.orders.now lent.items.now lent.paired, ap length e, room_entries (columns os is))
+
+  module _ (r : Ledger) (part : Lines) where
+    pub part_written : lines_in part ≡ take (r.entries - 0) (lines_in lent) → lines_in part ≡ written r (columns os is)
+    part_written q =
+        let n : r.entries - 0 ≡ r.entries = omega arith in
+        q ∙ (λ i. take (n i) (e i))
+
+    pub part_few : framed r (room (columns os is)) ≡ true → part.orders.now ≡ take (r.entries - 0) lent.orders.now
+        → length part.orders.now ≤ most_entries
+    part_few t q = omega (arith, ap length q, length-take (r.entries - 0) lent.orders.now, (frame_room r _ t).1)

@@ -1,5 +1,7 @@
+pub mod Options
 pub mod Cells
 pub mod Places
+pub mod Passes
 pub mod Checks
 pub mod Again
 pub mod Sifting

@@ -3,12 +3,12 @@ use mathlib.Core.Path.{◌≡◌, refl, sym, ap, ◌∙◌}
 use mathlib.Core.Logic.{◌≢◌}
 use mathlib.Core.Bool.{Bool, true, false, cond}
 use mathlib.Core.List.{List, [], ◌∷◌}
-use Prim.Native.Nat.{ℕ, zero, suc, ◌+◌, ◌≤◌, ◌<◌, min}
+use Prim.Native.Nat.{ℕ, zero, suc, ◌+◌, ◌<◌, min}
 use native.Mathlib.Omega.{arith}
 use lib.Dec.{eqb}
-use lib.ListN.{length, get_or, take, drop, length-take, length-drop}
-use lib.Seq.{take_all, get_or-take}
-use borrow.Author.Tests.{eq-eqb, ne_eqb, eqb-true, eqb-false}
+use lib.ListN.{length, get_or, take, drop}
+use lib.Seq.{take_all}
+use borrow.Author.Tests.{eq-eqb, ne_eqb}
 use Rattle.walsh.specs.Tests.{times, both}
 use Rattle.walsh.proofs.Cases.{on_test}
 use Rattle.model.specs.Basics.{how_many}
@@ -47,23 +47,16 @@ module _ (n i : ℕ) (os is : List ℕ) where
   pub part_lines : take n (drop i (pairs os is)) ≡ pairs (take n (drop i os)) (take n (drop i is))
   part_lines = ap (take n) (drop_pairs i os is) ∙ take_pairs n (drop i os) (drop i is)
 
-  pub part_even : length is ≡ length os → length (take n (drop i is)) ≡ length (take n (drop i os))
-  part_even e =
-      omega (arith, e, length-take n (drop i is), length-take n (drop i os), length-drop i is, length-drop i os)
+-- the line at place i
+module _ (os is : List ℕ) (e : length is ≡ length os) (i : ℕ) (h : i < length os) (o x : ℕ) where
+  pub line_hit : get_or os i 0 ≡ o → get_or is i 0 ≡ x → same_order (entry o x) (get_or (pairs os is) i void_entry) ≡ true
+  line_hit p q = rw (line_at os is e i h, eq-eqb (get_or os i 0) o p, eq-eqb (get_or is i 0) x q)
 
--- the line at place i, among the first n
-module _ (os is : List ℕ) (e : length is ≡ length os) (n i : ℕ) (h : i < n) (k : n ≤ length os) (o x : ℕ) where
-  line_here : get_or (take n (pairs os is)) i void_entry ≡ entry (get_or os i 0) (get_or is i 0)
-  line_here = get_or-take n (pairs os is) i void_entry h ∙ line_at os is e i (omega arith)
+  pub other_number : get_or os i 0 ≢ o → same_order (entry o x) (get_or (pairs os is) i void_entry) ≡ false
+  other_number p = rw (line_at os is e i h, ne_eqb (get_or os i 0) o p)
 
-  pub line_hit : get_or os i 0 ≡ o → get_or is i 0 ≡ x → same_order (entry o x) (get_or (take n (pairs os is)) i void_entry) ≡ true
-  line_hit p q = rw (line_here, eq-eqb (get_or os i 0) o p, eq-eqb (get_or is i 0) x q)
-
-  pub other_number : get_or os i 0 ≢ o → same_order (entry o x) (get_or (take n (pairs os is)) i void_entry) ≡ false
-  other_number p = rw (line_here, ne_eqb (get_or os i 0) o p)
-
-  pub other_item : get_or is i 0 ≢ x → same_order (entry o x) (get_or (take n (pairs os is)) i void_entry) ≡ false
-  other_item q = rw (line_here, ne_eqb (get_or is i 0) x q) (both_false (eqb (get_or os i 0) o))
+  pub other_item : get_or is i 0 ≢ x → same_order (entry o x) (get_or (pairs os is) i void_entry) ≡ false
+  other_item q = rw (line_at os is e i h, ne_eqb (get_or is i 0) x q) (both_false (eqb (get_or os i 0) o))
 
 -- the spoilt lines are the zeros of the order column
 pub voided_zeros : (os is : List ℕ) → length is ≡ length os → voided_in (pairs os is) ≡ times 0 os
@@ -82,18 +75,3 @@ none_same o i (x ∷ os) (y ∷ is) z =
     let rest : 0 + times o os ≡ 0 = rw f at z in
     let h = none_same o i os is (omega arith) in
     rw f (omega arith))
-
--- ---- counts of which none is to be
-
-module _ (n m : ℕ) where
-  pub none_both : eqb (n + m) 0 ≡ both (eqb n 0) (eqb m 0)
-  none_both =
-      on_test (eqb n 0)
-      (λ t. let z = eqb-true n 0 t in let same : n + m ≡ m = omega (arith, z) in rw t (ap (λ (k : ℕ). eqb k 0) same))
-      (λ f. let z = eqb-false n 0 f in rw (f, ne_eqb (n + m) 0 (λ q. z (omega (arith, q)))))
-
-  pub still_none : (b : Bool) → b ≡ eqb n 0 → eqb m 0 ≡ true → b ≡ eqb (n + m) 0
-  still_none b e t = let same : n + m ≡ n = omega (arith, eqb-true m 0 t) in e ∙ ap (λ (k : ℕ). eqb k 0) (sym same)
-
-  pub no_longer_none : eqb m 0 ≡ false → false ≡ eqb (n + m) 0
-  no_longer_none f = let z = eqb-false m 0 f in sym (ne_eqb (n + m) 0 (λ q. z (omega (arith, q))))

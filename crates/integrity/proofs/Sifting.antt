@@ -6,7 +6,8 @@ use Prim.Native.Nat.{ℕ, zero, suc, ◌+◌, ◌-◌, ◌%◌, ◌≤◌, ◌<�
 use native.Mathlib.Nat.{eq-or-lt_of_le}
 use native.Mathlib.Omega.{arith}
 use lib.Dec.{eqb}
-use lib.ListN.{length, get_or, take, set, length-append, length-set, get_or-append}
+use lib.ListN.{length, get_or, take, drop, set, length-append, length-set, length-take, length-drop, get_or-append}
+use Rattle.std.proofs.lemmas.List.{get_or-drop}
 use lib.Seq.{length-take-le, take-append-add, get_or-take, get_or-append-add, get_or-set_same, get_or-set_other}
 use borrow.Author.Tests.{eqb-true, eqb-false}
 use Rattle.walsh.proofs.Cases.{on_test, on_less}
@@ -265,17 +266,18 @@ module _ {marks os : List ℕ} {n : ℕ} (m : Marked marks os n) where
 
 -- ---- lines without a mark
 
-pub unmarked_none : (marks os : List ℕ) (i : ℕ) → Unmarked marks os i 0
-unmarked_none marks os i = record { none = λ j h. absurd (omega (arith, h)) }
-
--- one line more, line q
-pub unmarked_more : {marks os : List ℕ} {i n : ℕ} → Unmarked marks os i n → {q m : ℕ} → m ≡ mark_of marks os q → q ≡ i + n → m ≡ 0
-    → Unmarked marks os i (suc n)
-unmarked_more {marks} {os} {i} {n} u {q} e b z =
+-- of n lines from place i on, as a part of the column
+pub unmarked_part : (marks os : List ℕ) (i n : ℕ) → {m : ℕ} → m ≡ n → i + n ≤ length os
+    → Unmarked marks (take m (drop i os)) 0 (length (take m (drop i os))) → Unmarked marks os i n
+unmarked_part marks os i n {m} e h u =
     record {
-      none = λ j h.
-          let at : (j ≡ n) ⊎ (j < n) = eq-or-lt_of_le (omega (arith, h)) in
-          ⊎_elim (λ c. ap (mark_of marks os) (omega (arith, b, c)) ∙ sym e ∙ z) (u.none j) at;
+      none = λ j b.
+          let part : List ℕ = take m (drop i os) in
+          let inside : j < length part = omega (arith, length-take m (drop i os), length-drop i os, e, b) in
+          let here : get_or part j 0 ≡ get_or os (i + j) 0 =
+          get_or-take m (drop i os) j 0 (omega (arith, e, b)) ∙ get_or-drop i os j 0 in
+          let at : 0 + j ≡ j = omega arith in
+          ap (λ (x : ℕ). get_or marks (x % slots) 0) (sym here) ∙ ap (mark_of marks part) (sym at) ∙ u.none j inside;
     }
 
 -- ---- in two columns: an order of the bundle

@@ -1,4 +1,5 @@
 pub mod Again
 pub mod Range
+pub mod Lines
 pub mod Sift
 pub mod Examine

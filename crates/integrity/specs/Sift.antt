@@ -1,9 +1,7 @@
 -- What the pass that looks for the orders of a bundle keeps from line to line. Lines and orders have one row of places: line q has the place q, and
 -- order k of es, which is to be written behind the lines l, the place length l + k.
-use Rattle.std.specs.Prelude.{◌≡◌, ◌≢◌, ◌⊎◌, List, ◌++◌, ℕ, ◌+◌, ◌%◌, ◌≤◌, ◌<◌, length, get_or, eqb}
-use Rattle.model.specs.Entry.{Entry, void_entry, voided_in, unsound_in}
-use Rattle.integrity.specs.declared.meet.Swept.{Swept}
-use Rattle.integrity.specs.Again.{first_again, place_again}
+use Rattle.std.specs.Prelude.{◌≡◌, ◌≢◌, ◌⊎◌, List, ◌++◌, ℕ, ◌+◌, ◌%◌, ◌≤◌, ◌<◌, length, get_or}
+use Rattle.model.specs.Entry.{Entry, void_entry}
 
 -- after i lines, and all of the bundle: place q is looked at and stands before order k
 abbrev pub Before : List Entry → ℕ → ℕ → ℕ → Type 0
@@ -19,13 +17,6 @@ pub record Sifted (l es : List Entry) (i f p : ℕ) : Type 0 where
   pub new : (k : ℕ) → k < f → New l es i k (length l + k)
   pub here : f < length es → Before l i f p × (get_or (l ++ es) p void_entry ≡ get_or es f void_entry) × New l es i f p
   pub none : f ≡ length es → p ≡ length l + length es
-
--- what a whole pass for the orders es over the lines l finds
-pub record Sweeps (l es : List Entry) (w : Swept) : Type 0 where
-  pub zeros : w.zeros ≡ voided_in l
-  pub sound : w.sound ≡ eqb (unsound_in l) 0
-  pub first : w.first ≡ first_again l es
-  pub place : w.place ≡ place_again l es
 
 -- ---- the table of marks, which tells of most lines that they are none of the orders
 

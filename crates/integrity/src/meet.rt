@@ -1,28 +1,29 @@
 // The pass over the lines written that looks for all orders of a bundle at once. A table of marks by the remainder of an order's number tells of most
 // lines that they are none of the orders; only a marked line is compared with them, number and item line.
-ghost use Rattle.std.specs.Prelude.{◌≡◌, true, List, ◌+◌, ◌%◌, ◌≤◌, ◌<◌, length};
+ghost use Rattle.std.specs.Prelude.{◌≡◌, false, List, ◌+◌, ◌%◌, ◌≤◌, ◌<◌, length};
 ghost use Rattle.bounds.specs.Places.{most_entries};
-ghost use Rattle.walsh.specs.Tests.{times};
-ghost use Rattle.model.specs.Basics.{first_place};
-ghost use Rattle.model.specs.Entry.{Entry, entry, pairs, same_order};
-ghost use Rattle.integrity.specs.Sift.{Sifted, Sweeps, slots, Marked, mark_of, Unmarked};
+ghost use Rattle.model.specs.Entry.{Entry, voided_in};
+ghost use Rattle.integrity.specs.Lines.{lines_in, if_sound};
+ghost use Rattle.integrity.specs.Again.{first_again, place_again};
+ghost use Rattle.integrity.specs.Sift.{Sifted, slots, Marked, Unmarked};
 
+use crate::lines::{BLOCK, Lines};
 use crate::pass;
 
 const SLOTS: usize = 8192;
 
-// The first order known to stand in an earlier line, by its place in the bundle, and the lowest such line.
+// The first order known to stand in an earlier line, by its place in the bundle, and the lowest such line; the number of orders and of all lines where
+// none is, as specs/Sift `Sifted` says it, so that a lower order wins by one comparison.
 #[derive(Clone, Copy)]
 struct Hit {
     first: usize,
     place: usize,
 }
 
-// How many lines are spoilt, whether none is unsound, and the first order that stands in an earlier line, with the lowest such line.
+// How many lines are spoilt, and the first order that stands in an earlier line, with the lowest such line.
 #[derive(Clone, Copy)]
 pub(crate) struct Swept {
-    pub(crate) zeros: u64,
-    pub(crate) sound: bool,
+    pub(crate) zeros: usize,
     pub(crate) first: usize,
     pub(crate) place: usize,
 }
@@ -34,189 +35,120 @@ fn slot(order: u32) -> usize
 }
 
 // The first order that stands earlier in the bundle; the orders before it are marked. Two orders may share a slot, so one whose slot is marked
-// already is searched for.
-fn mark(bundle: &[u32], items: &[u8], marks: &mut [u8]) -> Hit
-    requires { (length marks.old ≡ slots) × (length items.now ≡ length bundle.now) }
-    ensures { ((l : List Entry) → Sifted l (pairs bundle.now items.now) 0 result.first (length l + result.place))
-        × Marked marks.new bundle.now result.first × (result.place ≤ length bundle.now) }
+// already is searched for. (One `if` in another: a chain of conditions gives the case of none no name that a proof could cite.)
+fn mark(bundle: Lines, marks: &mut [u8]) -> Hit
+    requires { length marks.old ≡ slots }
+    ensures sifted { (l : List Entry) → Sifted l (lines_in bundle.entry) 0 result.first (length l + result.place) }
+    ensures marked { Marked marks.new bundle.entry.orders.now result.first }
+    ensures within { result.place ≤ length bundle.entry.orders.now }
 {
-    let n = bundle.len();
-    let mut i: usize = 0;
-    while i < n {
-        let order = bundle[i];
-        let s = slot(order);
+    for (i, order) in bundle.orders.iter().enumerate() {
+        let s = slot(*order);
         if marks[s] != 0 {
-            let at = pass::search(bundle, items, 0, i, order, items[i]);
-            if at < i {
-                return Hit {
-                    first: i,
-                    place: at,
-                };
+            if let Some(place) = pass::search(bundle.part(0, i), *order, bundle.items[i]) {
+                return Hit { first: i, place };
             }
         }
         marks[s] = 1;
-        i += 1;
     }
-    Hit { first: i, place: i }
+    let n = bundle.len();
+    Hit { first: n, place: n }
 }
 
-// Whether none of these has the number of an order. Of more than a block of them nothing is said.
-fn absent(orders: &[u32], order: u32) -> bool
-    ensures { result ≡ true → times order orders.now ≡ 0 }
+// The lines from place `from` up to `to`, one by one. An order that is found once more keeps its lower line, and a lower order of the bundle wins. (The marks
+// come apart from the hit: they stay as they are while it changes. One `if` in another, as in `mark`.)
+fn look(lines: Lines, from: usize, to: usize, bundle: Lines, marks: &[u8], start: Hit) -> Hit
+    requires range { (from ≤ to) × (to ≤ length lines.orders.now) }
+    requires marked { Marked marks.now bundle.orders.now start.first }
+    requires sifted { Sifted (lines_in lines) (lines_in bundle) from start.first start.place }
+    ensures sifted { Sifted (lines_in lines.entry) (lines_in bundle.entry) to result.first result.place }
+    ensures fewer { result.first ≤ start.first }
 {
-    if pass::BLOCK < orders.len() {
-        return false;
-    }
-    let counts = pass::count(orders, order);
-    counts.hits == 0
-}
-
-// The lowest place of an order in the bundle, which most orders that are asked for do not have.
-fn settle(bundle: &[u32], items: &[u8], order: u32, item: u8) -> usize
-    requires { length items.now ≡ length bundle.now }
-    ensures { result ≡ first_place (same_order (entry order item)) (pairs bundle.now items.now) }
-{
-    if absent(bundle, order) {
-        return bundle.len();
-    }
-    pass::search(bundle, items, 0, bundle.len(), order, item)
-}
-
-// The lines from place `from` up to `to`, one by one. An order that is found once more keeps its lower line, and a lower order of the bundle wins.
-fn look(
-    lines: &[u32],
-    items: &[u8],
-    from: usize,
-    to: usize,
-    bundle: &[u32],
-    itemlines: &[u8],
-    marks: &[u8],
-    hit: Hit,
-) -> Hit
-    requires { (from ≤ to) × (to ≤ length lines.now) × (length items.now ≡ length lines.now)
-        × (length itemlines.now ≡ length bundle.now) × Marked marks.now bundle.now hit.first
-        × Sifted (pairs lines.now items.now) (pairs bundle.now itemlines.now) from hit.first hit.place }
-    ensures { Sifted (pairs lines.now items.now) (pairs bundle.now itemlines.now) to
-        result.first result.place × (result.first ≤ hit.first) }
-{
-    let mut first = hit.first;
-    let mut place = hit.place;
-    let mut i = from;
-    while i < to {
-        let x = lines[i];
-        let s = slot(x);
-        if marks[s] != 0 {
-            let k = settle(bundle, itemlines, x, items[i]);
-            if k < first {
-                first = k;
-                place = i;
+    let mut hit = start;
+    for i in from..to {
+        let order = lines.orders[i];
+        if marks[slot(order)] != 0 {
+            if let Some(k) = pass::find(bundle, order, lines.items[i]) {
+                if k < hit.first {
+                    hit = Hit { first: k, place: i };
+                }
             }
         }
-        i += 1;
     }
-    Hit { first, place }
+    hit
 }
 
-fn mark_of(lines: &[u32], at: usize, marks: &[u8]) -> usize
-    requires { (at < length lines.now) × (length marks.now ≡ slots) }
-    ensures { (result ≡ mark_of marks.now lines.now at) × (result ≤ 255) }
+// Whether one of eight lines is marked: their marks are added up, without a branch.
+fn marked(orders: &[u32], marks: &[u8]) -> bool
+    requires { (length orders.now ≤ 8) × (length marks.now ≡ slots) }
+    ensures { result ≡ false → Unmarked marks.now orders.now 0 (length orders.now) }
 {
-    let s = slot(lines[at]);
-    walsh::wide(marks[s])
-}
-
-// The marks of eight lines added up, without a branch: 0 only where none of them is marked.
-fn marked(lines: &[u32], at: usize, marks: &[u8]) -> usize
-    requires { (at + 8 ≤ length lines.now) × (length marks.now ≡ slots) }
-    ensures { result ≡ 0 → Unmarked marks.now lines.now at 8 }
-{
-    let mut sum = mark_of(lines, at, marks);
-    sum += mark_of(lines, at + 1, marks);
-    sum += mark_of(lines, at + 2, marks);
-    sum += mark_of(lines, at + 3, marks);
-    sum += mark_of(lines, at + 4, marks);
-    sum += mark_of(lines, at + 5, marks);
-    sum += mark_of(lines, at + 6, marks);
-    sum += mark_of(lines, at + 7, marks);
-    sum
+    let mut sum = 0;
+    for order in orders {
+        sum += usize::from(marks[slot(*order)]);
+    }
+    sum != 0
 }
 
 // The lines from place `from` up to `to`, eight at a time: where none of them is marked they are passed over.
-fn sift(
-    lines: &[u32],
-    items: &[u8],
-    from: usize,
-    to: usize,
-    bundle: &[u32],
-    itemlines: &[u8],
-    marks: &[u8],
-    start: Hit,
-) -> Hit
-    requires { (from ≤ to) × (to ≤ length lines.now) × (length items.now ≡ length lines.now)
-        × (length itemlines.now ≡ length bundle.now) × Marked marks.now bundle.now start.first
-        × Sifted (pairs lines.now items.now) (pairs bundle.now itemlines.now) from start.first start.place }
-    ensures { Sifted (pairs lines.now items.now) (pairs bundle.now itemlines.now) to
-        result.first result.place × (result.first ≤ start.first) }
+fn sift(lines: Lines, from: usize, to: usize, bundle: Lines, marks: &[u8], start: Hit) -> Hit
+    requires range { (from ≤ to) × (to ≤ length lines.orders.now) }
+    requires marked { Marked marks.now bundle.orders.now start.first }
+    requires sifted { Sifted (lines_in lines) (lines_in bundle) from start.first start.place }
+    ensures sifted { Sifted (lines_in lines.entry) (lines_in bundle.entry) to result.first result.place }
+    ensures fewer { result.first ≤ start.first }
 {
     let mut hit = start;
-    let mut i = from;
-    while 8 <= to - i {
-        if marked(lines, i, marks) != 0 {
-            hit = look(lines, items, i, i + 8, bundle, itemlines, marks, hit);
+    let eights = (to - from) / 8;
+    for j in 0..eights {
+        let at = from + 8 * j;
+        if marked(&lines.orders[at..at + 8], marks) {
+            hit = look(lines, at, at + 8, bundle, marks, hit);
         }
-        i += 8;
     }
-    look(lines, items, i, to, bundle, itemlines, marks, hit)
+    look(lines, from + 8 * eights, to, bundle, marks, hit)
 }
 
 // Block by block, so that the lines whose zeros are counted are still at hand.
-fn sweep(
-    lines: &[u32],
-    items: &[u8],
-    bundle: &[u32],
-    itemlines: &[u8],
-    marks: &[u8],
-    start: Hit,
-) -> Swept
-    requires { (length lines.now ≤ most_entries) × (length items.now ≡ length lines.now)
-        × (length itemlines.now ≡ length bundle.now) × Marked marks.now bundle.now start.first
-        × Sifted (pairs lines.now items.now) (pairs bundle.now itemlines.now) 0 start.first start.place }
-    ensures { Sweeps (pairs lines.now items.now) (pairs bundle.now itemlines.now) result }
+fn sweep(lines: Lines, bundle: Lines, marks: &[u8], start: Hit) -> Option<Swept>
+    requires few { length lines.orders.now ≤ most_entries }
+    requires marked { Marked marks.now bundle.orders.now start.first }
+    requires sifted { Sifted (lines_in lines) (lines_in bundle) 0 start.first start.place }
+    ensures { result ≡ if_sound (lines_in lines.entry) (record {
+      zeros = voided_in (lines_in lines.entry);
+      first = first_again (lines_in lines.entry) (lines_in bundle.entry);
+      place = place_again (lines_in lines.entry) (lines_in bundle.entry);
+    }) }
 {
-    let n = lines.len();
-    let mut zeros: u64 = 0;
-    let mut sound = true;
+    let mut zeros = 0;
     let mut hit = start;
-    let mut i: usize = 0;
-    while i < n {
-        let to = i + walsh::lesser(n - i, pass::BLOCK);
-        let part = pass::block(&lines[i..to], &items[i..to]);
-        zeros += part.zeros;
-        if !part.sound {
-            sound = false;
-        }
-        hit = sift(lines, items, i, to, bundle, itemlines, marks, hit);
-        i = to;
+    for k in 0..lines.blocks() {
+        let from = k * BLOCK;
+        let to = lines.len().min(from + BLOCK);
+        zeros += pass::voids(lines.part(from, to))?;
+        hit = sift(lines, from, to, bundle, marks, hit);
     }
-    Swept {
+    Some(Swept {
         zeros,
-        sound,
         first: hit.first,
         place: hit.place,
-    }
+    })
 }
 
-// The spoilt lines, whether none is unsound, and the first order of the bundle that stands in an earlier line.
-pub(crate) fn meet(lines: &[u32], items: &[u8], bundle: &[u32], itemlines: &[u8]) -> Swept
-    requires { (length lines.now ≤ most_entries) × (length items.now ≡ length lines.now)
-        × (length itemlines.now ≡ length bundle.now) }
-    ensures { Sweeps (pairs lines.now items.now) (pairs bundle.now itemlines.now) result }
+// The spoilt lines, and the first order of the bundle that stands in an earlier line.
+pub(crate) fn meet(lines: Lines, bundle: Lines) -> Option<Swept>
+    requires { length lines.orders.now ≤ most_entries }
+    ensures { result ≡ if_sound (lines_in lines.entry) (record {
+      zeros = voided_in (lines_in lines.entry);
+      first = first_again (lines_in lines.entry) (lines_in bundle.entry);
+      place = place_again (lines_in lines.entry) (lines_in bundle.entry);
+    }) }
 {
     let mut marks = [0u8; SLOTS];
-    let hit = mark(bundle, itemlines, &mut marks);
+    let hit = mark(bundle, &mut marks);
     let start = Hit {
         first: hit.first,
         place: lines.len() + hit.place,
     };
-    sweep(lines, items, bundle, itemlines, &marks, start)
+    sweep(lines, bundle, &marks, start)
 }

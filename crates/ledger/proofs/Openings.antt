@@ -1,7 +1,8 @@
 -- The answers of an opening, from what the edition answers for serial 1.
-use mathlib.Core.Path.{◌≡◌, refl, ap, ◌∙◌}
+use Rattle.std.specs.Prelude.{Err}
+use mathlib.Core.Path.{◌≡◌, refl, sym, ◌∙◌}
 use mathlib.Core.List.{List, [], ◌∷◌}
-use Prim.Native.Nat.{ℕ, ◌≤◌, ◌<◌}
+use Prim.Native.Nat.{◌≤◌, ◌<◌}
 use native.Mathlib.Omega.{arith}
 use lib.ListN.{length, take}
 use lib.Seq.{take_all}
@@ -12,18 +13,21 @@ use Rattle.bounds.specs.Places.{most_entries, too_many}
 use Rattle.bounds.specs.declared.Bounds.{Bounds}
 use Rattle.bounds.specs.declared.Refusal.{Refusal}
 use Rattle.bounds.proofs.Editions.{edition_shapely}
-use Rattle.bounds.proofs.Refusals.{refusal_here, refusal_next, refusal_first, refusal_later, by_refusal}
+use Rattle.bounds.proofs.Refusals.{refusal_here, refusal_next, refusal_later, by_refusal}
 use Rattle.bounds.proofs.Chains.{Accepts}
-use Rattle.rank.specs.Locate.{locate_of}
+use Rattle.bounds.specs.Reason.{coded}
+use Rattle.bounds.specs.declared.Reason.{Reason}
+use Rattle.bounds.specs.declared.Reason.TheVariants.{Entries, Columns}
+use Rattle.bounds.proofs.Reasons.{coded-number, coded-first, accepted}
+use Rattle.rank.specs.Locate.{Locates}
 use Rattle.rank.specs.declared.Located.{Located}
-use Rattle.rank.proofs.Locations.{Locates, located_refused, located_accepted}
 use Rattle.model.specs.Entry.{Lent, room}
 use Rattle.model.specs.Printing.{Printing, capacity}
-use Rattle.model.specs.Record.{short_column, opening_checks, opened, blank_ledger, opening}
-use Rattle.model.specs.declared.Opened.{Opened}
+use Rattle.model.specs.Record.{short_column, opening_checks, opened, opening}
+use Rattle.model.specs.Results.{opened_of}
 use Rattle.integrity.proofs.Checks.{nearest_next}
 
-module _ (p : Printing) (col : Lent) {x : Located} (is : x ≡ locate_of p.bounds p.total 1) where
+module _ (p : Printing) (col : Lent) where
   abbrev checks : Refusal
   checks = first_refusal (opening_checks p (room col))
 
@@ -31,38 +35,32 @@ module _ (p : Printing) (col : Lent) {x : Located} (is : x ≡ locate_of p.bound
   abbrev places : List Check
   places = too_many (capacity p) ∷ short_column p (room col) ∷ []
 
-  abbrev unopened : ℕ → ℕ → Opened
-  unopened n d = record { number = n; detail = d; ledger = blank_ledger }
-
-  refused_by : (n d : ℕ) → 0 < n → checks ≡ refused n d → unopened n d ≡ opening p col
+  refused_by : (e : Reason) → checks ≡ coded e → opened_of (Err e) ≡ opening p col
   unfolding opening
-  refused_by n d l e = rw (by_refusal checks _ _ n d e l, e)
+  refused_by e q = rw (by_refusal checks _ _ (coded e).number (coded e).detail q (coded-number e), q)
 
-  pub opening_edition : 0 < x.number → unopened x.number x.detail ≡ opening p col
-  opening_edition l =
-      let e = located_refused p.bounds p.total 1 x is l in
-      let number = ap (λ (v : Refusal). v.number) e in
-      refused_by x.number x.detail l (refusal_first (edition_checks p.bounds p.total) places (λ z. omega (arith, number, z)) ∙ e)
+  pub opening_edition : (e : Reason) → coded e ≡ first_refusal (edition_checks p.bounds p.total) → opened_of (Err e) ≡ opening p col
+  opening_edition e q = refused_by e (sym (coded-first e (edition_checks p.bounds p.total) places q))
 
-  module _ (z : x.number ≡ 0) where
-    located : Accepts (edition_checks p.bounds p.total) × Locates p.bounds p.total 1 x
-    located = located_accepted p.bounds p.total 1 x is z
+  module _ {x : Located} (q : refused 0 0 ≡ first_refusal (edition_checks p.bounds p.total)) (at : Locates p.bounds p.total 1 x) where
+    sound : Accepts (edition_checks p.bounds p.total)
+    sound = accepted (first_refusal (edition_checks p.bounds p.total)) q
 
     count_is : x.count ≡ capacity p
-    count_is = located.1.count
+    count_is = at.count
 
     placed : checks ≡ first_refusal places
-    placed = refusal_later (edition_checks p.bounds p.total) places refl located.0
+    placed = refusal_later (edition_checks p.bounds p.total) places refl sound
 
-    pub opening_many : most_entries < x.count → unopened 14 0 ≡ opening p col
-    opening_many l = refused_by 14 0 (omega arith) (placed ∙ refusal_here _ _ (lt-ltb most_entries (capacity p) (omega (arith, count_is))))
+    pub opening_many : most_entries < x.count → opened_of (Err Entries) ≡ opening p col
+    opening_many l = refused_by Entries (placed ∙ refusal_here _ _ (lt-ltb most_entries (capacity p) (omega (arith, count_is))))
 
     module _ (few : x.count ≤ most_entries) where
       roomy : checks ≡ first_refusal (short_column p (room col) ∷ [])
       roomy = placed ∙ refusal_next _ _ (le-ltb most_entries (capacity p) (omega (arith, count_is)))
 
-      pub opening_short : room col < x.count → unopened 15 0 ≡ opening p col
-      opening_short l = refused_by 15 0 (omega arith) (roomy ∙ refusal_here _ _ (lt-ltb (room col) (capacity p) (omega (arith, count_is))))
+      pub opening_short : room col < x.count → opened_of (Err Columns) ≡ opening p col
+      opening_short l = refused_by Columns (roomy ∙ refusal_here _ _ (lt-ltb (room col) (capacity p) (omega (arith, count_is))))
 
       pub opening_good : (b : Bounds) → x.count ≤ room col
           → b ≡ record { parts = length p.bounds; upper = cells_of (take 24 p.bounds); total = p.total }
@@ -71,5 +69,5 @@ module _ (p : Printing) (col : Lent) {x : Located} (is : x ≡ locate_of p.bound
       unfolding opening opened first_refusal
       opening_good b fits e =
           let none : checks ≡ refused 0 0 = roomy ∙ rw (le-ltb (room col) (capacity p) (omega (arith, count_is))) in
-          let small : length p.bounds ≤ 24 = (edition_shapely p.bounds p.total located.0).few in
-          rw (none, e, take_all 24 p.bounds small, located.1.cells ∙ nearest_next p 0)
+          let small : length p.bounds ≤ 24 = (edition_shapely p.bounds p.total sound).few in
+          rw (none, e, take_all 24 p.bounds small, at.cells ∙ nearest_next p 0)

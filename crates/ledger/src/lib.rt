@@ -8,59 +8,35 @@ ghost use Rattle.bounds.specs.Places.{most_entries};
 ghost use Rattle.model.specs.Printing.{size, next_composition};
 ghost use Rattle.model.specs.Entry.{entry, columns, orders_of, items_of};
 ghost use Rattle.model.specs.Model.{Call};
-ghost use Rattle.model.specs.Record.{printing_of, blank_ledger, opening, peeking, calling, entries_of};
+ghost use Rattle.model.specs.Record.{printing_of, opening, peeking, calling, entries_of};
+ghost use Rattle.model.specs.Results.{answer_of, peeked_of, opened_of};
 ghost use Rattle.ledger.specs.Counting.{counting};
 
-use model::{Answer, Claimed, Ledger, Opened, Peeked};
+use bounds::Reason;
+use model::{Answer, Claimed, Ledger, Line, Peek};
 use step::batch::stride;
 
 // ---- opening
 
-// What a refused opening answers: its refusal and a record of zeros.
-pub fn unopened(number: u32, detail: u64) -> Opened
-    ensures { result ≡ record { number = number; detail = detail; ledger = blank_ledger } }
-{
-    let ledger = Ledger {
-        bounds: bounds::blank(),
-        entries: 0,
-        sold: 0,
-        voided: 0,
-        next: [0; 24],
-    };
-    Opened {
-        number,
-        detail,
-        ledger,
-    }
-}
-
 // A ledger without entries. No entry of the columns is written.
-pub fn open(upper: &[u8], total: u32, orders: &[u32], items: &[u8]) -> Opened
-    ensures { result ≡ opening (record { bounds = upper.now; total = total }) (columns orders.now items.now) }
+pub fn open(upper: &[u8], total: u32, orders: &[u32], items: &[u8]) -> Result<Ledger, Reason>
+    ensures { opened_of result ≡ opening (record { bounds = upper.now; total = total }) (columns orders.now items.now) }
 {
-    let first = rank::locate(upper, total, 1);
-    if 0 < first.number {
-        return unopened(first.number, first.detail);
-    }
+    let first = rank::locate(upper, total, 1)?;
     if bounds::MOST_ENTRIES < first.count {
-        return unopened(14, 0);
+        return Err(Reason::Entries);
     }
-    if walsh::lesser(orders.len(), items.len()) < first.count as usize {
-        return unopened(15, 0);
+    if orders.len().min(items.len()) < first.count as usize {
+        return Err(Reason::Columns);
     }
     let next = first.composition;
-    let ledger = Ledger {
+    Ok(Ledger {
         bounds: bounds::record(upper, total),
         entries: 0,
         sold: 0,
         voided: 0,
         next,
-    };
-    Opened {
-        number: 0,
-        detail: 0,
-        ledger,
-    }
+    })
 }
 
 // ---- what an accepted call writes
@@ -84,18 +60,18 @@ fn following(ledger: Ledger, lines: usize) -> [u8; 24]
     cells
 }
 
-// What a call answers, and the record with so many lines more and these counts. It calls nothing, so that the record is built where the caller hands it
-// back, and not copied.
+// What an accepted call answers, and the record with so many lines more and these counts. What it calls is small, so that the record is built where the
+// caller hands it back, and not copied.
 fn counted(
     ledger: Ledger,
-    answer: Answer,
+    line: Line,
     next: [u8; 24],
     lines: u64,
     sold: u64,
     voided: u64,
 ) -> Claimed
     requires { (ledger.entries + lines ≤ most_entries) × (next ≡ next_composition (printing_of ledger) (ledger.entries + lines)) }
-    ensures { result ≡ record { answer = answer; ledger = counting ledger lines sold voided } }
+    ensures { result ≡ record { answer = answer_of (Ok line); ledger = counting ledger lines sold voided } }
 {
     let bounds = ledger.bounds;
     let after = Ledger {
@@ -106,28 +82,27 @@ fn counted(
         next,
     };
     Claimed {
-        answer,
+        answer: Answer::from(Ok(line)),
         ledger: after,
     }
 }
 
-// Copies the orders of a bundle into entries of the order column, as many.
-fn lay(bundle: &[u32], entries: &mut [u32])
-    requires { length entries.old ≡ length bundle.now }
-    ensures { entries.new ≡ bundle.now }
+// What a refused call answers, and the record as it was.
+fn turned_away(ledger: Ledger, reason: Reason) -> Claimed
+    ensures { result ≡ record { answer = answer_of (Err reason); ledger = ledger } }
 {
-    let mut k: usize = 0;
-    while k < bundle.len() {
-        entries[k] = bundle[k];
-        k += 1;
+    Claimed {
+        answer: Answer::from(Err(reason)),
+        ledger,
     }
 }
 
 // ---- the calls
+// Record and columns come apart, as the C interface lends them: a record by value, which the answer holds anew, and columns that are written in place.
 
 // document 01: look. The next serial with its composition and its pair; nothing is reserved.
-pub fn peek(ledger: Ledger, orders: &[u32], items: &[u8]) -> Peeked
-    ensures { result ≡ peeking ledger (columns orders.now items.now) }
+pub fn peek(ledger: Ledger, orders: &[u32], items: &[u8]) -> Result<Peek, Reason>
+    ensures { peeked_of result ≡ peeking ledger (columns orders.now items.now) }
 {
     reply::peek(ledger, orders, items)
 }
@@ -144,37 +119,32 @@ pub fn claim(
     ensures { (result, columns orders.new items.new)
         ≡ calling ledger (columns orders.old items.old) (Call.claim serial (entry order item)) }
 {
-    let claimed = reply::claim(ledger, orders, items, serial, order, item);
-    if claimed.number != 0 {
-        return Claimed {
-            answer: claimed,
-            ledger,
-        };
-    }
+    let line = match reply::claim(ledger, orders, items, serial, order, item) {
+        Ok(line) => line,
+        Err(reason) => return turned_away(ledger, reason),
+    };
     let next = following(ledger, 1);
     let at = ledger.entries as usize;
     orders[at] = order;
     items[at] = item;
-    counted(ledger, claimed, next, 1, ledger.sold + 1, ledger.voided)
+    counted(ledger, line, next, 1, ledger.sold + 1, ledger.voided)
 }
 
-// document 01: spoil. The serial for no order.
+// document 01: spoil. The serial for no order. (It shares `following` and `counted` with `claim`; one function for both would take the reply, what is
+// written and both counts.)
 pub fn void(ledger: Ledger, orders: &mut [u32], items: &mut [u8], serial: u64) -> Claimed
     ensures { (result, columns orders.new items.new)
         ≡ calling ledger (columns orders.old items.old) (Call.void serial) }
 {
-    let voided = reply::void(ledger, orders, items, serial);
-    if voided.number != 0 {
-        return Claimed {
-            answer: voided,
-            ledger,
-        };
-    }
+    let line = match reply::void(ledger, orders, items, serial) {
+        Ok(line) => line,
+        Err(refused) => return turned_away(ledger, refused),
+    };
     let after = following(ledger, 1);
     let entry = ledger.entries as usize;
     orders[entry] = 0;
     items[entry] = 0;
-    counted(ledger, voided, after, 1, ledger.sold, ledger.voided + 1)
+    counted(ledger, line, after, 1, ledger.sold, ledger.voided + 1)
 }
 
 // document 02, (v): a bundle. Consecutive serials from the one named on, for as many orders, each with its item line; refused, it changes neither the
@@ -191,19 +161,16 @@ pub fn claim_all(
         ≡ calling ledger (columns orders.old items.old)
         (Call.claim_all serial (columns bundle.now itemlines.now)) }
 {
-    let taken = reply::claim_all(ledger, orders, items, serial, bundle, itemlines);
-    if taken.number != 0 {
-        return Claimed {
-            answer: taken,
-            ledger,
-        };
-    }
+    let taken = match reply::claim_all(ledger, orders, items, serial, bundle, itemlines) {
+        Ok(first) => first,
+        Err(failed) => return turned_away(ledger, failed),
+    };
     let lines = bundle.len();
     let next = following(ledger, lines);
     let at = ledger.entries as usize;
     let end = at + lines;
-    lay(bundle, &mut orders[at..end]);
-    bounds::copy(itemlines, &mut items[at..end]);
+    orders[at..end].copy_from_slice(bundle);
+    items[at..end].copy_from_slice(itemlines);
     let more = lines as u64;
     counted(ledger, taken, next, more, ledger.sold + more, ledger.voided)
 }
@@ -214,11 +181,10 @@ pub fn claim_all(
 fn written(ledger: Ledger, orders: &[u32], items: &[u8]) -> usize
     ensures { result ≡ length (entries_of ledger (columns orders.now items.now)) }
 {
-    let seen = integrity::examine(ledger, orders, items);
-    if seen.fits {
-        return ledger.entries as usize;
+    match integrity::examine(ledger, orders, items) {
+        Some(_) => ledger.entries as usize,
+        None => 0,
     }
-    0
 }
 
 // Their order numbers, as the beginning of the lent column itself.
@@ -229,7 +195,7 @@ pub fn entries<'a>(ledger: Ledger, orders: &'a [u32], items: &[u8]) -> &'a [u32]
     &orders[..n]
 }
 
-// Their item lines, as the beginning of the lent column itself.
+// Their item lines, as the beginning of the lent column itself. (Two functions, as the columns are of two types; what both ask is `written`.)
 pub fn entry_items<'a>(ledger: Ledger, orders: &[u32], items: &'a [u8]) -> &'a [u8]
     ensures { (result.now ≡ items_of (entries_of ledger (columns orders.now items.now))) × (result.ref_ptr ≡ items.entry.ref_ptr) }
 {

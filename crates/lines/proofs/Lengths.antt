@@ -1,7 +1,7 @@
 -- Decimals two digits at a time, and how long decimals and lines are.
 use mathlib.Core.Path.{◌≡◌, ap, ◌∙◌}
 use mathlib.Core.List.{[], ◌∷◌, ◌++◌, append_assoc}
-use Prim.Native.Nat.{ℕ, zero, suc, ◌+◌, ◌*◌, ◌/◌, ◌%◌, ◌^◌, ◌≤◌, ◌<◌}
+use Prim.Native.Nat.{ℕ, zero, suc, ◌+◌, ◌*◌, ◌/◌, ◌%◌, ◌^◌, max, ◌≤◌, ◌<◌}
 use native.Mathlib.Omega.{arith}
 use lib.ListN.{length, length-append}
 use Rattle.walsh.proofs.Cases.{on_less}
@@ -48,6 +48,20 @@ length_decimal (suc k) n h = go (length_decimal k (n / 10))
   where
     go : (n / 10 < 10 * 10 ^ k → length (decimal (n / 10)) ≤ suc k) → length (decimal n) ≤ suc (suc k)
     go below = on_less n 10 (λ l _. omega (arith, length_small n l)) (λ l _. omega (arith, length_more n l, below (omega arith)))
+
+one_power : (k : ℕ) → 1 ≤ 10 ^ k
+one_power zero = omega arith
+one_power (suc k) = omega (arith, one_power k)
+
+-- a number from 10^k on, or 0 where k is 0, and below 10 * 10^k has k + 1 digits
+pub length_power : (k n : ℕ) → 10 ^ k ≤ max n 1 → n < 10 * 10 ^ k → length (decimal n) ≡ suc k
+length_power zero n l h = length_small n (omega arith)
+length_power (suc k) n l h = go (length_power k (n / 10))
+  where
+    go : (10 ^ k ≤ max (n / 10) 1 → n / 10 < 10 * 10 ^ k → length (decimal (n / 10)) ≡ suc k) → length (decimal n) ≡ suc (suc k)
+    go below =
+        let many : 10 ≤ n = omega (arith, one_power k) in
+        omega (arith, length_more n many, below (omega arith) (omega arith))
 
 pub length_serial : (n : ℕ) → n < 18446744073709551616 → length (decimal n) ≤ 20
 length_serial n h = length_decimal 19 n (omega arith)

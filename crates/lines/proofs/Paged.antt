@@ -1,6 +1,7 @@
 -- The answer of a page, case by case.
 use mathlib.Core.Path.{◌≡◌, sym}
 use mathlib.Core.List.{List}
+use Rattle.std.specs.Prelude.{None}
 use Prim.Native.Nat.{ℕ, suc, ◌+◌, ◌-◌, ◌<◌}
 use native.Mathlib.Nat.{add-zero}
 use native.Mathlib.Omega.{arith}
@@ -21,10 +22,10 @@ module _ (line_of : ℕ → List ℕ) (count k : ℕ) where
       sym (rw (ne_eqb k 0 (λ z. omega arith), ← next, ← ends, ← whole put))
 
   -- there is no line 0, and none past the last
-  pub page_zero : (p : Page) (out : List ℕ) → p ≡ record { next = 0; end = 0 } → k ≡ 0 → (p, out) ≡ page_from line_of count k out
+  pub page_zero : (p : Page) (out : List ℕ) → p ≡ record { next = None; end = 0 } → k ≡ 0 → (p, out) ≡ page_from line_of count k out
   page_zero p out e z = rw (e, eq-eqb k 0 z)
 
-  pub page_past : (p : Page) (out : List ℕ) → p ≡ record { next = 0; end = 0 } → count < k → (p, out) ≡ page_from line_of count k out
+  pub page_past : (p : Page) (out : List ℕ) → p ≡ record { next = None; end = 0 } → count < k → (p, out) ≡ page_from line_of count k out
   unfolding fitting lines_of
   page_past p out e h =
       let none : suc count - k ≡ 0 = omega arith in

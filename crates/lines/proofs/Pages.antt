@@ -1,6 +1,7 @@
 -- The pages one behind the other are what is printed.
 use mathlib.Core.Path.{◌≡◌, refl, sym, ap, ◌∙◌}
 use mathlib.Core.List.{List, ◌++◌}
+use Rattle.std.specs.Prelude.{Option, Some, None}
 use Prim.Native.Nat.{ℕ, zero, suc, ◌+◌, ◌-◌, ◌≤◌, ◌<◌}
 use native.Mathlib.Decide.{ℕ_discrete}
 use native.Mathlib.Omega.{arith}
@@ -16,6 +17,12 @@ use Rattle.lines.specs.declared.Page.{Page}
 use Rattle.lines.proofs.Fitting.{lines_append, fitting_here, fitting_le, fitting_fits}
 use Rattle.lines.proofs.Printed.{text_lines}
 use Rattle.lines.proofs.Longest.{printed_short}
+
+none_more : {k : ℕ} {A : Type 0} → ◌≡◌ {A = Option ℕ} None (Some k) → A
+none_more e = cc
+
+same_next : {k m : ℕ} → ◌≡◌ {A = Option ℕ} (Some k) (Some m) → k ≡ m
+same_next e = cc
 
 module _ (s : List ℕ) where
   abbrev f : ℕ → List ℕ
@@ -48,7 +55,7 @@ module _ (s : List ℕ) where
 
     -- the last page has all lines that are left
     module _ (end : count < k + taken f count k (length out)) where
-      next_last : (page_of s k out).0.next ≡ 0
+      next_last : (page_of s k out).0.next ≡ None
       next_last = next_is ∙ rw (lt-ltb count _ end)
 
       shown_last : shown s k out ≡ lines_of f k (suc count - k)
@@ -58,15 +65,15 @@ module _ (s : List ℕ) where
 
     -- another has those before the next
     module _ (on : k + taken f count k (length out) ≤ count) where
-      next_more : (page_of s k out).0.next ≡ k + taken f count k (length out)
+      next_more : (page_of s k out).0.next ≡ Some (k + taken f count k (length out))
       next_more = next_is ∙ rw (le-ltb count _ on)
 
-      shown_more : {rest : List ℕ} → rest ≡ lines_of f (page_of s k out).0.next (suc count - (page_of s k out).0.next)
+      shown_more : {rest : List ℕ} {next : ℕ} → next ≡ k + taken f count k (length out) → rest ≡ lines_of f next (suc count - next)
           → shown s k out ++ rest ≡ lines_of f k (suc count - k)
-      shown_more {rest} e =
-          let n = taken f count k (length out) in
-          let split : suc count - k ≡ n + (suc count - (k + n)) = omega arith in
-          rw (shown_is, e, next_more) (sym (ap (lines_of f k) split ∙ lines_append f k n (suc count - (k + n))))
+      shown_more {rest} {next} n e =
+          let m = taken f count k (length out) in
+          let split : suc count - k ≡ m + (suc count - (k + m)) = omega arith in
+          rw (shown_is, e, n) (sym (ap (lines_of f k) split ∙ lines_append f k m (suc count - (k + m))))
 
     -- a buffer of 88 bytes takes a line
     some : k ≤ count → 88 ≤ length out → 0 < taken f count k (length out)
@@ -80,16 +87,17 @@ module _ (s : List ℕ) where
   rest_is {k} {out} {all} (last e is) low =
       on_less count (k + taken f count k (length out))
       (λ l _. is ∙ shown_last k out low l)
-      (λ l _. absurd (omega (arith, next_more k out low l)))
-  rest_is {k} {out} {all} (more rest ne p is) low =
+      (λ l _. none_more (sym e ∙ next_more k out low l))
+  rest_is {k} {out} {all} (more rest next e p is) low =
       go (rest_is p)
     where
-      go : (0 < (page_of s k out).0.next → rest ≡ lines_of f (page_of s k out).0.next (suc count - (page_of s k out).0.next))
-          → all ≡ lines_of f k (suc count - k)
+      go : (0 < next → rest ≡ lines_of f next (suc count - next)) → all ≡ lines_of f k (suc count - k)
       go below =
           on_less count (k + taken f count k (length out))
-          (λ l _. absurd (ne (next_last k out low l)))
-          (λ l _. is ∙ shown_more k out low l (below (omega (arith, next_more k out low l))))
+          (λ l _. none_more (sym (next_last k out low l) ∙ e))
+          (λ l _.
+          let n = same_next (sym e ∙ next_more k out low l) in
+          is ∙ shown_more k out low l n (below (omega (arith, n))))
 
   whole : printed s ≡ lines_of f 1 count
   unfolding printed
@@ -107,20 +115,21 @@ module _ (s : List ℕ) where
       let end : count < k + taken f count k (length out) = omega arith in
       last (next_last k out low end) (sym (shown_last k out low end))
   ends (suc calls) k out low h room =
-      go (ends calls (page_of s k out).0.next (page_of s k out).1)
+      go (ends calls (k + taken f count k (length out)) (page_of s k out).1)
     where
-      go : (0 < (page_of s k out).0.next → suc count ≤ (page_of s k out).0.next + calls → 88 ≤ length (page_of s k out).1
-          → Pages s (page_of s k out).1 (page_of s k out).0.next
-          (lines_of f (page_of s k out).0.next (suc count - (page_of s k out).0.next)))
+      next : ℕ
+      next = k + taken f count k (length out)
+
+      go : (0 < next → suc count ≤ next + calls → 88 ≤ length (page_of s k out).1
+          → Pages s (page_of s k out).1 next (lines_of f next (suc count - next)))
           → Pages s out k (lines_of f k (suc count - k))
       go below =
-          on_less count (k + taken f count k (length out))
+          on_less count next
           (λ l _. last (next_last k out low l) (sym (shown_last k out low l)))
           (λ l _.
-          let on = next_more k out low l in
           let moved = some k out low (omega arith) room in
-          more _ (λ z. omega (arith, on)) (below (omega (arith, on)) (omega (arith, on, moved)) (omega (arith, size_is k out low)))
-          (sym (shown_more k out low l refl)))
+          more _ next (next_more k out low l) (below (omega arith) (omega (arith, moved)) (omega (arith, size_is k out low)))
+          (sym (shown_more k out low l refl refl)))
 
   pub pages_whole : (out : List ℕ) → 88 ≤ length out → Pages s out 1 (printed s)
   pages_whole out room =
@@ -134,10 +143,10 @@ abbrev pub left : ℕ → ℕ
 left k = suc most_entries - k
 
 module _ (s : List ℕ) (k : ℕ) (before after : List ℕ) (p : Page) (e : (p, after) ≡ page_of s k before) where
-  zero_is : k ≡ 0 → p ≡ record { next = 0; end = 0 }
+  zero_is : k ≡ 0 → p ≡ record { next = None; end = 0 }
   unfolding page_of page_in
   zero_is z =
-      let none : page_of s k before ≡ (record { next = 0; end = 0 }, before) = rw (eq-eqb k 0 z) in
+      let none : page_of s k before ≡ (record { next = None; end = 0 }, before) = rw (eq-eqb k 0 z) in
       ap (λ (x : Page × List ℕ). x.0) (e ∙ none)
 
   pub page_end : p.end ≤ length before
@@ -149,14 +158,16 @@ module _ (s : List ℕ) (k : ℕ) (before after : List ℕ) (p : Page) (e : (p, 
           let ends = ap (λ (x : Page × List ℕ). x.0.end) (e ∙ page_is s k before (omega (arith, z))) in
           omega (arith, ends, fitting_fits (line_in (output_of s)) k (suc (lines_in (output_of s)) - k) (length before))
 
-  pub page_on : 88 ≤ length before → (p.next ≡ 0 → ⊥) → left p.next < left k
-  page_on room ne = go (ℕ_discrete k 0)
+  pub page_on : 88 ≤ length before → (next : ℕ) → p.next ≡ Some next → left next < left k
+  page_on room next is = go (ℕ_discrete k 0)
     where
-      go : Dec (k ≡ 0) → left p.next < left k
-      go (yes z) = absurd (ne (rw (zero_is z)))
+      go : Dec (k ≡ 0) → left next < left k
+      go (yes z) = none_more (sym (ap (λ (x : Page). x.next) (zero_is z)) ∙ is)
       go (no z) =
           let low : 0 < k = omega (arith, z) in
           let n = ap (λ (x : Page × List ℕ). x.0.next) e in
           on_less (lines_in (output_of s)) (k + taken (line_in (output_of s)) (lines_in (output_of s)) k (length before))
-          (λ l _. absurd (ne (n ∙ next_last s k before low l)))
-          (λ l _. omega (arith, n, next_more s k before low l, some s k before low (omega arith) room, (printed_short s).few))
+          (λ l _. none_more (sym (n ∙ next_last s k before low l) ∙ is))
+          (λ l _.
+          let on = same_next (sym is ∙ n ∙ next_more s k before low l) in
+          omega (arith, on, some s k before low (omega arith) room, (printed_short s).few))

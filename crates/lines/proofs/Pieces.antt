@@ -1,6 +1,7 @@
 -- The loop of `put_lines`: what it keeps, and what it has done in the end.
 use mathlib.Core.Path.{◌≡◌, refl, sym, ap, ◌∙◌}
 use mathlib.Core.List.{List}
+use Rattle.std.specs.Prelude.{Some, None}
 use Prim.Native.Nat.{ℕ, suc, ◌+◌, ◌-◌, ◌≤◌, ◌<◌}
 use native.Mathlib.Nat.{zero-add}
 use native.Mathlib.Numerals.{add-one}
@@ -72,7 +73,7 @@ module _ {ms : List ℕ} {r first count : ℕ} {before start : List ℕ} {x₀ :
       line_here = rw (f.here more, f.pair more) (unfold line_at in refl)
 
       -- no room for it
-      pub filling_full : length after - end < length (copy_line s parts x) → Filled ms r first count before after (record { next = s; end = end })
+      pub filling_full : length after - end < length (copy_line s parts x) → Filled ms r first count before after (record { next = Some s; end = end })
       filling_full h =
           let none : taken (line_at ms r) count s (length before - end) ≡ 0 =
           fitting_none (line_at ms r) s _ (length before - end) (omega (arith, ap length line_here, f.put.size)) in
@@ -113,7 +114,7 @@ module _ {ms : List ℕ} {r first count : ℕ} {before start : List ℕ} {x₀ :
 
   -- all lines are put
   pub filling_all : {after parts : List ℕ} {s end : ℕ} {x : Transition} → Filling ms r first count before after parts s end x → count < s
-      → Filled ms r first count before after (record { next = 0; end = end })
+      → Filled ms r first count before after (record { next = None; end = end })
   unfolding fitting
   filling_all {after} {parts} {s} {end} {x} f h =
       let none : suc count - s ≡ 0 = omega arith in

@@ -1,7 +1,8 @@
 -- What is printed, said by what a text asks for, and which page is answered to it.
 use mathlib.Core.Path.{◌≡◌, refl, sym, ap}
 use mathlib.Core.List.{List}
-use Prim.Native.Nat.{ℕ, ◌<◌}
+use Rattle.std.specs.Prelude.{Option, Some, None}
+use Prim.Native.Nat.{ℕ}
 use native.Mathlib.Omega.{arith}
 use lib.ListN.{length, take}
 use lib.Seq.{length-take-le, take_all}
@@ -15,9 +16,8 @@ use Rattle.request.specs.Asked.{asked_of}
 use Rattle.request.specs.declared.Request.{Request}
 use Rattle.request.proofs.Asked.{asks_asked, asks_nothing, parsed_wanted, parsed_nothing}
 use Rattle.lines.specs.Lines.{line_at, lines_of}
-use Rattle.lines.specs.Printed.{Output, refusal, copies, list_checks, listed, text_of, printed}
-use Rattle.lines.specs.Page.{line_in, lines_in, page_in, page_of}
-use Rattle.lines.specs.declared.Page.{Page}
+use Rattle.lines.specs.Printed.{Output, refusal, copies, list_checks, listed, output_of, text_of, printed}
+use Rattle.lines.specs.Page.{line_in, lines_in}
 use Rattle.lines.proofs.Fitting.{lines_one}
 use Rattle.lines.proofs.Listed.{listed_copies}
 use Rattle.lines.proofs.Held.{held_listed}
@@ -53,15 +53,13 @@ pub text_lines : (o : Output) → text_of o ≡ lines_of (line_in o) 1 (lines_in
 text_lines (refusal number) = sym (lines_one (line_in (refusal number)) 1)
 text_lines (copies ms r) = refl
 
--- ---- a page of what is answered
+-- ---- what is answered
 
-module _ {s : List ℕ} {x : Request} (p : Parsed s x) (k : ℕ) (out : List ℕ) (page : Page × List ℕ) where
-  pub page_refused : 0 < x.number → page ≡ page_in (refusal x.number) k out → page ≡ page_of s k out
-  unfolding page_of
-  page_refused l e = let n = parsed_nothing p l in rw n.0 (rw n.1 at e)
+module _ {s : List ℕ} {y : Option Request} (p : Parsed s y) where
+  pub output_other : y ≡ None → output_of s ≡ refusal 22
+  output_other e = rw (parsed_nothing p e)
 
-  pub page_listed : x.number ≡ 0 → page ≡ page_in (listed (take x.parts x.upper) x.total) k out → page ≡ page_of s k out
-  unfolding page_of
-  page_listed z e =
-      let w = parsed_wanted p z in
-      rw w.asked (rw (w.cells, held_listed w.bounds x.total) at e)
+  pub output_asked : {x : Request} → y ≡ Some x → output_of s ≡ listed (take x.parts x.upper) x.total
+  output_asked {x} e =
+      let w = parsed_wanted p e in
+      rw (w.asked, w.cells, held_listed w.bounds x.total)

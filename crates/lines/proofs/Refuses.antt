@@ -1,6 +1,7 @@
 -- The page of a refusal.
 use mathlib.Core.Path.{◌≡◌}
 use mathlib.Core.List.{List, [], ◌∷◌}
+use Rattle.std.specs.Prelude.{Some, None}
 use Prim.Native.Nat.{ℕ, ◌+◌, ◌≤◌, ◌<◌}
 use native.Mathlib.Decide.{ℕ_discrete}
 use native.Mathlib.Omega.{arith}
@@ -25,7 +26,7 @@ module _ (n : ℕ) where
   length_refusal = omega (arith, length-append (decimal n) (10 ∷ []))
 
   -- another line than the first
-  pub refuse_other : (k : ℕ) (p : Page) (out : List ℕ) → p ≡ record { next = 0; end = 0 } → (k ≡ 1 → ⊥) → (p, out) ≡ page_in (refusal n) k out
+  pub refuse_other : (k : ℕ) (p : Page) (out : List ℕ) → p ≡ record { next = None; end = 0 } → (k ≡ 1 → ⊥) → (p, out) ≡ page_in (refusal n) k out
   unfolding page_in
   refuse_other k p out e ne = go (ℕ_discrete k 0)
     where
@@ -34,7 +35,7 @@ module _ (n : ℕ) where
       go (no z) = page_past (line_in (refusal n)) 1 k p out e (omega (arith, ne, z))
 
   module _ (k : ℕ) (first : k ≡ 1) where
-    pub refuse_none : (out : List ℕ) → length out < 9 + length (decimal n) → (record { next = 1; end = 0 }, out) ≡ page_in (refusal n) k out
+    pub refuse_none : (out : List ℕ) → length out < 9 + length (decimal n) → (record { next = Some 1; end = 0 }, out) ≡ page_in (refusal n) k out
     unfolding page_in lines_of
     refuse_none out h =
         let none : fitting (line_in (refusal n)) 1 1 (length out) ≡ 0 =
@@ -42,7 +43,7 @@ module _ (n : ℕ) where
         rw first (page_put (line_in (refusal n)) 1 1 _ out out (omega arith) (rw none) (rw none (nothing out 0)))
 
     pub refuse_put : {a b c d : List ℕ} {m e : ℕ} → Appended a b 0 m word → Appended b c m e (decimal n) → Appended c d e (e + 1) (10 ∷ [])
-        → 9 + length (decimal n) ≤ length a → (record { next = 0; end = e + 1 }, d) ≡ page_in (refusal n) k a
+        → 9 + length (decimal n) ≤ length a → (record { next = None; end = e + 1 }, d) ≡ page_in (refusal n) k a
     unfolding page_in fitting refusal_line line line_end
     refuse_put {a} {b} {c} {d} {m} {e} p q r h =
         let all : fitting (line_in (refusal n)) 1 1 (length a) ≡ 1 =

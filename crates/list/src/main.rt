@@ -13,22 +13,21 @@ enum Failure {
     Output(io::Error),
 }
 
+// Prints page after page. (A `while let`: the last page has no next line.)
 fn print<W: Write>(output: &mut W, text: &[u8]) -> io::Result<()> {
     let mut space = [0u8; 65536];
     let buffer: &mut [u8] = &mut space;
-    let mut at = 1;
-    loop {
-        let page = lines::put_page(text, at, buffer);
+    let mut next = Some(1);
+    while let Some(line) = next {
+        let page = lines::put_page(text, line, buffer);
         let end = page.end;
         output.write_all(&buffer[..end])?;
-        if page.next == 0 {
-            return Ok(());
-        }
-        at = page.next;
+        next = page.next;
     }
+    Ok(())
 }
 
-// Reads until no more bytes come, because the input ends or the text is full, and prints.
+// Reads until no more bytes come, because the input ends or the text is full, and prints. (A `loop`, since a read alone says that it is the last.)
 fn run<R: Read, W: Write>(input: &mut R, output: &mut W, text: &mut [u8]) -> Result<(), Failure> {
     let mut end = 0;
     loop {

@@ -15,13 +15,6 @@ use Rattle.listing.specs.Bytes.{begun}
 use Rattle.listing.specs.Walks.{in_tray, walk_bytes, Walk, Walked}
 use Rattle.listing.proofs.Trays.{turns_of, turn_of, turns_none, turns_next, turns_all, turns_within}
 
--- a walk leaves the tray's length
-pub walked_length : {ms : List ℕ} {parts room rest t : ℕ} {g out : List ℕ} → Walk ms parts room rest t g out
-    → {written : ℕ} {g' out' : List ℕ} → Walked ms parts rest t g out written g' out' → length out' ≡ length out
-walked_length {ms} {parts} {room} {rest} {t} {g} {out} w made =
-    let bytes : List ℕ = walk_bytes ms parts rest t g in
-    ap length made.bytes ∙ length-append bytes (drop (length bytes) out) ∙ omega (arith, length-drop (length bytes) out, w.long)
-
 -- ---- a single part: "g1 is then r minus the rest"
 
 set_first : (g : List ℕ) (v : ℕ) → 0 < length g → set g 0 v ≡ v ∷ drop 1 g
@@ -133,11 +126,6 @@ module _ {ms : List ℕ} {k left rest t : ℕ} {g out : List ℕ} {i v : ℕ} {g
       let ts : List ℕ = turns_of ms k rest t ending i in
       ap length turn.done.bytes ∙ length-append ts (drop (length ts) out) ∙ omega (arith, length-drop (length ts) out, room_left)
 
-  pub turn_small : (v ≤ 255) × (v ≤ rest) × (t + v ≤ 255)
-  turn_small =
-      let w = turn.walk in
-      (omega (arith, turn.high, w.small), omega (arith, turn.high), omega (arith, turn.high, w.small))
-
   pub turn_within : at ≤ length out'
   turn_within = omega (arith, turn.done.count, room_left, turn_length)
 
@@ -163,9 +151,6 @@ module _ {ms : List ℕ} {k left rest t : ℕ} {g out : List ℕ} {i v : ℕ} {g
 
   module _ {written : ℕ} {h last : List ℕ}
       (made : Walked ms k (rest - v) (t + v) (set g' k v) (mid_of at (length out' - at) out') written h last) where
-    pub turn_written : at + written ≤ length out'
-    turn_written = omega (arith, turn.done.count, made.count, ap length shorter, room_left, turn_length)
-
     pub turns_more : length h ≡ length (set g' k v) → Turns ms k rest t g out (suc i) h (put_mid at (length out' - at) out' last) (at + written)
     turns_more size =
         let ts : List ℕ = turns_of ms k rest t ending i in
@@ -197,7 +182,6 @@ pub record Part (ms : List ℕ) (parts rest t : ℕ) (g out : List ℕ) (k bound
   pub next : parts ≡ suc k
   pub some : 0 < k
   pub bound_is : bound ≡ get_or ms k 0
-  pub byte : bound ≤ 255
   pub walk : Walk ms (suc k) (left + bound) rest t g out
   pub lo_is : lo ≡ rest - left
   pub hi_is : hi ≡ min bound rest
@@ -211,15 +195,14 @@ module _ {ms : List ℕ} {parts room rest t : ℕ} {g out : List ℕ} (w : Walk 
   pub bound_within : get_or ms k 0 ≤ room
   bound_within = omega (arith, w.sum ∙ ap (sum_to ms) next_part)
 
-  pub part_begins : {bound left lo hi : ℕ} → (bound ≡ get_or ms k 0) × (bound ≤ 255) → left ≡ room - bound → lo ≡ rest - left → hi ≡ min bound rest
+  pub part_begins : {bound left lo hi : ℕ} → bound ≡ get_or ms k 0 → left ≡ room - bound → lo ≡ rest - left → hi ≡ min bound rest
       → Part ms parts rest t g out k bound left lo hi
-  part_begins {bound} {left} (eb, byte) el elo ehi =
+  part_begins {bound} {left} eb el elo ehi =
       let all : room ≡ left + bound = omega (arith, bound_within) in
       record {
         next = next_part;
         some = omega (arith, w.some);
         bound_is = eb;
-        byte = byte;
         walk = rw (next_part, all) at w;
         lo_is = elo;
         hi_is = ehi;
@@ -238,12 +221,6 @@ module _ {ms : List ℕ} {parts rest t : ℕ} {g out : List ℕ} {k bound left l
   -- some value fits
   pub part_some : lo ≤ hi
   part_some = omega (arith, p.lo_is, p.hi_is, p.walk.reached)
-
-  pub part_index_lem : {i : ℕ} → i < hi - lo + 1 → i ≤ hi
-  part_index_lem within = omega (arith, part_some)
-
-  pub part_small : hi ≤ 255
-  part_small = omega (arith, p.hi_is, p.byte)
 
   module _ {g' out' : List ℕ} {at v i : ℕ} (within : i < hi - lo + 1) (done : Turns ms k rest t g out i g' out' at) where
     turn : v ≡ part_value ms k rest t i → lo ≤ v → v ≤ hi → Turn ms k left rest t g out i v g' out' at

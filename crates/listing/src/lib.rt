@@ -5,17 +5,18 @@
 // are set and sum to t, and `rest` is what they leave of the total, r − t. It gives the last part before it, the document's kind i = `parts`, each of
 // its values in turn, and for each hands the shorter edition, a part fewer, to the rising walk if the sum to the right is then even and to the falling
 // walk if it is odd. A single part takes the rest: the composition is whole, and is written. A walk answers how many bytes were written, from the
-// beginning of `out` on.
+// beginning of `out` on. (One function with a direction would do for both; that two walks call each other is binding: document 02, (viii).)
 #![tactic(auto)]
 
 ghost use Rattle.std.specs.Prelude.{◌≡◌, true, false, List, ℕ};
 ghost use Rattle.walsh.specs.Order.{is_odd};
+ghost use Rattle.bounds.specs.Reason.{told};
 ghost use Rattle.bounds.specs.declared.Refusal.{Refusal};
 ghost use Rattle.listing.specs.Listing.{listing_of};
 ghost use Rattle.listing.specs.Walks.{Walk, Walked};
 
-use bounds::{Refusal, refused};
-use walsh::{is_odd, lesser, over, wide};
+use bounds::Reason;
+use walsh::is_odd;
 
 mod put;
 
@@ -39,10 +40,10 @@ fn rising(
         return g.len();
     }
     let k = parts - 1;
-    let bound = wide(upper[k]);
+    let bound = usize::from(upper[k]);
     let left = room - bound; // m1 + .. + m(i−1)
-    let least = over(rest, left); // max(0, r − t − (m1 + .. + m(i−1)))
-    let most = lesser(bound, rest); // min(mi, r − t)
+    let least = rest.saturating_sub(left); // max(0, r − t − (m1 + .. + m(i−1)))
+    let most = bound.min(rest); // min(mi, r − t)
     let mut at = 0;
     for j in 0..most - least + 1 {
         let v = least + j;
@@ -76,10 +77,10 @@ fn falling(
         return g.len();
     }
     let k = parts - 1;
-    let bound = wide(upper[k]);
+    let bound = usize::from(upper[k]);
     let left = room - bound;
-    let least = over(rest, left);
-    let most = lesser(bound, rest);
+    let least = rest.saturating_sub(left);
+    let most = bound.min(rest);
     let mut at = 0;
     for j in 0..most - least + 1 {
         let w = most - j;
@@ -95,20 +96,14 @@ fn falling(
 
 // Fills `out` with every composition of an edition, one behind the other in Walsh's order, or answers the refusal and writes nothing. Nothing is to
 // the right of the last part, so the first walk rises. N is counted for the length of `out` alone.
-pub fn list(upper: &[u8], total: u32, out: &mut [u8]) -> Refusal
-    ensures { ◌≡◌ {A = Refusal × List ℕ} (result, out.new) (listing_of upper.now total out.old) }
+pub fn list(upper: &[u8], total: u32, out: &mut [u8]) -> Result<(), Reason>
+    ensures { ◌≡◌ {A = Refusal × List ℕ} (told result, out.new) (listing_of upper.now total out.old) }
 {
     let n = upper.len();
-    let all = count::row::number(upper, total);
-    if 0 < all.number {
-        return refused(all.number, all.detail);
-    }
-    let lent = places::copies_refusal(n, all.count, out.len());
-    if 0 < lent.number {
-        return lent;
-    }
-    let shape = bounds::shape(upper, total);
+    let room = bounds::shape(upper, total)?;
+    let count = count::row::number(upper, total)?;
+    places::check_copies(n, count, out.len())?;
     let mut g = [0u8; 24];
-    rising(upper, &mut g[..n], out, n, shape.all, total as usize, 0);
-    lent
+    rising(upper, &mut g[..n], out, n, room, total as usize, 0);
+    Ok(())
 }

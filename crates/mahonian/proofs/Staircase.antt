@@ -18,7 +18,7 @@ use Rattle.walsh.proofs.Tests.{both_none}
 use Rattle.walsh.proofs.Serials.{same_refl, same_eq}
 use Rattle.mahonian.specs.Staircase.{staircase, is_staircase}
 use Rattle.mahonian.specs.Read.{read_of, staircase_count_of}
-use Rattle.mahonian.specs.declared.Entry.TheVariants.{Outside}
+use Rattle.std.proofs.Common.{None}
 use Rattle.mahonian.proofs.Counting.{mahonian_count}
 
 -- ---- the test, at a place
@@ -59,11 +59,11 @@ staircase_read ms r e =
     let counts = mahonian_count n r ∙ ap (λ (l : List ℕ). count_of l r) (sym (same_eq ms (staircase (suc n)) e)) in
     rw (add-one n, e, counts)
 
-pub staircase_other : (ms : List ℕ) (r : ℕ) → is_staircase ms ≡ false → staircase_count_of ms r ≡ Outside
+pub staircase_other : (ms : List ℕ) (r : ℕ) → is_staircase ms ≡ false → staircase_count_of ms r ≡ None
 unfolding staircase_count_of
 staircase_other ms r e = rw e
 
-pub staircase_long : (ms : List ℕ) (r : ℕ) → 15 < length ms → staircase_count_of ms r ≡ Outside
+pub staircase_long : (ms : List ℕ) (r : ℕ) → 15 < length ms → staircase_count_of ms r ≡ None
 unfolding staircase_count_of
 staircase_long ms r h = rw (le-leb 2 (suc (length ms)) (omega arith), lt-leb (suc (length ms)) 16 (omega arith), both_none (is_staircase ms))
 

@@ -1,5 +1,5 @@
 // The Mahonian numbers of 2 to 16 elements (document 01, "Counting table"), row after row: M(k, 0), .. , M(k, k(k-1)/2).
-pub const MAHONIAN: [u64; 695] = [
+pub static MAHONIAN: [u64; 695] = [
     // k = 2
     1,
     1,

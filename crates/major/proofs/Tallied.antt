@@ -1,5 +1,5 @@
 -- How many of the sheets that are left are at most v, in two words: of all sheets, read for one v, and without one sheet.
-use mathlib.Core.Path.{◌≡◌, refl, sym, ap, ◌∙◌}
+use mathlib.Core.Path.{◌≡◌, sym, ap, ◌∙◌}
 use Prim.Native.Nat.{ℕ, ◌+◌, ◌-◌, ◌*◌, ◌%◌, ◌^◌, ◌≤◌, ◌<◌}
 use native.Mathlib.Decide.{dec_lt}
 use native.Mathlib.Omega.{arith}
@@ -22,12 +22,6 @@ tallies_same {tally} {f} {g} same is =
       low_fits = λ v h. omega (arith, same v (omega arith), is.low_fits v h);
       high_fits = λ v h. omega (arith, same (16 + v) (omega arith), is.high_fits v h);
     }
-
--- ---- of all sheets
-
--- the code's two words
-pub tallies_all : Tallies (record { low = 18364758544493064720; high = 906812203846192 }) (λ v. v)
-tallies_all = record { low = refl; high = refl; low_fits = λ v h. h; high_fits = λ v h. omega arith }
 
 -- ---- how many are at most v
 

@@ -17,42 +17,44 @@ pub(crate) struct Left {
     high: u64,
 }
 
-// 1..25, and so 1..k for every smaller k.
-pub(crate) fn all() -> Left
-    ensures { (k : ℕ) → k ≤ 25 → Holds result (tabulate suc k) }
-{
-    Left {
-        low: 445_092_485_129_178_177,
-        high: 3_582_863_703_552_528,
-    }
-}
-
-// The sheet at a place.
-pub(crate) fn at(left: Left, place: usize) -> u8
-    requires { place < 25 }
-    ensures { (l : List ℕ) → Holds left l → place < length l → result ≡ get_or l place 0 }
-{
-    if place < 12 {
-        bits::read(left.low, 5 * place, 5) as u8
-    } else {
-        bits::read(left.high, 4 * (place - 12), 4) as u8 + 13
-    }
-}
-
-// Without the sheet at a place. If it is one of the first 12, the sheet at place 12 moves from `high` to `low`.
-pub(crate) fn without(left: Left, place: usize) -> Left
-    requires { place < 25 }
-    ensures { (l : List ℕ) → Holds left l → place < length l → Holds result (erase place l) }
-{
-    if place < 12 {
+impl Left {
+    // 1..25, and so 1..k for every smaller k.
+    pub(crate) fn all() -> Left
+        ensures { (k : ℕ) → k ≤ 25 → Holds result (tabulate suc k) }
+    {
         Left {
-            low: (left.high % 16 + 13) * PLACE_11 + bits::cut(left.low, 5 * place, 5),
-            high: left.high / 16,
+            low: 445_092_485_129_178_177,
+            high: 3_582_863_703_552_528,
         }
-    } else {
-        Left {
-            low: left.low,
-            high: bits::cut(left.high, 4 * (place - 12), 4),
+    }
+
+    // The sheet at a place.
+    pub(crate) fn at(self, place: usize) -> u8
+        requires { place < 25 }
+        ensures { (l : List ℕ) → Holds self l → place < length l → result ≡ get_or l place 0 }
+    {
+        if place < 12 {
+            bits::read(self.low, 5 * place, 5) as u8
+        } else {
+            bits::read(self.high, 4 * (place - 12), 4) as u8 + 13
+        }
+    }
+
+    // Without the sheet at a place. If it is one of the first 12, the sheet at place 12 moves from `high` to `low`.
+    pub(crate) fn without(self, place: usize) -> Left
+        requires { place < 25 }
+        ensures { (l : List ℕ) → Holds self l → place < length l → Holds result (erase place l) }
+    {
+        if place < 12 {
+            Left {
+                low: (self.high % 16 + 13) * PLACE_11 + bits::cut(self.low, 5 * place, 5),
+                high: self.high / 16,
+            }
+        } else {
+            Left {
+                low: self.low,
+                high: bits::cut(self.high, 4 * (place - 12), 4),
+            }
         }
     }
 }

@@ -3,6 +3,7 @@ pub mod Entry
 pub mod Printing
 pub mod Model
 pub mod Record
+pub mod Results
 pub mod Trace
 pub mod Bundle
 pub mod Items

@@ -2,7 +2,6 @@
 use mathlib.Core.Path.{◌≡◌, refl, sym, ap, ◌∙◌}
 use mathlib.Core.List.{List, [], ◌∷◌, map}
 use Prim.Native.Nat.{ℕ, zero, suc, ◌+◌, ◌-◌, ◌≤◌, ◌<◌}
-use native.Mathlib.Nat.{le_refl}
 use native.Mathlib.Numerals.{add-one}
 use native.Mathlib.Omega.{arith}
 use native.Mathlib.Decide.{dec_lt, ℕ_discrete}
@@ -66,15 +65,6 @@ pub record FilledFrom (g : List ℕ) (i : ℕ) (out : List ℕ) : Type 0 where
   pub entries : (j : ℕ) → i ≤ j → j < length out → get_or out j 0 ≡ entry_at g j
 
 module _ (g : List ℕ) where
-  pub filled_start : (out : List ℕ) (x : ℕ) → length out ≡ length g + 1 → x ≡ get_or g 0 0 + 1 → FilledFrom g (length (set out 0 x)) (set out 0 x)
-  filled_start out x size ex =
-      record {
-        size = length-set out 0 x ∙ size;
-        place = le_refl _;
-        start = get_or-set_same out 0 x 0 (omega arith) ∙ ex ∙ add-one (get_or g 0 0);
-        entries = λ j l h. absurd (omega arith);
-      }
-
   module _ {i : ℕ} {out : List ℕ} (filled : FilledFrom g i out) where
     -- places i and i + 1, where i is two less than it was
     pub filled_turn : (k a b : ℕ) → 1 < i → k ≡ i - 2 → a ≡ lifts g k (get_or g k 0 + 1) → b ≡ lifts g k (lift (get_or g k 0) (get_or g (k + 1) 0 + 1))

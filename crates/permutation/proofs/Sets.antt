@@ -1,7 +1,7 @@
 -- Sets of values as the digits of a number: one value more, how many there are below a value, and the test of a permutation by its set.
 use mathlib.Core.Path.{◌≡◌, refl, sym, ap, ◌∙◌}
 use mathlib.Core.Bool.{false, cond}
-use mathlib.Core.List.{List, [], ◌∷◌}
+use mathlib.Core.List.{List, [], ◌∷◌, ◌++◌}
 use Prim.Native.Nat.{ℕ, zero, suc, ◌+◌, ◌-◌, ◌*◌, ◌/◌, ◌%◌, ◌^◌, ◌≤◌, ◌<◌, min, max}
 use native.Mathlib.Nat.{le_refl, mod-lt, mod-one, div_self, div-eq_of_lt, mul-div_cancel, pow-suc}
 use native.Mathlib.Decide.{dec_lt, ℕ_discrete}
@@ -10,11 +10,13 @@ use lib.Dec.{eqb, ltb}
 use lib.Bits.{bit_or, or_step, or_shr, or_lt, or_add_and, and_le_l, and_le_r}
 use lib.Count.{ones, ones_cat}
 use lib.Pow.{pow_pos, pow-lt, pow-add, mod-pow-add, shr-shr}
-use lib.ListN.{length}
+use lib.ListN.{length, length-append, get_or-append}
+use lib.Seq.{get_or_at}
 use borrow.Author.Tests.{eq-eqb, ne_eqb}
 use Rattle.walsh.proofs.Cases.{on_test}
+use Rattle.walsh.proofs.Tests.{many_append}
 use Rattle.permutation.specs.Permutation.{times, IsPermutation, is_permutation}
-use Rattle.permutation.specs.Values.{digit, HasValues, Collected}
+use Rattle.permutation.specs.Values.{digit, Small, HasValues, Collected}
 use Rattle.permutation.proofs.Counts.{below, below_suc, below_zero, many_le, permutation, entry_le, is_permutation_lem, not_permutation}
 
 -- ---- digits
@@ -73,7 +75,7 @@ values_more {n} {l} x has =
 pub collected_none : Collected 0 0 []
 collected_none = record { values = λ h. values_none; small = λ h. omega arith }
 
-pub collected_more : {n o : ℕ} {l : List ℕ} (x : ℕ) → Collected n o l → Collected (bit_or n (2 ^ (x % 32))) (bit_or o x) (x ∷ l)
+collected_more : {n o : ℕ} {l : List ℕ} (x : ℕ) → Collected n o l → Collected (bit_or n (2 ^ (x % 32))) (bit_or o x) (x ∷ l)
 collected_more {n} {o} {l} x met =
     record {
       values = values;
@@ -84,6 +86,25 @@ collected_more {n} {o} {l} x met =
     values h =
         let same : x % 32 ≡ x = omega (arith, or_add_and o x, and_le_l o x) in
         rw same (values_more x (met.values (omega (arith, or_add_and o x, and_le_r o x))))
+
+-- the entry x behind the list, and not in front of it
+values_last : {n : ℕ} (x : ℕ) (l : List ℕ) → HasValues n (x ∷ l) → HasValues n (l ++ (x ∷ []))
+values_last x l has = record { digits = λ v h. has.digits v h ∙ ap (λ (m : ℕ). min m 1) (last v) }
+  where
+    last : (v : ℕ) → times v (x ∷ l) ≡ times v (l ++ (x ∷ []))
+    last v = omega (arith, many_append (λ y. eqb y v) l (x ∷ []))
+
+small_last : (x : ℕ) (l : List ℕ) → Small (l ++ (x ∷ [])) → Small (x ∷ l)
+small_last x l each zero h =
+    rw (get_or_at l x [] 0 (length l) refl) at (each (length l) (omega (arith, length-append l (x ∷ []))))
+small_last x l each (suc j) h =
+    rw (get_or-append l (x ∷ []) 0 j (omega arith)) at (each j (omega (arith, length-append l (x ∷ []))))
+
+pub collected_last : {n o : ℕ} (l : List ℕ) (x : ℕ) → Collected n o l
+    → Collected (bit_or n (2 ^ (x % 32))) (bit_or o x) (l ++ (x ∷ []))
+collected_last l x met =
+    let more = collected_more x met in
+    record { values = λ h. values_last x l (more.values h); small = λ each. more.small (small_last x l each) }
 
 -- ---- how many values are below v
 
@@ -154,10 +175,9 @@ module _ (k : ℕ) (p : List ℕ) where
   unfolding is_permutation
   other_size differs = rw (ne_eqb (length p) k differs)
 
-  pub one_over : {n o : ℕ} → Collected n o p → k ≤ 25 → 32 ≤ o → is_permutation k p ≡ false
-  one_over met short over =
-      (not_permutation k p).1
-      (λ perm. omega (arith, met.small (λ j h. omega (arith, entry_le perm j (omega (arith, perm.size))))))
+  pub one_over : (Small p → ⊥) → k ≤ 25 → is_permutation k p ≡ false
+  one_over over short =
+      (not_permutation k p).1 (λ perm. over (λ j h. omega (arith, entry_le perm j (omega (arith, perm.size)))))
 
   pub set_test : {n : ℕ} → HasValues n p → k ≤ 25 → length p ≡ k → eqb (n / 2 % 2 ^ k) (2 ^ k - 1) ≡ is_permutation k p
   set_test {n} has short size =

@@ -4,13 +4,17 @@ use mathlib.Core.Bool.{Bool, true, false}
 use mathlib.Core.List.{List, ◌++◌}
 use Prim.Native.Nat.{ℕ, ◌+◌, ◌-◌, ◌≤◌, ◌<◌}
 use native.Mathlib.Omega.{arith}
-use lib.ListN.{length, get_or, take, length-take}
+use lib.ListN.{length, get_or}
 use borrow.Author.Tests.{eqb-true, eq-eqb, ne_eqb, lt-ltb, not-false}
 use Rattle.walsh.specs.Order.{Composition}
 use Rattle.bounds.specs.Refusal.{Check, refused, first_refusal}
 use Rattle.bounds.specs.Edition.{edition_checks}
-use Rattle.bounds.specs.Places.{composition_checks}
+use Rattle.bounds.specs.Places.{composition_checks, filling}
 use Rattle.bounds.specs.declared.Refusal.{Refusal}
+use Rattle.bounds.specs.declared.Reason.{Reason}
+use Rattle.bounds.specs.Reason.{coded}
+use Rattle.bounds.proofs.Reasons.{coded-number}
+use Rattle.bounds.proofs.Filling.{filling_refused}
 use Rattle.bounds.proofs.Refusals.{numbered, passed}
 use Rattle.bounds.proofs.Editions.{edition_shapely}
 use Rattle.bounds.proofs.Places.{lent_passed, lent_passes}
@@ -18,7 +22,7 @@ use Rattle.bounds.proofs.Compositions.{composition_passed, composition_passes}
 use Rattle.bounds.proofs.Chains.{Accepts, accepts_split, accepts_join}
 use Rattle.mahonian.specs.Staircase.{is_staircase}
 use Rattle.permutation.specs.Permutation.{IsPermutation, is_permutation}
-use Rattle.permutation.specs.Reading.{Reading, PermutationWith, Faithful}
+use Rattle.permutation.specs.Reading.{Reading, PermutationWith}
 use Rattle.permutation.specs.Conversions.{staircase_checks, permutation_checks, statistic_checks}
 use Rattle.permutation.specs.Conversions.{to_permutation_checks, to_composition_checks}
 use Rattle.permutation.proofs.Counts.{is_permutation_lem}
@@ -27,8 +31,10 @@ use Rattle.permutation.proofs.Vectors.{composition_fits}
 pub number_of_lem : {v w : Refusal} → v ≡ w → v.number ≡ w.number
 number_of_lem e = ap (λ (v : Refusal). v.number) e
 
-pub refused_not : {v : Refusal} {n d : ℕ} → v ≡ refused n d → 0 < n → v.number ≡ 0 → ⊥
-refused_not {v} e some none = omega (arith, number_of_lem e)
+-- a call that fills a lent part and is refused leaves it as it was
+pub filling_reason : (e : Reason) (checks : List Check) (bytes out : List ℕ) → coded e ≡ first_refusal checks
+    → ◌≡◌ {A = Refusal × List ℕ} (coded e, out) (filling checks bytes out)
+filling_reason e checks bytes out is = filling_refused checks bytes out is (λ none. omega (arith, coded-number e))
 
 -- ---- the bounds
 
@@ -158,11 +164,8 @@ module _ (reading : Reading) (refuses : 0 < reading.number) (ms : List ℕ) (r :
         (accepts_join (permutation_checks ms p) _ refl (permutation_passes ms p perm.is)
         (accepts_join (statistic_checks reading r p) _ statistic_numbered (statistic_passes perm.total) (number_of_lem (lent_passes (length ms) room fits)))))
 
-    -- the composition that is found has as many cells as the lent part
-    pub to_composition_ready : Faithful reading → (cells : List ℕ) {v : Refusal} → v ≡ first_refusal (to_composition_checks reading ms r p room) → v.number ≡ 0
-        → take room cells ≡ reading.composition p
-        → room ≤ length cells
-    to_composition_ready faithful cells {v} e none is =
+    -- the part that is lent is no longer than the cells
+    pub to_composition_ready : {v : Refusal} → v ≡ first_refusal (to_composition_checks reading ms r p room) → v.number ≡ 0 → room ≤ 24
+    to_composition_ready {v} e none =
         let known = to_composition_passed (number_of_lem (sym e) ∙ none) in
-        let size : length (reading.composition p) ≡ length ms = (faithful.composition_is ms r p known.0.stairs known.1).size in
-        omega (arith, ap length is, length-take room cells, size, known.2)
+        omega (arith, edition_few ms r known.0.edition, known.2)

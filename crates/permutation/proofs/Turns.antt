@@ -6,14 +6,15 @@ use native.Mathlib.Nat.{le_refl}
 use native.Mathlib.Omega.{arith}
 use native.Mathlib.Decide.{ℕ_discrete}
 use lib.ListN.{length, get_or, take, drop, set, length-drop, length-set}
-use lib.Seq.{drop-cons, drop-length, get_or-set_same, get_or-set_other}
+use lib.Seq.{drop-cons, drop-length, take-suc, get_or-set_same, get_or-set_other}
+use native.Mathlib.Numerals.{add-one}
 use lib.Bits.{bit_or}
 use lib.Count.{ones}
 use lib.Dec.{eqb, ltb}
 use Rattle.permutation.specs.Permutation.{IsPermutation, smaller_after, inversions, inversion_vector}
 use Rattle.permutation.specs.Values.{HasValues, Collected}
 use Rattle.permutation.proofs.Counts.{below, many_le, many_drop, entry_le, times_le}
-use Rattle.permutation.proofs.Sets.{values_none, values_more, values_below, collected_more}
+use Rattle.permutation.proofs.Sets.{values_none, values_more, values_below, collected_last}
 use Rattle.permutation.proofs.Smaller.{tabulate_take, smaller_is, inversions_more}
 
 -- ---- from the last place to the first
@@ -28,9 +29,10 @@ set_turn : (p : List ℕ) (i n x : ℕ) → 0 < i → i ≤ length p → x ≡ g
     → HasValues (bit_or n (2 ^ x)) (drop (i - 1) p)
 set_turn p i n x h l ex has = rw (drop_back p i h l, ← ex) (values_more x has)
 
-pub collected_turn : (p : List ℕ) (i n o x : ℕ) → 0 < i → i ≤ length p → x ≡ get_or p (i - 1) 0 → Collected n o (drop i p)
-    → Collected (bit_or n (2 ^ (x % 32))) (bit_or o x) (drop (i - 1) p)
-collected_turn p i n o x h l ex met = rw (drop_back p i h l, ← ex) (collected_more x met)
+pub collected_turn : (p : List ℕ) (i n o : ℕ) → i < length p → Collected n o (take i p)
+    → let x = get_or p i 0 in
+    Collected (bit_or n (2 ^ (x % 32))) (bit_or o x) (take (i + 1) p)
+collected_turn p i n o h met = rw (add-one i, take-suc p i 0 h) (collected_last (take i p) (get_or p i 0) met)
 
 -- ---- the inversion vector
 

@@ -9,7 +9,11 @@ digit v n = n / 2 ^ v % 2
 pub record HasValues (n : ℕ) (l : List ℕ) : Type 0 where
   pub digits : (v : ℕ) → v < 32 → digit v n ≡ min (times v l) 1
 
+-- each entry of l is below 32
+abbrev pub Small : List ℕ → Type 0
+Small l = (j : ℕ) → j < length l → get_or l j 0 < 32
+
 -- where `over` is below 32, the set has the values of l; and it is, if every entry of l is
 pub record Collected (set over : ℕ) (l : List ℕ) : Type 0 where
   pub values : over < 32 → HasValues set l
-  pub small : ((j : ℕ) → j < length l → get_or l j 0 < 32) → over < 32
+  pub small : Small l → over < 32

@@ -1,58 +1,108 @@
-// Permutations of 1..k and their inversion vectors (document 01, "Sheet orders"): a composition of staircase bounds to its permutation, and back.
+// Permutations of 1..k and the compositions of staircase bounds (document 01, "Sheet orders"): the two calls of any reading, and the reading by
+// inversions.
 #![tactic(auto)]
 
-ghost use Rattle.std.specs.Prelude.{◌≡◌, List, ◌++◌, ℕ, ◌+◌, ◌-◌, ◌^◌, ◌≤◌, ◌<◌, length, get_or, take};
-ghost use Rattle.bounds.specs.Refusal.{first_refusal};
+ghost use Rattle.std.specs.Prelude.{◌≡◌, List, ◌++◌, ℕ, ◌+◌, ◌-◌, ◌≤◌, ◌<◌, length, get_or, take, MatchOption, IfOk, refl};
+ghost use Rattle.bounds.specs.Refusal.{refused, first_refusal};
+ghost use Rattle.bounds.specs.Reason.{coded, told};
 ghost use Rattle.bounds.specs.Edition.{edition_checks};
 ghost use Rattle.bounds.specs.declared.Refusal.{Refusal};
-ghost use Rattle.permutation.specs.Reading.{by_inversions};
+ghost use Rattle.bounds.specs.declared.Reason.{Reason};
+ghost use Rattle.bounds.specs.declared.Reason.TheVariants.{Inversions};
+ghost use Rattle.permutation.specs.Reading.{Reading, by_inversions};
 ghost use Rattle.permutation.specs.Conversions.{staircase_checks, permutation_checks, to_permutation_checks, to_composition_checks};
 ghost use Rattle.permutation.specs.Conversions.{to_permutation, to_composition};
 ghost use Rattle.permutation.specs.Permutation.{IsPermutation, is_permutation, inversions, inversion_vector, lift, permutation_of};
-ghost use Rattle.permutation.specs.Values.{Collected};
+ghost use Rattle.permutation.specs.Values.{Small, HasValues};
 ghost use Rattle.permutation.specs.Entries.{lifts};
 
-use bounds::{Refusal, refused};
+use bounds::Reason;
 use mahonian::is_staircase;
-use places::{composition_refusal, lent_refusal};
-use walsh::wide;
+use places::{check_composition, check_lent};
 
-// Two entries of a permutation.
-#[derive(Clone, Copy)]
-struct Pair {
-    first: u8,
-    second: u8,
+// A way to read the compositions of staircase bounds as permutations. The calls look at what is given before they ask it. (That both readings are
+// faithful is proved in proofs/, which a law here may not name: `by_inversions_lem` and, in crate `major`, `by_major_lem`.)
+pub trait Reads {
+    ghost reading: { Reading };
+
+    // The refusal where what the total counts isn't the total.
+    ghost OTHER: { Reason };
+
+    const OTHER: Reason;
+
+    // Fills out with the permutation of the composition g.
+    fn fill(g: &[u8], out: &mut [u8])
+        requires few { length g.now ≤ 24 }
+        requires room { length out.old ≡ length g.now + 1 }
+        requires parts { (i : ℕ) → i < length g.now → get_or g.now i 0 ≤ length g.now - i }
+        ensures { out.new ≡ reading.permutation g.now };
+
+    // Writes the composition of the permutation p to the beginning of 32 cells, and gives what the total counts.
+    fn find(p: &[u8], cells: &mut [u8]) -> u32
+        requires some { 1 ≤ length p.now }
+        requires few { length p.now ≤ 25 }
+        requires sheets { IsPermutation (length p.now) p.now }
+        requires room { length cells.old ≡ 32 }
+        ensures parts { take (length p.now - 1) cells.new ≡ reading.composition p.now }
+        ensures total { result ≡ reading.statistic p.now };
+
+    ghost other_is: { coded OTHER ≡ refused reading.number 0 };
 }
 
-// The bits of the entries of a list: bit v of `set` for the entry v, or v % 32, and in `over` the union of all.
-#[derive(Clone, Copy)]
-struct Values {
-    set: u32,
-    over: usize,
-}
+// By inversions: a composition is an inversion vector.
+pub struct InversionVector;
 
-// The bit of the value v in a set.
-fn power(v: usize) -> u32
-    requires { v < 32 }
-    ensures { result ≡ 2 ^ v }
-{
-    1u32 << v
-}
+impl Reads for InversionVector {
+    ghost reading = { by_inversions };
 
-// The set of the entries of p, if none is over 31, as `over` tells. (A test in each turn would cost more.)
-fn value_set(p: &[u8]) -> Values
-    ensures { Collected result.set result.over p.now }
-{
-    let mut set = 0;
-    let mut over = 0;
-    let mut i = p.len();
-    while 0 < i {
-        i -= 1;
-        let v = wide(p[i]);
-        set = set | power(v % 32);
-        over = over | v;
+    ghost OTHER = { Inversions };
+
+    const OTHER: Reason = Reason::Inversions;
+
+    // Two places at a time from the last to the first; place 0 may be left over. (Speed: with a `for` over the pairs a call takes up to 5 % longer.)
+    fn fill(g: &[u8], out: &mut [u8]) {
+        out[0] = own(g, 0);
+        let mut i = out.len();
+        while 1 < i {
+            i -= 2;
+            let c = g[i];
+            let next = lifted(c, own(g, i + 1));
+            let (first, second) = lift_both(g, i, c + 1, next);
+            out[i] = first;
+            out[i + 1] = second;
+        }
     }
-    Values { set, over }
+
+    // From the last place to the first: the values below the entry are counted in the set of those behind it.
+    fn find(p: &[u8], cells: &mut [u8]) -> u32 {
+        let mut sum = 0u32;
+        let mut behind = 0u32;
+        for i in (0..p.len()).rev() {
+            let here = 1u32 << p[i];
+            let smaller = (behind % here).count_ones();
+            cells[i] = smaller as u8;
+            sum += smaller;
+            behind = behind | here;
+        }
+        sum
+    }
+
+    ghost other_is = { refl };
+}
+
+// The set of the entries of p, bit v for the entry v, if none is over 31. (A test in each turn would cost more; and were `over` a byte, the loop would be
+// compiled for eight entries at a time, which a dozen do not pay.)
+fn value_set(p: &[u8]) -> Option<u32>
+    ensures { MatchOption result (¬ Small p.now) (λ set. HasValues set p.now) }
+{
+    let mut set = 0u32;
+    let mut over = 0;
+    for entry in p {
+        let v = usize::from(*entry);
+        set |= 1u32 << (v % 32);
+        over |= v;
+    }
+    if over < 32 { Some(set) } else { None }
 }
 
 // p is a permutation of 1..k: it has k entries, none over 31, and all of the values 1..k are among them.
@@ -63,33 +113,13 @@ fn is_permutation(p: &[u8], k: usize) -> bool
     if p.len() != k {
         return false;
     }
-    let values = value_set(p);
-    if 32 <= values.over {
-        return false;
+    match value_set(p) {
+        Some(set) => {
+            let all = 1u32 << k;
+            set / 2 % all == all - 1
+        }
+        None => false,
     }
-    let all = power(k);
-    values.set / 2 % all == all - 1
-}
-
-// Writes the inversion vector to the beginning of 32 cells, from the last place to the first, and gives its sum: the values below the entry are
-// counted in the set of those behind it.
-fn find_inversions(p: &[u8], vector: &mut [u8]) -> u32
-    requires { (length p.now ≤ 25) × IsPermutation (length p.now) p.now × (length vector.old ≡ 32) }
-    ensures { (take (length p.now - 1) vector.new ≡ inversion_vector p.now)
-        × (result ≡ inversions p.now) }
-{
-    let mut sum = 0u32;
-    let mut behind = 0u32;
-    let mut i = p.len();
-    while 0 < i {
-        i -= 1;
-        let here = power(wide(p[i]));
-        let smaller = u32::count_ones(behind % here);
-        vector[i] = smaller as u8;
-        sum += smaller;
-        behind = behind | here;
-    }
-    sum
 }
 
 fn lifted(c: u8, x: u8) -> u8
@@ -100,20 +130,18 @@ fn lifted(c: u8, x: u8) -> u8
 }
 
 // Both values with the room that the first i parts of g ask for, the last of them first. (Two at once: neither waits for the other.)
-fn lift_both(g: &[u8], i: usize, x: u8, y: u8) -> Pair
+fn lift_both(g: &[u8], i: usize, x: u8, y: u8) -> (u8, u8)
     requires { (i ≤ length g.now) × (x + i ≤ 255) × (y + i ≤ 255) }
-    ensures { (result.first ≡ lifts g.now i x) × (result.second ≡ lifts g.now i y) }
+    ensures { (result.0 ≡ lifts g.now i x) × (result.1 ≡ lifts g.now i y) }
 {
     let mut first = x;
     let mut second = y;
-    let mut j = i;
-    while 0 < j {
-        j -= 1;
+    for j in (0..i).rev() {
         let c = g[j];
         first = lifted(c, first);
         second = lifted(c, second);
     }
-    Pair { first, second }
+    (first, second)
 }
 
 // The value at place i before the parts in front of it ask for room; behind the last part it is 1.
@@ -124,113 +152,110 @@ fn own(g: &[u8], i: usize) -> u8
     if i < g.len() { g[i] + 1 } else { 1 }
 }
 
-// Fills out with the permutation whose inversion vector is g, two places at a time from the last to the first; place 0 may be left over.
-fn fill_permutation(g: &[u8], out: &mut [u8])
-    requires { (length g.now ≤ 24) × (length out.old ≡ length g.now + 1)
-        × ((i : ℕ) → i < length g.now → get_or g.now i 0 ≤ length g.now - i) }
-    ensures { out.new ≡ permutation_of g.now }
-{
-    out[0] = own(g, 0);
-    let mut i = out.len();
-    while 1 < i {
-        i -= 2;
-        let c = g[i];
-        let next = lifted(c, own(g, i + 1));
-        let pair = lift_both(g, i, c + 1, next);
-        out[i] = pair.first;
-        out[i + 1] = pair.second;
-    }
-}
-
 // The places 'edition' and 'sheet orders' as far as 10.
-fn staircase_refusal(upper: &[u8], total: u32) -> Refusal
-    ensures { result ≡ first_refusal (edition_checks upper.now total ++ staircase_checks upper.now) }
+fn check_staircase(upper: &[u8], total: u32) -> Result<(), Reason>
+    ensures { told result ≡ first_refusal (edition_checks upper.now total ++ staircase_checks upper.now) }
 {
-    let limits = count::bounds_refusal(upper, total);
-    if limits.number != 0 {
-        return limits;
-    }
+    count::check_bounds(upper, total)?;
     if is_staircase(upper) {
-        return refused(0, 0);
+        return Ok(());
     }
-    refused(10, 0)
+    Err(Reason::Staircase)
 }
 
 // The places 'edition' and 'sheet orders' as far as 11.
-pub fn permutation_refusal(upper: &[u8], total: u32, p: &[u8]) -> Refusal
-    ensures { result ≡ first_refusal
+pub fn check_permutation(upper: &[u8], total: u32, p: &[u8]) -> Result<(), Reason>
+    ensures { told result ≡ first_refusal
         (edition_checks upper.now total ++ staircase_checks upper.now ++ permutation_checks upper.now p.now) }
 {
-    let stairs = staircase_refusal(upper, total);
-    if stairs.number != 0 {
-        return stairs;
-    }
+    check_staircase(upper, total)?;
     if is_permutation(p, upper.len() + 1) {
-        return refused(0, 0);
+        return Ok(());
     }
-    refused(11, 0)
+    Err(Reason::Permutation)
 }
 
 // All that can refuse a composition and a lent part of `room` bytes.
-pub fn to_permutation_refusal(upper: &[u8], total: u32, g: &[u8], room: usize) -> Refusal
-    ensures { result ≡ first_refusal (to_permutation_checks upper.now total g.now room) }
+pub fn check_to_permutation(upper: &[u8], total: u32, g: &[u8], room: usize) -> Result<(), Reason>
+    ensures { told result ≡ first_refusal (to_permutation_checks upper.now total g.now room) }
 {
-    let stairs = staircase_refusal(upper, total);
-    if stairs.number != 0 {
-        return stairs;
-    }
-    let given = composition_refusal(upper, total, g);
-    if given.number != 0 {
-        return given;
-    }
-    lent_refusal(upper.len() + 1, room)
+    check_staircase(upper, total)?;
+    check_composition(upper, total, g)?;
+    check_lent(upper.len() + 1, room)
 }
 
-// All that can refuse a permutation and a lent part of `room` bytes; where nothing does, the inversion vector stands at the beginning of 32 cells.
-fn to_composition_refusal(
+// All that can refuse a permutation and a lent part of `room` bytes; where nothing does, the composition stands at the beginning of 32 cells.
+fn find_composition<R: Reads>(
     upper: &[u8],
     total: u32,
     p: &[u8],
     room: usize,
-    vector: &mut [u8],
-) -> Refusal
-    requires { length vector.old ≡ 32 }
-    ensures { (result ≡ first_refusal (to_composition_checks by_inversions upper.now total p.now room))
-        × (result.number ≡ 0 → take room vector.new ≡ inversion_vector p.now) }
+    cells: &mut [u8],
+) -> Result<(), Reason>
+    requires { length cells.old ≡ 32 }
+    ensures refusal { told result ≡ first_refusal (to_composition_checks R.reading upper.now total p.now room) }
+    ensures found { IfOk result (λ _. take room cells.new ≡ R.reading.composition p.now) }
 {
-    let given = permutation_refusal(upper, total, p);
-    if given.number != 0 {
-        return given;
+    check_permutation(upper, total, p)?;
+    if R::find(p, cells) != total {
+        return Err(R::OTHER);
     }
-    if find_inversions(p, vector) != total {
-        return refused(12, 0);
-    }
-    lent_refusal(upper.len(), room)
+    check_lent(upper.len(), room)
 }
 
-// document 01: mix to order. Fills the lent part with the permutation whose inversion vector is the composition.
-pub fn permutation(upper: &[u8], total: u32, composition: &[u8], out: &mut [u8]) -> Refusal
-    ensures { ◌≡◌ {A = Refusal × List ℕ} (result, out.new)
+// document 01: mix to order. Fills the lent part with the permutation that the composition reads as.
+pub fn to_permutation<R: Reads>(
+    upper: &[u8],
+    total: u32,
+    composition: &[u8],
+    out: &mut [u8],
+) -> Result<(), Reason>
+    ensures { ◌≡◌ {A = Refusal × List ℕ} (told result, out.new)
+        (to_permutation R.reading upper.now total composition.now out.old) }
+{
+    check_to_permutation(upper, total, composition, out.len())?;
+    R::fill(composition, out);
+    Ok(())
+}
+
+// document 01: order to mix. Fills the lent part with the composition that reads as the permutation.
+pub fn to_composition<R: Reads>(
+    upper: &[u8],
+    total: u32,
+    permutation: &[u8],
+    out: &mut [u8],
+) -> Result<(), Reason>
+    ensures { ◌≡◌ {A = Refusal × List ℕ} (told result, out.new)
+        (to_composition R.reading upper.now total permutation.now out.old) }
+{
+    let mut cells = [0u8; 32];
+    find_composition::<R>(upper, total, permutation, out.len(), &mut cells)?;
+    bounds::copy(&cells, out);
+    Ok(())
+}
+
+// document 01: mix to order, by inversions.
+pub fn permutation(
+    upper: &[u8],
+    total: u32,
+    composition: &[u8],
+    out: &mut [u8],
+) -> Result<(), Reason>
+    ensures { ◌≡◌ {A = Refusal × List ℕ} (told result, out.new)
         (to_permutation by_inversions upper.now total composition.now out.old) }
 {
-    let answer = to_permutation_refusal(upper, total, composition, out.len());
-    if answer.number != 0 {
-        return answer;
-    }
-    fill_permutation(composition, out);
-    answer
+    to_permutation::<InversionVector>(upper, total, composition, out)
 }
 
-// document 01: order to mix. Fills the lent part with the inversion vector of the permutation.
-pub fn inversions(upper: &[u8], total: u32, permutation: &[u8], out: &mut [u8]) -> Refusal
-    ensures { ◌≡◌ {A = Refusal × List ℕ} (result, out.new)
+// document 01: order to mix, by inversions.
+pub fn inversions(
+    upper: &[u8],
+    total: u32,
+    permutation: &[u8],
+    out: &mut [u8],
+) -> Result<(), Reason>
+    ensures { ◌≡◌ {A = Refusal × List ℕ} (told result, out.new)
         (to_composition by_inversions upper.now total permutation.now out.old) }
 {
-    let mut vector = [0u8; 32];
-    let answer = to_composition_refusal(upper, total, permutation, out.len(), &mut vector);
-    if answer.number != 0 {
-        return answer;
-    }
-    bounds::copy(&vector, out);
-    answer
+    to_composition::<InversionVector>(upper, total, permutation, out)
 }

@@ -3,11 +3,13 @@ use mathlib.Core.Path.{◌≡◌, refl, sym, ap, ◌∙◌}
 use mathlib.Core.Bool.{not}
 use mathlib.Core.List.{List, ◌++◌}
 use Prim.Native.Nat.{ℕ, ◌≤◌, ◌<◌}
+use Rattle.std.proofs.Common.{Ok, Err}
 use native.Mathlib.Decide.{ℕ_discrete}
 use native.Mathlib.Omega.{arith}
 use lib.Dec.{eqb}
 use lib.ListN.{length, take}
 use borrow.Author.Tests.{eq-eqb, ne_eqb}
+use Rattle.walsh.specs.Serial.{serial_of}
 use Rattle.walsh.specs.Order.{count_of}
 use Rattle.walsh.specs.Serial.{composition_of}
 use Rattle.walsh.proofs.Serials.{composition_is}
@@ -17,22 +19,17 @@ use Rattle.bounds.specs.Edition.{shape_checks, limit_checks, edition_checks, cel
 use Rattle.bounds.specs.Places.{is_other, composition_checks, serial_checks, lent_checks, copied}
 use Rattle.bounds.specs.declared.Refusal.{Refusal}
 use Rattle.bounds.proofs.Chains.{accepts_split, accepts_join}
-use Rattle.bounds.proofs.Refusals.{refusal_first, refusal_later, is_refused, is_accepted, same_number}
+use Rattle.bounds.proofs.Refusals.{refusal_first, refusal_later, same_number}
+use Rattle.bounds.proofs.Reasons.{coded-number, coded-refuses, accepted as none_refused}
+use Rattle.bounds.specs.Reason.{coded}
+use Rattle.bounds.specs.declared.Reason.{Reason}
 use Rattle.bounds.proofs.Cells.{cells_back, cells_length, copied_over}
 use Rattle.bounds.proofs.Places.{serial_passed, lent_passed, lent_passes}
 use Rattle.bounds.proofs.Filling.{filling_refused, filling_done}
-use Rattle.rank.specs.Rank.{rank_checks, rank_answer}
+use Rattle.rank.specs.Rank.{rank_checks, answer_of, rank_answer}
 use Rattle.rank.specs.Unrank.{unrank_checks, unrank_call}
-use Rattle.rank.specs.Locate.{clamp, nearest, locate_of}
-use Rattle.band.specs.Find.{early_checks, converted_of}
-use Rattle.band.specs.declared.find.Converted.{Converted}
-use Rattle.band.specs.declared.find.Conversion.TheVariants.{Rank, Unrank}
-
-abbrev number_of_lem : Converted → ℕ
-number_of_lem x = x.number
-
-abbrev detail_of : Converted → ℕ
-detail_of x = x.detail
+use Rattle.rank.specs.Locate.{clamp, nearest}
+use Rattle.band.specs.Find.{early_checks}
 
 -- ---- rank
 
@@ -115,49 +112,25 @@ module _ (ms : List ℕ) (r : ℕ) (g : List ℕ) where
       let q = accepts_split (composition_checks ms r g) (limit_checks ms r) refl p.1 in
       accepts_join (edition_checks ms r) (composition_checks ms r g) refl (accepts_join (shape_checks ms r) (limit_checks ms r) refl p.0 q.1) q.0
 
-  answer_refused : (n d : ℕ) → first_refusal (rank_checks ms r g) ≡ refused n d → 0 < n
-      → record { number = n; detail = d; serial = 0 } ≡ rank_answer ms r g
+  -- a refusal of the call
+  answer_refused : (e : Reason) → coded e ≡ first_refusal (rank_checks ms r g) → answer_of (Err e) ≡ rank_answer ms r g
   unfolding rank_answer
-  answer_refused n d v l = rw (v, ne_eqb n 0 (λ z. omega arith))
+  answer_refused e v = rw (← v, ne_eqb (coded e).number 0 (λ z. omega (arith, coded-number e)))
 
   -- the edition is refused
-  pub ranked_edition : (v : Refusal) → v ≡ edition → 0 < v.number → record { number = v.number; detail = v.detail; serial = 0 } ≡ rank_answer ms r g
-  ranked_edition v e l = answer_refused v.number v.detail (rank_edition (λ z. let q = same_number e in omega arith) ∙ sym e) l
+  pub ranked_edition : (e : Reason) → coded e ≡ edition → answer_of (Err e) ≡ rank_answer ms r g
+  ranked_edition e v = answer_refused e (v ∙ sym (rank_edition (λ z. omega (arith, coded-refuses e edition v, z))))
 
   -- by what `serial_of` answers
-  module _ (x : Converted) (e : x ≡ converted_of Rank ms r g) where
-    by_early : 0 < x.number → early ≡ refused x.number x.detail
-    unfolding converted_of
-    by_early l = is_refused early _ _ number_of_lem detail_of refl refl refl x e l
+  pub ranked_low : (e : Reason) → coded e ≡ early → (coded e).number ≤ 6 → answer_of (Err e) ≡ rank_answer ms r g
+  ranked_low e v h = answer_refused e (sym (early_low (coded e).number (coded e).detail (sym v) (coded-number e) h))
 
-    pub ranked_low : 0 < x.number → x.number ≤ 6 → record { number = x.number; detail = x.detail; serial = 0 } ≡ rank_answer ms r g
-    ranked_low l h = answer_refused x.number x.detail (early_low x.number x.detail (by_early l) l h) l
+  pub ranked_high : (e : Reason) → coded e ≡ early → edition.number ≡ 0 → answer_of (Err e) ≡ rank_answer ms r g
+  ranked_high e v none = answer_refused e (sym (early_high (coded e).number (coded e).detail (sym v) (coded-number e) none))
 
-    pub ranked_high : 0 < x.number → edition.number ≡ 0 → record { number = x.number; detail = x.detail; serial = 0 } ≡ rank_answer ms r g
-    ranked_high l none = answer_refused x.number x.detail (early_high x.number x.detail (by_early l) l none) l
-
-    pub ranked_accepted : x.number ≡ 0 → record { number = 0; detail = 0; serial = x.serial } ≡ rank_answer ms r g
-    unfolding converted_of rank_answer
-    ranked_accepted z =
-        let p = is_accepted early _ _ number_of_lem detail_of refl refl refl x e z in
-        rw (p.1, eq-eqb (first_refusal (rank_checks ms r g)).number 0 (early_none p.0))
-
--- ---- what `composition_of` says of a serial
-
-module _ (ms : List ℕ) (r s : ℕ) (g : List ℕ) (x : Converted) (e : x ≡ converted_of (Unrank s) ms r g) where
-  pub entry_refused : 0 < x.number → first_refusal (edition_checks ms r) ≡ refused x.number x.detail
-  unfolding converted_of
-  entry_refused l = is_refused (first_refusal (edition_checks ms r)) _ _ number_of_lem detail_of refl refl refl x e l
-
-  pub entry_accepted : x.number ≡ 0 → ((first_refusal (edition_checks ms r)).number ≡ 0) × (x.count ≡ count_of ms r) × (x.composition ≡ nearest ms r s)
-  unfolding converted_of
-  entry_accepted z =
-      let p = is_accepted (first_refusal (edition_checks ms r)) _ _ number_of_lem detail_of refl refl refl x e z in
-      (p.0, ap (λ (y : Converted). y.count) p.1, ap (λ (y : Converted). y.composition) p.1)
-
-  pub entry_located : record { number = x.number; detail = x.detail; count = x.count; composition = x.composition } ≡ locate_of ms r s
-  unfolding converted_of locate_of
-  entry_located = on_test (eqb (first_refusal (edition_checks ms r)).number 0) (λ t. rw (e, t)) (λ t. rw (e, t))
+  pub ranked_accepted : (s : ℕ) → refused 0 0 ≡ early → s ≡ serial_of ms r g → answer_of (Ok s) ≡ rank_answer ms r g
+  unfolding rank_answer
+  ranked_accepted s z e = rw (e, eq-eqb (first_refusal (rank_checks ms r g)).number 0 (early_none (none_refused early z)))
 
 -- ---- the cells of a serial
 
@@ -181,18 +154,9 @@ module _ (ms : List ℕ) (r s have : ℕ) where
   abbrev checked : Refusal
   checked = first_refusal (unrank_checks ms r s have)
 
-  pub checked_edition : {v : Refusal} (n d : ℕ) → v ≡ refused n d → first_refusal (edition_checks ms r) ≡ refused n d → 0 < n → v ≡ checked
-  checked_edition n d e is l =
-      e ∙ sym (refusal_first (edition_checks ms r) (serial_checks ms r s ++ lent_checks (length ms) have)
-      (λ z. let q = same_number is in omega arith) ∙ is)
-
   module _ (accepted : (first_refusal (edition_checks ms r)).number ≡ 0) where
     later : checked ≡ first_refusal (serial_checks ms r s ++ lent_checks (length ms) have)
     later = refusal_later (edition_checks ms r) (serial_checks ms r s ++ lent_checks (length ms) have) refl accepted
-
-    pub checked_serial : {v : Refusal} → v ≡ first_refusal (serial_checks ms r s) → 0 < v.number → v ≡ checked
-    checked_serial e l =
-        e ∙ sym (later ∙ refusal_first (serial_checks ms r s) (lent_checks (length ms) have) (λ z. let q = same_number e in omega arith))
 
     pub checked_part : {v w : Refusal} → v ≡ first_refusal (serial_checks ms r s) → v.number ≡ 0 → w ≡ first_refusal (lent_checks (length ms) have)
         → w ≡ checked

@@ -1,4 +1,3 @@
-pub mod Locations
 pub mod Calls
 pub mod RoundTrips
 pub mod Consequences

@@ -1,12 +1,12 @@
 -- Document 01, "Serial and mix": "Mix to serial answers the serial, or the refusal with its detail."
-use Rattle.std.specs.Prelude.{List, ◌++◌, ℕ}
+use Rattle.std.specs.Prelude.{List, ◌++◌, ℕ, Result, Ok, Err}
 use Rattle.walsh.specs.Serial.{serial_of}
 use Rattle.bounds.specs.Refusal.{Check, first_refusal, decided}
 use Rattle.bounds.specs.Edition.{edition_checks}
 use Rattle.bounds.specs.Places.{composition_checks}
 use Rattle.bounds.specs.declared.Refusal.{Refusal}
-use Rattle.rank.specs.declared.Ranking.{Ranking}
-use Rattle.rank.specs.declared.Ranking.TheVariants.{Serial, Refused}
+use Rattle.bounds.specs.declared.Reason.{Reason}
+use Rattle.bounds.specs.Reason.{coded}
 
 -- the places 'edition' and 'mix given'
 abbrev pub rank_checks : List ℕ → ℕ → List ℕ → List Check
@@ -18,9 +18,9 @@ pub record Answer : Type 0 where
   pub detail : ℕ
   pub serial : ℕ
 
-abbrev pub answer_of : Ranking → Answer
-answer_of (Serial s) = record { number = 0; detail = 0; serial = s }
-answer_of (Refused n d) = record { number = n; detail = d; serial = 0 }
+abbrev pub answer_of : Result ℕ Reason → Answer
+answer_of (Ok s) = record { number = 0; detail = 0; serial = s }
+answer_of (Err reason) = record { number = (coded reason).number; detail = (coded reason).detail; serial = 0 }
 
 abbrev pub ranked_by : Refusal → ℕ → Answer
 ranked_by v s =

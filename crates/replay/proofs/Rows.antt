@@ -1,36 +1,20 @@
 -- Laws of the rows: which calls a script has, and an answer read back from its row.
 use mathlib.Core.Path.{◌≡◌, refl, sym, ap, ◌∙◌}
-use mathlib.Core.Logic.{◌≢◌}
 use mathlib.Core.List.{List, [], ◌∷◌, ◌++◌, map, append_assoc, append-nil}
 use Prim.Native.Nat.{ℕ, suc, ◌+◌, ◌-◌, ◌*◌, ◌/◌, ◌≤◌, ◌<◌}
 use native.Mathlib.Omega.{arith}
 use lib.ListN.{length, get_or, take, drop, set, length-append, length-set, drop_of_length-le}
 use lib.Seq.{drop-cons, drop-drop, get_or-drop, drop-set-add, get_or-append-add, drop-append-add, length-take-le, take_at, drop_at}
 use lib.Seq.{take-append_seam, drop-append_seam}
-use borrow.Author.Tests.{eq-eqb, ne_eqb}
 use Rattle.bounds.specs.Places.{copied}
 use Rattle.bounds.proofs.Cells.{copied_same}
 use Rattle.model.specs.Basics.{replaced}
-use Rattle.model.specs.Entry.{entry, order_of, item_of, Lent, columns}
+use Rattle.model.specs.Entry.{order_of, item_of, Lent, columns}
 use Rattle.model.specs.Model.{Call, peek, claim, void, claim_all, Event}
 use Rattle.replay.specs.Rows.{call_width, orders_column, items_column, call_of, uses, next_of, left_of, calls_in, named_in}
 use Rattle.replay.specs.Rows.{row_width, row_of, rows_of, shown}
 
 -- ---- the script
-
--- the call of each number
-module _ (k s : ℕ) (b : Lent) where
-  pub call_peek : k ≡ 0 → call_of k s b ≡ Call.peek
-  call_peek p = rw (eq-eqb k 0 p)
-
-  pub call_claim : k ≢ 0 → k ≡ 1 → call_of k s b ≡ Call.claim s (entry (get_or b.orders 0 0) (get_or b.items 0 0))
-  call_claim n p = rw (ne_eqb k 0 n, eq-eqb k 1 p)
-
-  pub call_claim_all : k ≢ 0 → k ≢ 1 → k ≡ 3 → call_of k s b ≡ Call.claim_all s b
-  call_claim_all n n' p = rw (ne_eqb k 0 n, ne_eqb k 1 n', eq-eqb k 3 p)
-
-  pub call_void : k ≢ 0 → k ≢ 1 → k ≢ 3 → call_of k s b ≡ Call.void s
-  call_void n n' n'' = rw (ne_eqb k 0 n, ne_eqb k 1 n', ne_eqb k 3 n'')
 
 pub calls_count : (rows : List ℕ) (pool : Lent) → length (calls_in rows pool) ≡ length rows / call_width
 calls_count [] pool = refl

@@ -6,6 +6,8 @@ use Rattle.walsh.specs.declared.Transition.{Transition}
 use Rattle.model.specs.Entry.{entry, Lent, columns}
 use Rattle.model.specs.Model.{Call, peek, claim, void, claim_all, refused_with, Event}
 use Rattle.model.specs.declared.Answer.{Answer}
+use Rattle.replay.specs.declared.Opcode.{Opcode}
+use Rattle.replay.specs.declared.Opcode.TheVariants.{Peek, Claim, Bundle, Void}
 
 -- ---- the script
 
@@ -19,15 +21,29 @@ orders_column = 2
 abbrev pub items_column : ℕ
 items_column = 3
 
--- 0 is a peek, 1 a claim, 3 a bundle, any other a void, with the orders and the item lines that it names: a claim is for the first of each
+-- 0 is a peek, 1 a claim, 3 a bundle, any other a void
+abbrev pub opcode_of : ℕ → Opcode
+opcode_of k = cond (eqb k 0) Peek (cond (eqb k 1) Claim (cond (eqb k 3) Bundle Void))
+
+-- the call, with the orders and the item lines that it names: a claim is for the first of each
+abbrev pub call_by : Opcode → (serial : ℕ) (lines : Lent) → Call
+call_by Peek s b = peek
+call_by Claim s b = claim s (entry (get_or b.orders 0 0) (get_or b.items 0 0))
+call_by Bundle s b = claim_all s b
+call_by Void s b = void s
+
 abbrev pub call_of : (which serial : ℕ) (lines : Lent) → Call
-call_of k s b =
-    cond (eqb k 0) peek
-    (cond (eqb k 1) (claim s (entry (get_or b.orders 0 0) (get_or b.items 0 0))) (cond (eqb k 3) (claim_all s b) (void s)))
+call_of k s b = call_by (opcode_of k) s b
 
 -- how many orders a call names, or item lines: the number in its row counts for a bundle alone; a claim names one, a peek and a void none
+abbrev pub uses_by : Opcode → (number : ℕ) → ℕ
+uses_by Peek n = 0
+uses_by Claim n = 1
+uses_by Bundle n = n
+uses_by Void n = 0
+
 abbrev pub uses : (which number : ℕ) → ℕ
-uses k n = cond (eqb k 1) 1 (cond (eqb k 3) n 0)
+uses k n = uses_by (opcode_of k) n
 
 -- the first orders and the first item lines of the pools, and what is left of both behind them
 abbrev pub next_of : (orders items : ℕ) → Lent → Lent

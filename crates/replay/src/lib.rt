@@ -2,17 +2,19 @@
 // register"), so a program that breaks it cannot be built.
 #![tactic(auto)]
 
-ghost use Rattle.std.specs.Prelude.{◌≡◌, true, ◌/◌, ◌<◌, eqb, length, get_or};
+ghost use Rattle.std.specs.Prelude.{◌≡◌, true, ◌/◌, ◌<◌, eqb, length};
 ghost use Rattle.bounds.specs.Places.{copied};
 ghost use Rattle.model.specs.Basics.{all};
 ghost use Rattle.model.specs.Entry.{columns};
 ghost use Rattle.walsh.specs.Transition.{none};
 ghost use Rattle.model.specs.Model.{Call, told};
 ghost use Rattle.model.specs.Record.{printing_of, answered, calling};
-ghost use Rattle.replay.specs.Rows.{call_width, call_of, uses, named_in, row_width, row_of};
+ghost use Rattle.model.specs.Results.{opened_of};
+ghost use Rattle.replay.specs.Rows.{call_width, opcode_of, call_by, uses_by, named_in, row_width, row_of};
 ghost use Rattle.replay.specs.Replay.{scripted, buffers, calls_of, sizes_of, sizes, Ran, Replays};
 
-use model::{Answer, Claimed, Ledger, Opened};
+use bounds::Reason;
+use model::{Answer, Claimed, Ledger};
 use walsh::Transition;
 
 // The columns of a call in the script: which call, serial, how many orders it names, how many item lines.
@@ -25,6 +27,41 @@ const ITEMS: usize = 3;
 // The columns of an answer: number, detail, serial, the 24 cells of the composition, gain and loss.
 const ROW: usize = 29;
 
+// Which call a row of the script is.
+#[derive(Clone, Copy, Debug, PartialEq, Eq)]
+enum Opcode {
+    Peek,
+    Claim,
+    Bundle,
+    Void,
+}
+
+impl From<u64> for Opcode {
+    ghost from_gives = { λ which opcode. opcode ≡ opcode_of which };
+
+    fn from(which: u64) -> Opcode {
+        match which {
+            0 => Opcode::Peek,
+            1 => Opcode::Claim,
+            3 => Opcode::Bundle,
+            _ => Opcode::Void,
+        }
+    }
+}
+
+impl Opcode {
+    // How many orders of the pool such a call uses up, or item lines, with the number in its row.
+    fn uses(self, n: u64) -> usize
+        ensures { result ≡ uses_by self n }
+    {
+        match self {
+            Opcode::Peek | Opcode::Void => 0,
+            Opcode::Claim => 1,
+            Opcode::Bundle => n as usize,
+        }
+    }
+}
+
 // What a call answers, the record after it, and the pair.
 #[derive(Clone, Copy)]
 struct Called {
@@ -32,28 +69,7 @@ struct Called {
     pair: Transition,
 }
 
-// A peek's answer and its pair, with the record as it is.
-fn look(ledger: Ledger, column: &[u32], items: &[u8]) -> Called
-    ensures { (result.claimed ≡ record { answer = answered ledger (columns column.now items.now) Call.peek; ledger = ledger })
-        × (result.pair ≡ told (printing_of ledger) Call.peek result.claimed.answer) }
-{
-    let seen = ledger::peek(ledger, column, items);
-    let composition = seen.composition;
-    let answer = Answer {
-        number: seen.number,
-        detail: seen.detail,
-        serial: seen.serial,
-        composition,
-    };
-    let claimed = Claimed { answer, ledger };
-    let pair = Transition {
-        gain: seen.gain,
-        loss: seen.loss,
-    };
-    Called { claimed, pair }
-}
-
-// A claim, a bundle or a void: it answers no pair.
+// What answers no pair: a claim, a bundle, a void, and a peek that is refused.
 fn unpaired(claimed: Claimed) -> Called
     ensures { (result.claimed ≡ claimed) × (result.pair ≡ none) }
 {
@@ -61,75 +77,62 @@ fn unpaired(claimed: Claimed) -> Called
     Called { claimed, pair }
 }
 
-// The first of the orders that a call names; 0 where it names none.
-fn first_order(orders: &[u32]) -> u32
-    ensures { result ≡ get_or orders.now 0 0 }
+// A peek's answer and its pair, with the record as it is.
+fn look(ledger: Ledger, column: &[u32], items: &[u8]) -> Called
+    ensures { (result.claimed ≡ record { answer = answered ledger (columns column.now items.now) Call.peek; ledger = ledger })
+        × (result.pair ≡ told (printing_of ledger) Call.peek result.claimed.answer) }
 {
-    if orders.len() == 0 {
-        return 0;
+    match ledger::peek(ledger, column, items) {
+        Ok(seen) => {
+            let answer = Answer::from(Ok(seen.line));
+            Called {
+                claimed: Claimed { answer, ledger },
+                pair: seen.pair,
+            }
+        }
+        Err(reason) => {
+            let answer = Answer::from(Err(reason));
+            unpaired(Claimed { answer, ledger })
+        }
     }
-    orders[0]
 }
 
-// The first of its item lines; 0 where it names none.
-fn first_item(itemlines: &[u8]) -> u8
-    ensures { result ≡ get_or itemlines.now 0 0 }
-{
-    if itemlines.len() == 0 {
-        return 0;
-    }
-    itemlines[0]
-}
-
-// One call with the orders and the item lines that it names: 0 is a peek, 1 a claim, 3 a bundle, any other a void.
+// One call with the orders and the item lines that it names; a claim is for the first of each.
 fn call(
     ledger: Ledger,
     column: &mut [u32],
     items: &mut [u8],
-    which: u64,
+    opcode: Opcode,
     serial: u64,
     orders: &[u32],
     itemlines: &[u8],
 ) -> Called
     ensures { ((result.claimed, columns column.new items.new)
-        ≡ calling ledger (columns column.old items.old)
-        (call_of which serial (columns orders.now itemlines.now)))
+        ≡ calling ledger (columns column.old items.old) (call_by opcode serial (columns orders.now itemlines.now)))
         × (result.pair
-        ≡ told (printing_of ledger) (call_of which serial (columns orders.now itemlines.now)) result.claimed.answer) }
+        ≡ told (printing_of ledger) (call_by opcode serial (columns orders.now itemlines.now)) result.claimed.answer) }
 {
-    if which == 0 {
-        return look(ledger, column, items);
+    match opcode {
+        Opcode::Peek => look(ledger, column, items),
+        Opcode::Claim => {
+            let order = orders.first().copied().unwrap_or(0);
+            let item = itemlines.first().copied().unwrap_or(0);
+            unpaired(ledger::claim(ledger, column, items, serial, order, item))
+        }
+        Opcode::Bundle => unpaired(ledger::claim_all(
+            ledger, column, items, serial, orders, itemlines,
+        )),
+        Opcode::Void => unpaired(ledger::void(ledger, column, items, serial)),
     }
-    if which == 1 {
-        let order = first_order(orders);
-        let item = first_item(itemlines);
-        return unpaired(ledger::claim(ledger, column, items, serial, order, item));
-    }
-    if which == 3 {
-        return unpaired(ledger::claim_all(ledger, column, items, serial, orders, itemlines));
-    }
-    unpaired(ledger::void(ledger, column, items, serial))
 }
 
-// How many orders of the pool a call uses up, or item lines, with the number in its row.
-fn uses(kind: u64, n: u64) -> usize
-    ensures { result ≡ uses kind n }
-{
-    if kind == 3 {
-        return n as usize;
-    }
-    if kind == 1 { 1 } else { 0 }
-}
-
-// Copies the beginning of `cells` over the beginning of `out`, as many numbers as both have.
+// Copies the beginning of `cells` over the beginning of `out`, as many numbers as both have. (A range: of a list
+// that is written through an adapter such as `zip` nothing is known afterwards.)
 fn widen(cells: &[u8], out: &mut [u64])
     ensures { out.new ≡ copied cells.now out.old }
 {
-    let n = walsh::lesser(cells.len(), out.len());
-    let mut i = 0;
-    while i < n {
-        out[i] = walsh::wide(cells[i]) as u64;
-        i += 1;
+    for i in 0..cells.len().min(out.len()) {
+        out[i] = u64::from(cells[i]);
     }
 }
 
@@ -138,11 +141,11 @@ fn put(answer: Answer, pair: Transition, row: &mut [u64])
     requires { length row.old ≡ row_width }
     ensures { row.new ≡ row_of answer pair }
 {
-    row[0] = answer.number as u64;
+    row[0] = u64::from(answer.number);
     row[1] = answer.detail;
     row[2] = answer.serial;
-    row[27] = pair.gain as u64;
-    row[28] = pair.loss as u64;
+    row[27] = u64::from(pair.gain);
+    row[28] = u64::from(pair.loss);
     let cells = answer.composition;
     widen(&cells, &mut row[3..27]);
 }
@@ -165,19 +168,18 @@ fn run(
         (buffers (columns column.new items.new) answers.new) result }
 {
     let mut l = ledger;
-    let mut next: usize = 0;
-    let mut next_item: usize = 0;
-    let mut i: usize = 0;
-    while i < script.len() / CALL {
+    let mut next = 0;
+    let mut next_item = 0;
+    for i in 0..script.len() / CALL {
         let from = i * CALL;
-        let which = script[from];
-        let end = next + uses(which, script[from + ORDERS]);
-        let end_item = next_item + uses(which, script[from + ITEMS]);
+        let opcode = Opcode::from(script[from]);
+        let end = next + opcode.uses(script[from + ORDERS]);
+        let end_item = next_item + opcode.uses(script[from + ITEMS]);
         let done = call(
             l,
             column,
             items,
-            which,
+            opcode,
             script[from + 1],
             &orders[next..end],
             &itemlines[next_item..end_item],
@@ -189,7 +191,6 @@ fn run(
         l = claimed.ledger;
         next = end;
         next_item = end_item;
-        i += 1;
     }
     l
 }
@@ -200,15 +201,13 @@ fn pool_fits(rows: &[u64], counts: usize, pool: usize) -> bool
     ensures { result ≡ eqb pool (named_in counts rows.now) }
 {
     let mut left = pool;
-    let mut k: usize = 0;
-    while k < rows.len() / CALL {
+    for k in 0..rows.len() / CALL {
         let start = k * CALL;
-        let used = uses(rows[start], rows[start + counts]);
+        let used = Opcode::from(rows[start]).uses(rows[start + counts]);
         if left < used {
             return false;
         }
         left -= used;
-        k += 1;
     }
     left == 0
 }
@@ -218,19 +217,11 @@ fn pool_fits(rows: &[u64], counts: usize, pool: usize) -> bool
 fn fits(script: &[u64], answers: usize, orders: usize, itemlines: usize) -> bool
     ensures { result ≡ all (sizes_of script.now (length script.now / call_width) answers orders itemlines) }
 {
-    if script.len() % CALL != 0 {
-        return false;
-    }
-    if answers % ROW != 0 {
-        return false;
-    }
-    if answers / ROW != script.len() / CALL {
-        return false;
-    }
-    if !pool_fits(script, ORDERS, orders) {
-        return false;
-    }
-    pool_fits(script, ITEMS, itemlines)
+    script.len() % CALL == 0
+        && answers % ROW == 0
+        && answers / ROW == script.len() / CALL
+        && pool_fits(script, ORDERS, orders)
+        && pool_fits(script, ITEMS, itemlines)
 }
 
 // A list of calls on a newly opened ledger over `column` and, beside it, `items`. The script has a row of four numbers for each call, and the pools
@@ -245,24 +236,15 @@ pub fn replay(
     column: &mut [u32],
     items: &mut [u8],
     answers: &mut [u64],
-) -> Opened
+) -> Result<Ledger, Reason>
     ensures { Replays (record { bounds = upper.now; total = total })
         (scripted script.now (columns orders.now itemlines.now))
         (buffers (columns column.old items.old) answers.old)
-        (buffers (columns column.new items.new) answers.new) result }
+        (buffers (columns column.new items.new) answers.new) (opened_of result) }
 {
-    let opened = ledger::open(upper, total, column, items);
-    if opened.number != 0 {
-        return opened;
-    }
+    let opened = ledger::open(upper, total, column, items)?;
     if !fits(script, answers.len(), orders.len(), itemlines.len()) {
-        return ledger::unopened(13, 0);
+        return Err(Reason::Room);
     }
-    let first = opened.ledger;
-    let last = run(first, script, orders, itemlines, column, items, answers);
-    Opened {
-        number: 0,
-        detail: 0,
-        ledger: last,
-    }
+    Ok(run(opened, script, orders, itemlines, column, items, answers))
 }

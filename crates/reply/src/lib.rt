@@ -2,148 +2,91 @@
 // written here: crate `ledger` has the calls.
 #![tactic(auto)]
 
-ghost use Rattle.std.specs.Prelude.{◌≡◌, true, false, cond, ◌+◌, ◌<◌};
-ghost use Rattle.walsh.specs.Transition.{none};
+ghost use Rattle.std.specs.Prelude.{◌≡◌, true, false, cond, Some, ◌+◌, ◌<◌};
 ghost use Rattle.bounds.specs.Places.{most_entries};
-ghost use Rattle.bounds.specs.Refusal.{first_refusal};
-ghost use Rattle.model.specs.Printing.{blank, size};
+ghost use Rattle.bounds.specs.Reason.{coded, told};
+ghost use Rattle.bounds.specs.Refusal.{refused, first_refusal};
+ghost use Rattle.model.specs.Printing.{size};
 ghost use Rattle.model.specs.Entry.{entry, columns};
-ghost use Rattle.model.specs.Model.{Call, bad_bundle, order_checks, refused_with, answer};
-ghost use Rattle.model.specs.Record.{printing_of, written, consistent, answered, peeked_by, peeking};
+ghost use Rattle.model.specs.Model.{Call, bad_bundle, order_checks, answer};
+ghost use Rattle.model.specs.Record.{printing_of, written, consistent, answered, peeking};
+ghost use Rattle.model.specs.Results.{answer_of, peeked_of};
 ghost use Rattle.integrity.specs.Examine.{met_by};
 
-use bounds::Refusal;
+use bounds::Reason;
 use integrity::Met;
-use model::{Answer, Ledger, Peeked};
-
-fn refused(number: u32, detail: u64) -> Answer
-    ensures { result ≡ record { number = number; detail = detail; serial = 0; composition = blank } }
-{
-    Answer {
-        number,
-        detail,
-        serial: 0,
-        composition: [0; 24],
-    }
-}
+use model::{Ledger, Line, Peek};
 
 // The next serial with its composition, which the record holds.
-fn accepted(ledger: Ledger) -> Answer
+fn next_line(ledger: Ledger) -> Line
     requires { ledger.entries < most_entries }
-    ensures { result ≡ record { number = 0; detail = 0; serial = ledger.entries + 1; composition = ledger.next } }
+    ensures { result ≡ record { serial = ledger.entries + 1; composition = ledger.next } }
 {
     let composition = ledger.next;
-    Answer {
-        number: 0,
-        detail: 0,
+    Line {
         serial: ledger.entries + 1,
         composition,
     }
 }
 
-// A refused peek has no pair.
-fn unseen(number: u32, detail: u64) -> Peeked
-    ensures { result ≡ peeked_by (refused_with number detail) none }
-{
-    Peeked {
-        number,
-        detail,
-        serial: 0,
-        composition: [0; 24],
-        gain: 0,
-        loss: 0,
-    }
-}
-
+// (Record and columns come apart in each, as the C interface lends them.)
+//
 // document 01: look. The next serial with its composition; nothing is reserved. Document 02, (i): and the pair of that serial, by one step back from
 // the record's composition.
-pub fn peek(ledger: Ledger, orders: &[u32], items: &[u8]) -> Peeked
-    ensures { result ≡ peeking ledger (columns orders.now items.now) }
+pub fn peek(ledger: Ledger, orders: &[u32], items: &[u8]) -> Result<Peek, Reason>
+    ensures { peeked_of result ≡ peeking ledger (columns orders.now items.now) }
 {
-    let seen = integrity::examine(ledger, orders, items);
-    if !seen.fits {
-        return unseen(16, 0);
+    let count = integrity::examine(ledger, orders, items).ok_or(Reason::Ledger)?;
+    if count <= ledger.entries {
+        return Err(Reason::Full);
     }
-    if seen.count <= ledger.entries {
-        return unseen(21, 0);
-    }
-    let serial = ledger.entries + 1;
+    let line = next_line(ledger);
     let n = ledger.bounds.parts;
     let upper = ledger.bounds.upper;
-    let composition = ledger.next;
     let mut before = ledger.next;
     let pair = step::retreat(&upper[..n], ledger.bounds.total, &mut before[..n]);
-    Peeked {
-        number: 0,
-        detail: 0,
-        serial,
-        composition,
-        gain: pair.gain,
-        loss: pair.loss,
-    }
-}
-
-// An entry's 32 bits as a detail's 64.
-fn wide(x: u32) -> u64
-    ensures { result ≡ x }
-{
-    x as u64
+    Ok(Peek { line, pair })
 }
 
 // The checks of an order by itself: 17, 26 and 25.
-fn check_order(order: u32, item: u8) -> Refusal
-    ensures { result ≡ first_refusal (order_checks (entry order item)) }
+fn check_order(order: u32, item: u8) -> Result<(), Reason>
+    ensures { told result ≡ first_refusal (order_checks (entry order item)) }
 {
     if order == 0 {
-        return Refusal {
-            number: 17,
-            detail: 0,
-        };
+        return Err(Reason::Order);
     }
     if !digits::passes(order) {
-        return Refusal {
-            number: 26,
-            detail: 0,
-        };
+        return Err(Reason::CheckDigit);
     }
-    if item == 0 {
-        return Refusal {
-            number: 25,
-            detail: 0,
-        };
+    if item == 0 || integrity::MOST_ITEM < item {
+        return Err(Reason::Item);
     }
-    if integrity::MOST_ITEM < item {
-        return Refusal {
-            number: 25,
-            detail: 0,
-        };
-    }
-    Refusal {
-        number: 0,
-        detail: 0,
-    }
+    Ok(())
 }
 
 // The checks of a serial, 6, 18 and 19, which are those of a void.
-fn place(ledger: Ledger, orders: &[u32], items: &[u8], count: u64, serial: u64) -> Answer
+fn place(
+    ledger: Ledger,
+    orders: &[u32],
+    items: &[u8],
+    count: u64,
+    serial: u64,
+) -> Result<Line, Reason>
     requires { (consistent ledger (columns orders.now items.now) ≡ true) × (count ≡ size (printing_of ledger)) }
-    ensures { result ≡ answer (printing_of ledger) (written ledger (columns orders.now items.now)) (Call.void serial) }
+    ensures { answer_of result ≡ answer (printing_of ledger) (written ledger (columns orders.now items.now)) (Call.void serial) }
 {
-    if serial == 0 {
-        return refused(6, 0);
+    if serial == 0 || count < serial {
+        return Err(Reason::Serial);
     }
-    if count < serial {
-        return refused(6, 0);
-    }
-    let entries = ledger.entries;
-    if serial <= entries {
+    let next = ledger.entries + 1;
+    if serial < next {
         let at = (serial - 1) as usize;
-        return refused(18, wide(orders[at]));
+        return Err(Reason::Written(u64::from(orders[at])));
     }
-    if entries + 1 < serial {
-        return refused(19, entries + 1);
+    if next < serial {
+        return Err(Reason::Ahead(next));
     }
-    accepted(ledger)
+    Ok(next_line(ledger))
 }
 
 // document 01: take. The places in their order: 16, those of the order, those of the serial, 20.
@@ -154,36 +97,24 @@ pub fn claim(
     serial: u64,
     order: u32,
     item: u8,
-) -> Answer
-    ensures { result ≡ answered ledger (columns orders.now items.now) (Call.claim serial (entry order item)) }
+) -> Result<Line, Reason>
+    ensures { answer_of result ≡ answered ledger (columns orders.now items.now) (Call.claim serial (entry order item)) }
 {
-    let found = integrity::examine_for(ledger, orders, items, order, item);
-    if !found.fits {
-        return refused(16, 0);
+    let found = integrity::examine_for(ledger, orders, items, order, item).ok_or(Reason::Ledger)?;
+    check_order(order, item)?;
+    let line = place(ledger, orders, items, found.count, serial)?;
+    match found.place {
+        Some(earlier) => Err(Reason::Repeated(earlier as u64 + 1)),
+        None => Ok(line),
     }
-    let bad = check_order(order, item);
-    if bad.number != 0 {
-        return refused(bad.number, bad.detail);
-    }
-    let placed = place(ledger, orders, items, found.count, serial);
-    if placed.number != 0 {
-        return placed;
-    }
-    if found.place < ledger.entries {
-        return refused(20, found.place + 1);
-    }
-    placed
 }
 
 // document 01: spoil. 16, and those of the serial.
-pub fn void(ledger: Ledger, orders: &[u32], items: &[u8], serial: u64) -> Answer
-    ensures { result ≡ answered ledger (columns orders.now items.now) (Call.void serial) }
+pub fn void(ledger: Ledger, orders: &[u32], items: &[u8], serial: u64) -> Result<Line, Reason>
+    ensures { answer_of result ≡ answered ledger (columns orders.now items.now) (Call.void serial) }
 {
-    let seen = integrity::examine(ledger, orders, items);
-    if !seen.fits {
-        return refused(16, 0);
-    }
-    place(ledger, orders, items, seen.count, serial)
+    let count = integrity::examine(ledger, orders, items).ok_or(Reason::Ledger)?;
+    place(ledger, orders, items, count, serial)
 }
 
 // ---- document 02, (v): a bundle
@@ -191,19 +122,19 @@ pub fn void(ledger: Ledger, orders: &[u32], items: &[u8], serial: u64) -> Answer
 // The most orders of a bundle.
 const MOST_ORDERS: usize = 40;
 
-// What a bundle of no orders or of too many answers, or with another number of item lines: 24, but 16 stands before it.
-fn missized(ledger: Ledger, orders: &[u32], items: &[u8]) -> Answer
-    ensures { result ≡ cond (consistent ledger (columns orders.now items.now)) (refused_with 24 0) (refused_with 16 0) }
+// Why a bundle of no orders or of too many is refused, or one with another number of item lines: 24, but 16 stands before it.
+fn missized(ledger: Ledger, orders: &[u32], items: &[u8]) -> Reason
+    ensures { coded result ≡ cond (consistent ledger (columns orders.now items.now)) (refused 24 0) (refused 16 0) }
 {
-    let seen = integrity::examine(ledger, orders, items);
-    if seen.fits {
-        return refused(24, 0);
+    match integrity::examine(ledger, orders, items) {
+        Some(_) => Reason::Bundle,
+        None => Reason::Ledger,
     }
-    refused(16, 0)
 }
 
 // The takes one after another: of the first its order and its serial; then of each its order, whether a serial is left for it, and whether the order
-// stands in an earlier line, those of the takes before it included. Where no take is refused, the answer is that of the first.
+// stands in an earlier line, those of the takes before it included. Where no take is refused, the answer is that of the first. (A range, since two lists are
+// read at a place that the serial needs too.)
 fn takes(
     ledger: Ledger,
     orders: &[u32],
@@ -212,35 +143,24 @@ fn takes(
     bundle: &[u32],
     itemlines: &[u8],
     met: Met,
-) -> Answer
+) -> Result<Line, Reason>
     requires { (consistent ledger (columns orders.now items.now) ≡ true) × ((bad_bundle (columns bundle.now itemlines.now)).holds ≡ false)
-        × (met ≡ met_by true ledger (columns orders.now items.now) (columns bundle.now itemlines.now)) }
-    ensures { result ≡ answer (printing_of ledger) (written ledger (columns orders.now items.now))
+        × (Some met ≡ met_by true ledger (columns orders.now items.now) (columns bundle.now itemlines.now)) }
+    ensures { answer_of result ≡ answer (printing_of ledger) (written ledger (columns orders.now items.now))
         (Call.claim_all serial (columns bundle.now itemlines.now)) }
 {
-    let none = check_order(bundle[0], itemlines[0]);
-    if none.number != 0 {
-        return refused(none.number, none.detail);
-    }
-    let first = place(ledger, orders, items, met.count, serial);
-    if first.number != 0 {
-        return first;
-    }
-    let mut k: usize = 0;
-    while k < bundle.len() {
-        let bad = check_order(bundle[k], itemlines[k]);
-        if bad.number != 0 {
-            return refused(bad.number, bad.detail);
-        }
+    check_order(bundle[0], itemlines[0])?;
+    let first = place(ledger, orders, items, met.count, serial)?;
+    for k in 0..bundle.len() {
+        check_order(bundle[k], itemlines[k])?;
         if met.count < serial + k as u64 {
-            return refused(6, 0);
+            return Err(Reason::Serial);
         }
         if k == met.first {
-            return refused(20, met.place + 1);
+            return Err(Reason::Repeated(met.place as u64 + 1));
         }
-        k += 1;
     }
-    first
+    Ok(first)
 }
 
 // 16, 24, and the takes.
@@ -251,22 +171,15 @@ pub fn claim_all(
     serial: u64,
     bundle: &[u32],
     itemlines: &[u8],
-) -> Answer
-    ensures { result ≡ answered ledger (columns orders.now items.now)
+) -> Result<Line, Reason>
+    ensures { answer_of result ≡ answered ledger (columns orders.now items.now)
         (Call.claim_all serial (columns bundle.now itemlines.now)) }
 {
-    if itemlines.len() != bundle.len() {
-        return missized(ledger, orders, items);
+    if itemlines.len() != bundle.len() || bundle.is_empty() || MOST_ORDERS < bundle.len() {
+        return Err(missized(ledger, orders, items));
     }
-    if bundle.len() == 0 {
-        return missized(ledger, orders, items);
-    }
-    if MOST_ORDERS < bundle.len() {
-        return missized(ledger, orders, items);
-    }
-    let met = integrity::examine_all(ledger, orders, items, bundle, itemlines);
-    if !met.fits {
-        return refused(16, 0);
-    }
+    let met = integrity::examine_all(ledger, orders, items, bundle, itemlines).ok_or(
+        Reason::Ledger,
+    )?;
     takes(ledger, orders, items, serial, bundle, itemlines, met)
 }

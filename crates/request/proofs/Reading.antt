@@ -2,6 +2,7 @@
 use mathlib.Core.Path.{◌≡◌, refl, sym, ap, ◌∙◌}
 use mathlib.Core.Bool.{true, false}
 use mathlib.Core.List.{List, [], ◌∷◌, ◌++◌, map, append_assoc}
+use Rattle.std.specs.Prelude.{Option, Some, None}
 use Prim.Native.Nat.{ℕ, suc, ◌+◌, ◌-◌, ◌*◌, ◌≤◌, ◌<◌}
 use native.Mathlib.Numerals.{add-one}
 use native.Mathlib.Omega.{arith}
@@ -9,26 +10,17 @@ use lib.ListN.{length, get_or, drop, set, replicate, length-append, length-drop,
 use lib.Seq.{drop-cons, get_or_at, set_at}
 use Rattle.request.specs.Request.{held, request_cells}
 use Rattle.request.specs.Scan.{grown_of, is_end, found, none, scan, line_of}
-use Rattle.request.specs.declared.Number.{Number}
-use Rattle.request.specs.declared.Number.TheVariants.{Empty, Value, Bad}
-use Rattle.request.specs.declared.Line.{Line}
 use Rattle.request.proofs.Scans.{scan_grow, scan_empty, scan_bad, scan_last, scan_next}
 
 -- the least bytes of a number being read
-abbrev width : Number → ℕ
-width Empty = 0
-width (Value v) = 1
-width Bad = 1
-
-width_le : (n : Number) → width n ≤ 1
-width_le Empty = omega arith
-width_le (Value v) = omega arith
-width_le Bad = omega arith
+abbrev width : Option ℕ → ℕ
+width None = 0
+width (Some v) = 1
 
 -- the numbers before `at`, which stand in the cells
-pub record Reading (s : List ℕ) (from : ℕ) (upper : List ℕ) (n : Number) (parts at : ℕ) : Type 0 where
+pub record Reading (s : List ℕ) (from : ℕ) (upper : List ℕ) (n : Option ℕ) (parts at : ℕ) : Type 0 where
   pub ns : List ℕ
-  pub same : scan ns n (drop at s) ≡ scan [] Empty (drop from s)
+  pub same : scan ns n (drop at s) ≡ scan [] None (drop from s)
   pub count : parts ≡ length ns
   pub cells : upper ≡ request_cells (map held ns)
   pub room : 2 * parts + width n ≤ at
@@ -44,46 +36,45 @@ cells_snoc ms x h =
     rw (e, length-append ms (x ∷ []))
     (set_at ms 0 (replicate (128 - (length ms + 1)) 0) x (length ms) refl ∙ sym (append_assoc ms (x ∷ []) (replicate (128 - (length ms + 1)) 0)))
 
-pub reading_none : (s : List ℕ) (from : ℕ) (upper : List ℕ) → upper ≡ replicate 128 0 → Reading s from upper Empty 0 from
+pub reading_none : (s : List ℕ) (from : ℕ) (upper : List ℕ) → upper ≡ replicate 128 0 → Reading s from upper None 0 from
 unfolding request_cells
 reading_none s from upper e = record { ns = []; same = refl; count = refl; cells = e; room = omega arith }
 
-module _ {s : List ℕ} {from : ℕ} {upper : List ℕ} {n : Number} {parts at : ℕ} (r : Reading s from upper n parts at) where
+module _ {s : List ℕ} {from : ℕ} {upper : List ℕ} {n : Option ℕ} {parts at : ℕ} (r : Reading s from upper n parts at) where
   -- nothing is left
-  pub read_out : (x : Line) → x ≡ line_of 0 none → length s ≤ at → x ≡ line_of (length s) (scan [] Empty (drop from s))
+  pub read_out : length s ≤ at → None ≡ line_of (length s) (scan [] None (drop from s))
   unfolding scan
-  read_out x e h =
+  read_out h =
       let q : scan r.ns n (drop at s) ≡ none = rw (drop_of_length-le s h) in
-      rw (← r.same, q) e
+      rw (← r.same, q)
 
   module _ (inside : at < length s) where
     here : (b : ℕ) → b ≡ get_or s at 0 → drop at s ≡ b ∷ drop (at + 1) s
     here b e = rw (e, add-one at) (drop-cons s at 0 inside)
 
-    pub read_empty : (x : Line) (b : ℕ) → x ≡ line_of 0 none → b ≡ get_or s at 0 → is_end b ≡ true → n ≡ Empty
-        → x ≡ line_of (length s) (scan [] Empty (drop from s))
-    read_empty x b ex eb end e =
+    pub read_empty : (b : ℕ) → b ≡ get_or s at 0 → is_end b ≡ true → n ≡ None → None ≡ line_of (length s) (scan [] None (drop from s))
+    read_empty b eb end e =
         let q : scan r.ns n (drop at s) ≡ none = rw (here b eb) (scan_empty r.ns n (drop (at + 1) s) b end e) in
-        rw (← r.same, q) ex
+        rw (← r.same, q)
 
-    pub read_bad : (x : Line) (b : ℕ) → x ≡ line_of 0 none → b ≡ get_or s at 0 → is_end b ≡ true → n ≡ Bad
-        → x ≡ line_of (length s) (scan [] Empty (drop from s))
-    read_bad x b ex eb end e =
+    pub read_bad : (b : ℕ) → b ≡ get_or s at 0 → is_end b ≡ false → grown_of n b ≡ None
+        → None ≡ line_of (length s) (scan [] None (drop from s))
+    read_bad b eb end e =
         let q : scan r.ns n (drop at s) ≡ none = rw (here b eb) (scan_bad r.ns n (drop (at + 1) s) b end e) in
-        rw (← r.same, q) ex
+        rw (← r.same, q)
 
-    pub read_grow : (n' : Number) (b : ℕ) → n' ≡ grown_of n b → b ≡ get_or s at 0 → is_end b ≡ false → Reading s from upper n' parts (at + 1)
-    read_grow n' b en eb end =
+    pub read_grow : (b v : ℕ) → b ≡ get_or s at 0 → is_end b ≡ false → grown_of n b ≡ Some v → Reading s from upper (Some v) parts (at + 1)
+    read_grow b v eb end g =
         record {
           ns = r.ns;
-          same = rw en (sym (scan_grow r.ns n (drop (at + 1) s) b end) ∙ ap (scan r.ns n) (sym (here b eb)) ∙ r.same);
+          same = sym (scan_grow r.ns n (drop (at + 1) s) b v end g) ∙ ap (scan r.ns n) (sym (here b eb)) ∙ r.same;
           count = r.count;
           cells = r.cells;
-          room = omega (arith, r.room, width_le n');
+          room = omega (arith, r.room);
         }
 
     -- a number ends
-    module _ (v x : ℕ) (ev : n ≡ Value v) (ex : x ≡ held v) where
+    module _ (v x : ℕ) (ev : n ≡ Some v) (ex : x ≡ held v) where
       wide : width n ≡ 1
       wide = rw ev
 
@@ -96,7 +87,7 @@ module _ {s : List ℕ} {from : ℕ} {upper : List ℕ} {n : Number} {parts at :
           (cells_snoc (map held r.ns) (held v) (omega (arith, read_room l, r.count, length-map r.ns held)))
 
       pub read_next : length s ≤ 256 → (b : ℕ) → b ≡ get_or s at 0 → is_end b ≡ true → (b ≡ 10 → ⊥)
-          → Reading s from (set upper parts x) Empty (parts + 1) (at + 1)
+          → Reading s from (set upper parts x) None (parts + 1) (at + 1)
       read_next l b eb end ten =
           record {
             ns = r.ns ++ (v ∷ []);
@@ -107,7 +98,7 @@ module _ {s : List ℕ} {from : ℕ} {upper : List ℕ} {n : Number} {parts at :
           }
 
       pub read_last : length s ≤ 256 → (b : ℕ) → b ≡ get_or s at 0 → b ≡ 10
-          → record { parts = parts + 1; upper = set upper parts x; last = v; end = at + 1 } ≡ line_of (length s) (scan [] Empty (drop from s))
+          → Some (record { parts = parts + 1; upper = set upper parts x; last = v; end = at + 1 }) ≡ line_of (length s) (scan [] None (drop from s))
       read_last l b eb ten =
           let q : scan r.ns n (drop at s) ≡ found (r.ns ++ (v ∷ [])) (drop (at + 1) s) =
           rw (here b eb, ten) (scan_last r.ns n (drop (at + 1) s) v ev) in

@@ -1,9 +1,8 @@
 -- What a text asks for, computed: the bounds and the total of which `Asks` speaks, or nothing where there are none (proofs/Asked.antt).
-use Rattle.std.specs.Prelude.{◌≡◌, refl, cond, List, [], ◌∷◌, ℕ, ltb, length, take, drop}
+use Rattle.std.specs.Prelude.{◌≡◌, refl, None, cond, List, [], ◌∷◌, ℕ, ltb, length, take, drop}
 use Rattle.walsh.specs.Serial.{same}
 use Rattle.request.specs.Request.{title}
 use Rattle.request.specs.Scan.{Scanned, found, none, scan, grown_of}
-use Rattle.request.specs.declared.Number.TheVariants.{Empty}
 
 pub data Asked : Type 0 where
   wants : List ℕ → ℕ → Asked
@@ -19,11 +18,11 @@ with_total ms none = nothing
 
 -- behind the title: a line of bounds
 abbrev pub with_bounds : Scanned → Asked
-with_bounds (found ms bs) = with_total ms (scan [] Empty bs)
+with_bounds (found ms bs) = with_total ms (scan [] None bs)
 with_bounds none = nothing
 
 unfoldable pub asked_of : List ℕ → Asked
-asked_of s = cond (ltb 256 (length s)) nothing (cond (same (take 6 s) title) (with_bounds (scan [] Empty (drop 6 s))) nothing)
+asked_of s = cond (ltb 256 (length s)) nothing (cond (same (take 6 s) title) (with_bounds (scan [] None (drop 6 s))) nothing)
 
 -- the document's slip, and the same with a space behind the total
 abbrev pub example : List ℕ

@@ -1,6 +1,6 @@
 -- Document 01, "Listing program" and "Refusals by place of checking", place 'slip': which bytes ask for a listing, and for which one. A reader
 -- who believes this file and `Text` need not read `Scan`: that computes.
-use Rattle.std.specs.Prelude.{◌≡◌, List, [], ◌∷◌, ◌++◌, map, ℕ, ◌-◌, ◌≤◌, ◌<◌, min, length, get_or, replicate}
+use Rattle.std.specs.Prelude.{◌≡◌, Option, Some, None, List, [], ◌∷◌, ◌++◌, map, ℕ, ◌-◌, ◌≤◌, ◌<◌, min, length, get_or, replicate}
 use Rattle.request.specs.Text.{line}
 use Rattle.request.specs.declared.Request.{Request}
 
@@ -32,14 +32,14 @@ held m = min m 255
 unfoldable pub request_cells : List ℕ → List ℕ
 request_cells ms = ms ++ replicate (128 - length ms) 0
 
-abbrev pub accepted : List ℕ → ℕ → Request
-accepted ms r = record { number = 0; parts = length ms; upper = request_cells (map held ms); total = r }
+abbrev pub accepted : List ℕ → ℕ → Option Request
+accepted ms r = Some (record { parts = length ms; upper = request_cells (map held ms); total = r })
 
--- "22: not the form below"
-abbrev pub refused : Request
-refused = record { number = 22; parts = 0; upper = replicate 128 0; total = 0 }
+-- "22: not the form below", the one refusal that there is here
+abbrev pub refused : Option Request
+refused = None
 
 -- what is answered to s: the ceilings and the total that it asks for, or 22 where it asks for none
-pub data Parsed (s : List ℕ) : Request → Type 0 where
+pub data Parsed (s : List ℕ) : Option Request → Type 0 where
   asks : (ms : List ℕ) (r : ℕ) → Asks s ms r → Parsed s (accepted ms r)
   other : ((ms : List ℕ) (r : ℕ) → Asks s ms r → ⊥) → Parsed s refused

@@ -1,29 +1,29 @@
 // What the listing program reads (document 01, "Listing program"; the document's slip is a request here).
 #![tactic(auto)]
 
-ghost use Rattle.std.specs.Prelude.{◌≡◌, [], ◌≤◌, ◌<◌, length, drop};
-ghost use Rattle.request.specs.declared.Number.TheVariants.{Empty};
-ghost use Rattle.request.specs.Request.{held, refused, Parsed};
-ghost use Rattle.request.specs.Scan.{with_digit, grown_of, is_end, none, scan, line_of};
+ghost use Rattle.std.specs.Prelude.{◌≡◌, [], ◌≤◌, length, take, drop};
+ghost use Rattle.request.specs.Request.{Parsed};
+ghost use Rattle.request.specs.Scan.{grown_of, is_end, scan, line_of};
 
-// The bounds asked for, each as a byte (255 for any above), and the total; or the number 22, with all else 0.
-#[derive(Clone, Copy)]
+// The bounds asked for, each as a byte (255 for any above), and the total. (Cells and their number, and no `Vec`: the project has no heap.)
+#[derive(Clone, Copy, Debug, PartialEq, Eq)]
 pub struct Request {
-    pub number: u32,
     pub parts: usize,
     pub upper: [u8; 128],
     pub total: u32,
 }
 
-// The number being read.
-#[derive(Clone, Copy)]
-enum Number {
-    Empty,
-    Value(u32),
-    Bad,
+impl Request {
+    // The bounds alone, without the cells behind them.
+    pub fn bounds(&self) -> &[u8]
+        ensures { result.now ≡ take self.now.parts self.now.upper }
+    {
+        &self.upper[..self.parts.min(128)]
+    }
 }
 
-// A line of numbers: how many they are, each as a byte, the last of them, and where the next line starts. There is none where parts is 0.
+// A line of numbers: how many they are, each as a byte, the last of them, and where the next line starts. (That is a place in the text, so the text is read
+// from a place too. Cells and their number, as in `Request`.)
 #[derive(Clone, Copy)]
 struct Line {
     parts: usize,
@@ -32,140 +32,82 @@ struct Line {
     end: usize,
 }
 
-// The number with one digit more.
-fn with_digit(n: Number, d: u32) -> Number
-    requires { d < 10 }
-    ensures { result ≡ with_digit n d }
+// The number with one byte more, and none where no number begins so. Where none is begun, the byte is its first.
+#[tactic(auto, using(std::proofs::lemmas::Bool::Decides::nat_tests), unfolding(crate::specs::Scan::grown_of))]
+fn grown(number: Option<u32>, b: u8) -> Option<u32>
+    ensures { result ≡ grown_of number b }
 {
-    match n {
-        Number::Empty => Number::Value(d),
-        Number::Value(v) => {
-            if v < 1 {
-                return Number::Bad;
+    if !b.is_ascii_digit() {
+        return None;
+    }
+    let digit = u32::from(b - b'0');
+    match number {
+        None => Some(digit),
+        Some(v) => {
+            if v < 1 || 99 < v {
+                return None;
             }
-            if 99 < v {
-                return Number::Bad;
-            }
-            Number::Value(10 * v + d)
+            Some(10 * v + digit)
         }
-        Number::Bad => Number::Bad,
     }
 }
 
-// The number with one byte more.
-fn grown(n: Number, b: u8) -> Number
-    ensures { result ≡ grown_of n b }
-{
-    if b < 48 {
-        return Number::Bad;
-    }
-    if 57 < b {
-        return Number::Bad;
-    }
-    with_digit(n, (b - 48) as u32)
-}
-
-// The byte ends a number: a space or a line feed.
+// The byte ends a number.
 fn is_end(b: u8) -> bool
     ensures { result ≡ is_end b }
 {
-    if b == 32 { true } else { b == 10 }
-}
-
-fn hold(v: u32) -> u8
-    ensures { result ≡ held v }
-{
-    if v < 255 { v as u8 } else { 255 }
-}
-
-fn no_line() -> Line
-    ensures { result ≡ line_of 0 none }
-{
-    Line {
-        parts: 0,
-        upper: [0; 128],
-        last: 0,
-        end: 0,
-    }
+    b == b' ' || b == b'\n'
 }
 
 // The line of numbers that starts at `from`. A number and its end take two bytes, so the cells do not run out.
-fn read_line(s: &[u8], from: usize) -> Line
+fn read_line(s: &[u8], from: usize) -> Option<Line>
     requires { length s.now ≤ 256 }
-    ensures { result ≡ line_of (length s.now) (scan [] Empty (drop from s.now)) }
+    ensures { result ≡ line_of (length s.now) (scan [] None (drop from s.now)) }
 {
     let mut upper = [0u8; 128];
-    let mut n = Number::Empty;
     let mut parts = 0;
-    let mut at = from;
-    while at < s.len() {
+    let mut number: Option<u32> = None;
+    for at in from..s.len() {
         let b = s[at];
-        at += 1;
         if is_end(b) {
-            match n {
-                Number::Value(v) => {
-                    upper[parts] = hold(v);
-                    parts += 1;
-                    if b == 10 {
-                        return Line {
-                            parts,
-                            upper,
-                            last: v,
-                            end: at,
-                        };
-                    }
-                    n = Number::Empty;
-                }
-                Number::Empty => return no_line(),
-                Number::Bad => return no_line(),
+            let last = number?;
+            upper[parts] = last.min(255) as u8;
+            parts += 1;
+            if b == b'\n' {
+                return Some(Line {
+                    parts,
+                    upper,
+                    last,
+                    end: at + 1,
+                });
             }
+            number = None;
         } else {
-            n = grown(n, b);
+            number = Some(grown(number, b)?);
         }
     }
-    no_line()
+    None
 }
 
-fn refuse() -> Request
-    ensures { result ≡ refused }
-{
-    Request {
-        number: 22,
-        parts: 0,
-        upper: [0; 128],
-        total: 0,
-    }
-}
+// The most bytes of a request.
+const MOST: usize = 256;
 
 // The listing that the text asks for.
-pub fn parse(text: &[u8]) -> Request
+pub fn parse(text: &[u8]) -> Option<Request>
     ensures { Parsed text.now result }
 {
-    if 256 < text.len() {
-        return refuse();
+    if MOST < text.len() || !text.starts_with(b"mixes\n") {
+        return None;
     }
-    if text.len() < 6 {
-        return refuse();
-    }
-    if !check::same(&text[..6], b"mixes\n") {
-        return refuse();
-    }
-    let bounds = read_line(text, 6);
-    if bounds.parts == 0 {
-        return refuse();
-    }
-    let total = read_line(text, bounds.end);
-    if total.parts != 1 {
-        return refuse();
-    }
-    if total.end < text.len() {
-        return refuse();
+    let bounds = read_line(text, 6)?;
+    let total = read_line(text, bounds.end)?;
+    if total.parts != 1 || total.end < text.len() {
+        return None;
     }
     let upper = bounds.upper;
-    Request {
-        number: 0,
+    Some(Request {
         parts: bounds.parts,
         upper,
         total: total.last,
-    }
+    })
 }

@@ -1,9 +1,9 @@
 -- The answers of a step, from those of the places that are checked before.
-use mathlib.Core.Path.{◌≡◌, refl, sym, ap, ◌∙◌}
+use mathlib.Core.Path.{◌≡◌, refl, sym}
 use mathlib.Core.Logic.{◌⊎◌, inl, inr}
 use mathlib.Core.Bool.{Bool, false, cond}
 use mathlib.Core.List.{List, [], ◌++◌}
-use Prim.Native.Nat.{ℕ, ◌+◌, ◌<◌}
+use Prim.Native.Nat.{ℕ, ◌+◌}
 use native.Mathlib.Omega.{arith}
 use lib.Dec.{eqb}
 use borrow.Author.Tests.{ne_eqb}
@@ -13,13 +13,17 @@ use Rattle.walsh.specs.Transition.{gain_from}
 use Rattle.walsh.proofs.Serials.{composition_serial, serial_pos, serial_le}
 use Rattle.walsh.proofs.Transitions.{gain_same}
 use Rattle.bounds.specs.Refusal.{Check, refused, first_refusal}
-use Rattle.bounds.specs.Edition.{edition_checks, blank}
+use Rattle.bounds.specs.Edition.{edition_checks}
 use Rattle.bounds.specs.Places.{composition_checks}
 use Rattle.bounds.specs.declared.Refusal.{Refusal}
 use Rattle.bounds.proofs.Refusals.{refusal_here, refusal_next}
-use Rattle.bounds.proofs.Chains.{answer_first, answer_later}
+use Rattle.bounds.proofs.Reasons.{accepted, coded-number, coded-first, told-later}
+use Rattle.bounds.specs.Reason.{coded}
+use Rattle.bounds.specs.declared.Reason.{Reason}
+use Rattle.bounds.specs.declared.Reason.TheVariants.{NoStep}
+use Rattle.std.proofs.Common.{Err}
 use Rattle.bounds.proofs.Compositions.{composition_passed}
-use Rattle.step.specs.Steps.{end_checks, next_serial, stepped_by, step_of}
+use Rattle.step.specs.Steps.{end_checks, next_serial, stepped_by, stepped_of, step_of}
 use Rattle.step.specs.Advance.{turn_of}
 use Rattle.step.specs.Turn.{shifted_by}
 use Rattle.step.proofs.Turns.{AtPivot, AtEnd, turned}
@@ -33,29 +37,25 @@ module _ (back : Bool) (ms : List ℕ) (r : ℕ) (g : List ℕ) where
   ends = end_checks back ms r g
 
   -- by the whole table
-  refused_by : (v : Refusal) → v ≡ first_refusal (edition_checks ms r ++ (given ++ ends)) → (v.number ≡ 0 → ⊥)
-      → record { number = v.number; detail = v.detail; composition = blank; gain = 0; loss = 0 } ≡ step_of back ms r g
+  refused_by : (e : Reason) → coded e ≡ first_refusal (edition_checks ms r ++ (given ++ ends)) → stepped_of (Err e) ≡ step_of back ms r g
   unfolding step_of
-  refused_by v e some = rw (← e, ne_eqb v.number 0 some)
+  refused_by e v = rw (← v, ne_eqb (coded e).number 0 (λ z. omega (arith, coded-number e)))
 
   -- refused as an edition
-  pub step_edition : (v : Refusal) → v ≡ first_refusal (edition_checks ms r) → 0 < v.number
-      → record { number = v.number; detail = v.detail; composition = blank; gain = 0; loss = 0 } ≡ step_of back ms r g
-  step_edition v e some = refused_by v (answer_first (edition_checks ms r) (given ++ ends) e (λ z. omega arith)) (λ z. omega arith)
+  pub step_edition : (e : Reason) → coded e ≡ first_refusal (edition_checks ms r) → stepped_of (Err e) ≡ step_of back ms r g
+  step_edition e v = refused_by e (coded-first e (edition_checks ms r) (given ++ ends) v)
 
-  module _ (edition : Refusal) (ee : edition ≡ first_refusal (edition_checks ms r)) (ez : edition.number ≡ 0) where
+  module _ (edition : refused 0 0 ≡ first_refusal (edition_checks ms r)) where
     -- what was given is refused
-    pub step_given : (v : Refusal) → v ≡ first_refusal (composition_checks ms r g) → 0 < v.number
-        → record { number = v.number; detail = v.detail; composition = blank; gain = 0; loss = 0 } ≡ step_of back ms r g
-    step_given v e some =
-        refused_by v (answer_later (edition_checks ms r) (given ++ ends) ee refl ez (answer_first given ends e (λ z. omega arith))) (λ z. omega arith)
+    pub step_given : (e : Reason) → coded e ≡ first_refusal (composition_checks ms r g) → stepped_of (Err e) ≡ step_of back ms r g
+    step_given e v = refused_by e (told-later _ (edition_checks ms r) (given ++ ends) refl edition (coded-first e given ends v))
 
-    module _ (v : Refusal) (ev : v ≡ first_refusal (composition_checks ms r g)) (vz : v.number ≡ 0) where
+    module _ (passes : refused 0 0 ≡ first_refusal (composition_checks ms r g)) where
       pub valid : Composition ms r g
-      valid = composition_passed ms r g (ap (λ (w : Refusal). w.number) (sym ev) ∙ vz)
+      valid = composition_passed ms r g (accepted _ passes)
 
       table : {w : Refusal} → w ≡ first_refusal (end_checks back ms r g) → w ≡ first_refusal (edition_checks ms r ++ (given ++ ends))
-      table e = answer_later (edition_checks ms r) (given ++ ends) ee refl ez (answer_later given ends ev refl vz e)
+      table e = told-later _ (edition_checks ms r) (given ++ ends) refl edition (told-later _ given ends refl passes e)
 
       -- not at the end
       pub step_goes : eqb (serial_of ms r g) (cond back 1 (count_of ms r)) ≡ false
@@ -77,7 +77,7 @@ module _ (back : Bool) (ms : List ℕ) (r : ℕ) (g : List ℕ) where
       gone {h} (inl t) = let on = way_on ms r g valid back h t in rw (on.1, gains on.0) (step_goes on.0)
       gone {h} (inr t) =
           rw (t.1, gain_same 1 g)
-          (refused_by (refused 9 0) (table (sym (refusal_here _ [] (way_off ms r g valid back h t)))) (λ z. omega arith))
+          (refused_by NoStep (table (sym (refusal_here _ [] (way_off ms r g valid back h t)))))
 
       -- the step itself
       pub step_shifted : (w : ℕ) → w ≡ cond back (r + 1) r → shifted_by g (turn_of ms w g) ≡ step_of back ms r g

@@ -15,8 +15,11 @@ use Rattle.bounds.specs.Places.{is_no_serial, no_serial, lent_checks}
 use Rattle.bounds.specs.declared.Refusal.{Refusal}
 use Rattle.bounds.proofs.Refusals.{same_number, refusal_next, passed}
 use Rattle.bounds.proofs.Editions.{neither}
-use Rattle.bounds.proofs.Chains.{Accepts, accepts_join, answer_first, answer_later}
+use Rattle.bounds.proofs.Chains.{Accepts, accepts_join, answer_later}
 use Rattle.bounds.proofs.Filling.{filling_refused, filling_done, filling_accepted}
+use Rattle.bounds.specs.Reason.{coded}
+use Rattle.bounds.specs.declared.Reason.{Reason}
+use Rattle.bounds.proofs.Reasons.{coded-number, coded-first}
 use Rattle.step.specs.Batch.{range_checks, batch_checks, copies_of, batch_of}
 
 -- a serial that is refused is none of 1..all, and one that is not is one of them
@@ -55,12 +58,12 @@ module _ (ms : List ℕ) (r s c : ℕ) (out : List ℕ) where
   abbrev range : List Check
   range = batch_checks ms r s c ++ lent_checks (c * length ms) (length out)
 
-  pub batch_edition : {v : Refusal} → v ≡ first_refusal (edition_checks ms r) → 0 < v.number
-      → ◌≡◌ {A = Refusal × List ℕ} (v, out) (batch_of ms r s c out)
+  pub batch_edition : (e : Reason) → coded e ≡ first_refusal (edition_checks ms r)
+      → ◌≡◌ {A = Refusal × List ℕ} (coded e, out) (batch_of ms r s c out)
   unfolding batch_of
-  batch_edition {v} e some =
+  batch_edition e v =
       filling_refused (edition_checks ms r ++ range) (copies_of ms r s c) out
-      (answer_first (edition_checks ms r) range e (λ z. omega arith)) (λ z. omega arith)
+      (coded-first e (edition_checks ms r) range v) (λ z. omega (arith, coded-number e, z))
 
   -- past the edition: `all` is N
   module _ (accepted : (first_refusal (edition_checks ms r)).number ≡ 0) {all : ℕ} (count : all ≡ count_of ms r) {v : Refusal}
@@ -68,13 +71,16 @@ module _ (ms : List ℕ) (r s c : ℕ) (out : List ℕ) where
     table : v ≡ first_refusal (edition_checks ms r ++ range)
     table = answer_later (edition_checks ms r) range {v = first_refusal (edition_checks ms r)} refl refl accepted (rw (← count) e)
 
-    pub batch_range : 0 < v.number → ◌≡◌ {A = Refusal × List ℕ} (v, out) (batch_of ms r s c out)
-    unfolding batch_of
-    batch_range some = filling_refused (edition_checks ms r ++ range) (copies_of ms r s c) out table (λ z. omega arith)
-
     pub batch_done : v.number ≡ 0 → {bytes : List ℕ} → bytes ≡ copies_of ms r s c → ◌≡◌ {A = Refusal × List ℕ} (v, bytes) (batch_of ms r s c out)
     unfolding batch_of
     batch_done none is = filling_done (edition_checks ms r ++ range) (copies_of ms r s c) out table none is
+
+  pub batch_range : (first_refusal (edition_checks ms r)).number ≡ 0 → {all : ℕ} → all ≡ count_of ms r → (e : Reason)
+      → coded e ≡ first_refusal (range_checks all s c ++ lent_checks (c * length ms) (length out))
+      → ◌≡◌ {A = Refusal × List ℕ} (coded e, out) (batch_of ms r s c out)
+  unfolding batch_of
+  batch_range accepted count e v =
+      filling_refused (edition_checks ms r ++ range) (copies_of ms r s c) out (table accepted count v) (λ z. omega (arith, coded-number e, z))
 
   -- a batch that is accepted
   pub batch_accepts : Accepts (edition_checks ms r) → 0 < s → s ≤ count_of ms r → s + c ≤ count_of ms r + 1 → length out ≡ c * length ms

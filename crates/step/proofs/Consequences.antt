@@ -15,8 +15,8 @@ use Rattle.bounds.specs.declared.Refusal.{Refusal}
 use Rattle.bounds.proofs.Chains.{accepts_split}
 use Rattle.rank.specs.Rank.{Answer, answer_of, rank_answer}
 use Rattle.rank.specs.Unrank.{unrank_call}
-use Rattle.rank.specs.declared.Ranking.{Ranking}
-use Rattle.rank.specs.declared.Ranking.TheVariants.{Serial}
+use Rattle.std.proofs.Common.{Result, Ok}
+use Rattle.bounds.specs.declared.Reason.{Reason}
 use Rattle.rank.proofs.RoundTrips.{rank_accepted, rank_accepts, unrank_accepted}
 use Rattle.rank.proofs.Consequences.{serial_case}
 use Rattle.step.specs.Steps.{next_serial, step_of, successor_of, predecessor_of, back_from}
@@ -49,11 +49,11 @@ module _ (ms : List ℕ) (r : ℕ) where
 
   -- ---- a step between two calls of `rank`: "one serial on or back"
 
-  step_serial : (back : Bool) (g : List ℕ) (s : ℕ) (x : Stepped) (y : Ranking)
-      → answer_of (Serial s) ≡ rank_answer ms r g
+  step_serial : (back : Bool) (g : List ℕ) (s : ℕ) (x : Stepped) (y : Result ℕ Reason)
+      → answer_of (Ok s) ≡ rank_answer ms r g
       → x ≡ step_of back ms r g → x.number ≡ 0
       → answer_of y ≡ rank_answer ms r (parts_of x)
-      → y ≡ Serial (next_serial back s)
+      → y ≡ Ok (next_serial back s)
   step_serial back g s x y a e ok b =
       let known = rank_accepted ms r g (ap (λ (z : Answer). z.number) (sym a)) in
       let serial : s ≡ serial_of ms r g = ap (λ (z : Answer). z.serial) a ∙ known.2 in
@@ -65,20 +65,20 @@ module _ (ms : List ℕ) (r : ℕ) where
       ∙ ap (λ (z : Stepped). rank_answer ms r (parts_of z)) e
       ∙ ap (rank_answer ms r) is
       ∙ rank_accepts ms r (composition_of ms r to) edition (composition_is ms r to low high)
-      ∙ ap (λ (n : ℕ). answer_of (Serial n)) (serial_composition ms r to low high)))
+      ∙ ap (λ (n : ℕ). answer_of (Ok n)) (serial_composition ms r to low high)))
 
-  pub successor_serial : (g : List ℕ) (s : ℕ) (x : Stepped) (y : Ranking)
-      → answer_of (Serial s) ≡ rank_answer ms r g
+  pub successor_serial : (g : List ℕ) (s : ℕ) (x : Stepped) (y : Result ℕ Reason)
+      → answer_of (Ok s) ≡ rank_answer ms r g
       → x ≡ successor_of ms r g → x.number ≡ 0
       → answer_of y ≡ rank_answer ms r (take (length ms) x.composition)
-      → y ≡ Serial (s + 1)
+      → y ≡ Ok (s + 1)
   successor_serial g s x y a e ok b = step_serial false g s x y a e ok b
 
-  pub predecessor_serial : (g : List ℕ) (s : ℕ) (x : Stepped) (y : Ranking)
-      → answer_of (Serial s) ≡ rank_answer ms r g
+  pub predecessor_serial : (g : List ℕ) (s : ℕ) (x : Stepped) (y : Result ℕ Reason)
+      → answer_of (Ok s) ≡ rank_answer ms r g
       → x ≡ predecessor_of ms r g → x.number ≡ 0
       → answer_of y ≡ rank_answer ms r (take (length ms) x.composition)
-      → y ≡ Serial (s - 1)
+      → y ≡ Ok (s - 1)
   predecessor_serial g s x y a e ok b = step_serial true g s x y a e ok b
 
   -- ---- an accepted batch of c copies from serial s on, which found the bytes `out` and left the bytes `left`

@@ -13,10 +13,10 @@ use Rattle.walsh.specs.Transition.{transition, Carries}
 use Rattle.walsh.specs.Withdrawn.{BothLeft}
 use Rattle.walsh.proofs.Serials.{composition_is, serial_composition, composition_serial, serial_pos, serial_le}
 use Rattle.walsh.proofs.OwnKinds.{carries_left}
-use Rattle.bounds.specs.Refusal.{refused, first_refusal}
+use Rattle.bounds.specs.Refusal.{refused}
 use Rattle.bounds.specs.Edition.{edition_checks, cells_of}
 use Rattle.bounds.specs.Places.{composition_checks}
-use Rattle.bounds.proofs.Refusals.{is_accepted, passed}
+use Rattle.bounds.proofs.Refusals.{is_accepted, passed, refusal_none}
 use Rattle.bounds.proofs.Chains.{Accepts, accepts_split}
 use Rattle.bounds.proofs.Compositions.{composition_passed, composition_passes}
 use Rattle.step.specs.Steps.{end_checks, next_serial, stepped_by, step_of, successor_of, predecessor_of, pair_of, back_from}
@@ -81,8 +81,8 @@ module _ (back : Bool) (ms : List ℕ) (r : ℕ) (g : List ℕ) (ok : (step_of b
       let pos = serial_pos ms r g at.valid in
       let le = serial_le ms r g at.valid in
       rw answer_is
-      (sym (step_goes (not back) ms r h (first_refusal (edition_checks ms r)) refl at.edition (refused 0 0)
-      (sym (composition_passes ms r h valid)) refl (rw serial (to_on ms r (s back ms r g) pos le back)))
+      (sym (step_goes (not back) ms r h (sym (refusal_none (edition_checks ms r) refl at.edition))
+      (sym (composition_passes ms r h valid)) (rw serial (to_on ms r (s back ms r g) pos le back)))
       ∙ rw (serial, to_back ms r (s back ms r g) pos le back, composition_serial ms r g at.valid, at.is))
 
   -- and it names the two kinds that the step changes

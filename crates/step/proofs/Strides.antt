@@ -14,7 +14,7 @@ use Rattle.walsh.proofs.Cases.{on_test, on_less}
 use Rattle.walsh.proofs.Serials.{composition_is, serial_composition, composition_serial, serial_le, serial_pos}
 use Rattle.walsh.specs.declared.Transition.{Transition}
 use Rattle.step.specs.Advance.{advance_of, turn_of, turn_any, Advances}
-use Rattle.step.specs.Run.{InFront, Running, BehindRun, sum_of, moved_of, shown}
+use Rattle.step.specs.Run.{InFront, Running, BehindRun, CanMove, sum_of, moved_of, shown}
 use Rattle.step.specs.Stride.{turns_of, Strides, slid_of, CanSlide}
 use Rattle.step.specs.Turn.{Begins}
 use Rattle.step.specs.declared.PivotSums.{PivotSums}
@@ -202,3 +202,17 @@ module _ (ms : List ℕ) (r : ℕ) (g : List ℕ) (two : 1 < length ms) (few : l
   pub one_turned : turn_of ms r g ≡ turns_of ms r g 1
   unfolding turns_of
   one_turned = sym (any_sized ms r g few size)
+
+-- ---- one move
+
+pub slid_one : (x : Run) → slid_of x 1 ≡ moved_of x
+slid_one x = on_test x.falling (λ t. rw t) (λ t. rw t)
+
+pub slides_one : (x : Run) → CanMove x → CanSlide x 1
+slides_one x can =
+    record {
+      few = omega (arith, can.more);
+      small = omega arith;
+      down = λ t. let d = can.down t in (λ h. omega (arith, d), omega (arith, d));
+      up = λ t. let u = can.up t in (omega (arith, u), λ h. omega (arith, u));
+    }

@@ -16,7 +16,7 @@ use Rattle.walsh.proofs.Lists.{sum_to_mono}
 use Rattle.walsh.proofs.Complete.{composition_low, composition_high}
 use Rattle.walsh.proofs.Ends.{next_low, rest_fits}
 use Rattle.step.specs.Advance.{can_move, pivot_of, rest_at, trade_at, turn_at, turn_of}
-use Rattle.step.specs.Turn.{PivotAt, OtherAt}
+use Rattle.step.specs.Turn.{Still, PivotAt, OtherAt}
 use Rattle.step.specs.declared.Other.{Other}
 use Rattle.step.specs.declared.PivotSums.{PivotSums}
 use Rattle.step.proofs.Pivots.{pivot_first}
@@ -51,56 +51,54 @@ module _ (lo hi v : ℕ) where
 
 -- ---- the turn of any bytes: u is the next value of the part that was found
 
+-- where no part can move, the step changes nothing
+pub turn_still : (ms : List ℕ) (w : ℕ) (g : List ℕ) → Still ms w g → g ≡ turn_of ms w g
+unfolding turn_at
+turn_still ms w g e = rw (le-ltb (pivot_of ms w g) (length ms) e)
+
 module _ (ms : List ℕ) (w : ℕ) (g : List ℕ) (f : PivotSums) (found : PivotAt ms w g f) where
   pub found_some : 0 < f.at
   found_some = omega (arith, found.first, (pivot_first ms w g).low)
 
-  pub found_within : 0 < length ms → f.at ≤ length ms
-  found_within some = omega (arith, found.first, (pivot_first ms w g).high)
+  can : can_move ms w g f.at ≡ true
+  can = rw found.first ((pivot_first ms w g).can (omega (arith, found.first, found.inside)))
 
-  pub turn_last : length ms ≤ f.at → g ≡ turn_of ms w g
-  unfolding turn_at
-  turn_last e = rw (← found.first, le-ltb f.at (length ms) e)
-
-  can : f.at < length ms → can_move ms w g f.at ≡ true
-  can inside = rw found.first ((pivot_first ms w g).can (omega (arith, found.first)))
-
-  pub found_above : f.at < length ms → f.falling ≡ true → 0 < get_or g f.at 0
-  found_above inside t =
+  pub found_above : f.falling ≡ true → 0 < get_or g f.at 0
+  found_above t =
       let rem : ℕ = sum_to g (suc f.at) in
-      value_above (least ms f.at rem) (most ms f.at rem) (get_or g f.at 0) (is_odd (w - rem)) (can inside) (sym (found.way inside) ∙ t)
+      value_above (least ms f.at rem) (most ms f.at rem) (get_or g f.at 0) (is_odd (w - rem)) can (sym found.way ∙ t)
 
-  module _ (inside : f.at < length ms) (u : ℕ) (eu : u ≡ next_value f.falling (get_or g f.at 0)) where
+  module _ (u : ℕ) (eu : u ≡ next_value f.falling (get_or g f.at 0)) where
     value : u ≡ next_value (is_odd (w - sum_to g (suc f.at))) (get_or g f.at 0)
-    value = eu ∙ rw (found.way inside)
+    value = eu ∙ rw found.way
 
     rest_is : f.sum - u ≡ rest_at w g f.at
-    rest_is = rw (found.sum inside, value)
+    rest_is = rw (found.sum, value)
 
     within : (s : ℕ) → get_or g f.at 0 ≤ s → most ms f.at (sum_to g (suc f.at)) ≤ s → u ≤ s
     within s l h =
         let rem : ℕ = sum_to g (suc f.at) in
-        rw value (value_within (least ms f.at rem) (most ms f.at rem) (get_or g f.at 0) (is_odd (w - rem)) s (can inside) l h)
+        rw value (value_within (least ms f.at rem) (most ms f.at rem) (get_or g f.at 0) (is_odd (w - rem)) s can l h)
 
     -- it is a byte, and no more than the parts up to it
     pub found_small : get_or ms f.at 0 ≤ 255 → get_or g f.at 0 ≤ 255 → (u ≤ 255) × (u ≤ f.sum) × (f.right ≤ w)
     found_small bytes byte =
-        (within 255 byte (omega arith), rw (found.sum inside) (within _ (omega arith) (omega arith)), rw (found.right inside) (omega arith))
+        (within 255 byte (omega arith), rw found.sum (within _ (omega arith) (omega arith)), rw found.right (omega arith))
 
     pub found_way : (f.falling ≡ true → get_or g f.at 0 ≡ u + 1) × (f.falling ≡ false → u ≡ get_or g f.at 0 + 1)
     found_way =
         let rem : ℕ = sum_to g (suc f.at) in
-        rw (value, found.way inside)
-        (value_way (least ms f.at rem) (most ms f.at rem) (get_or g f.at 0) (is_odd (w - rem)) (can inside))
+        rw (value, found.way)
+        (value_way (least ms f.at rem) (most ms f.at rem) (get_or g f.at 0) (is_odd (w - rem)) can)
 
     pub turn_over : f.left < f.sum - u → g ≡ turn_of ms w g
     unfolding turn_at
     turn_over l =
-        rw (← found.first, lt-ltb f.at (length ms) inside, ← rest_is, ← found.left, lt-leb (f.sum - u) f.left l)
+        rw (← found.first, lt-ltb f.at (length ms) found.inside, ← rest_is, ← found.left, lt-leb (f.sum - u) f.left l)
 
     -- the part against it is changed too
     trade_on : (o : Other) → OtherAt ms (set g f.at u) f u o → set (set g f.at u) (o.part - 1) o.value ≡ trade_at ms w g f.at
-    trade_on o other = rw (other.is, found.sum inside, found.right inside, value)
+    trade_on o other = rw (other.is, found.sum, found.right, value)
 
     pub turn_on : f.sum - u ≤ f.left → (o : Other) → OtherAt ms (set g f.at u) f u o
         → set (set g f.at u) (o.part - 1) o.value ≡ turn_of ms w g
@@ -108,7 +106,7 @@ module _ (ms : List ℕ) (w : ℕ) (g : List ℕ) (f : PivotSums) (found : Pivot
     turn_on l o other =
         let fits : rest_at w g f.at ≤ sum_to ms f.at = omega (arith, sym rest_is, found.left) in
         trade_on o other
-        ∙ rw (← found.first, lt-ltb f.at (length ms) inside, le-leb (rest_at w g f.at) (sum_to ms f.at) fits)
+        ∙ rw (← found.first, lt-ltb f.at (length ms) found.inside, le-leb (rest_at w g f.at) (sum_to ms f.at) fits)
 
 -- ---- parts that are within their bounds and sum to at most w, as those of a composition do
 

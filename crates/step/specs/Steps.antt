@@ -2,7 +2,7 @@
 -- 'edition', 'mix given' and 'step': "Look, take, spoil and step answer a mix as 24 cells, those past n being 0. A refused one answers such a mix
 -- all zeros". Document 02, (i): "A step shall answer, beside the new mix, the kind that gains a tile and the kind that loses one", "0 and 0" where
 -- it is refused. The pair goes from the composition that is given to the one that is answered (docs/DECISIONS.md, 46).
-use Rattle.std.specs.Prelude.{◌≡◌, refl, Bool, true, false, cond, List, [], ◌∷◌, ◌++◌, ℕ, ◌+◌, ◌-◌, eqb}
+use Rattle.std.specs.Prelude.{◌≡◌, refl, Result, Ok, Err, Bool, true, false, cond, List, [], ◌∷◌, ◌++◌, ℕ, ◌+◌, ◌-◌, eqb}
 use Rattle.walsh.specs.Order.{listing, order, count, count_of, three_twos}
 use Rattle.walsh.specs.Serial.{same, place_of, serial_of, composition_of}
 use Rattle.walsh.specs.Transition.{gain_from, transition}
@@ -12,6 +12,9 @@ use Rattle.bounds.specs.Refusal.{Check, check, first_refusal, decided}
 use Rattle.bounds.specs.Edition.{first_outside, edition_checks, cells_of, blank}
 use Rattle.bounds.specs.Places.{composition_checks}
 use Rattle.bounds.specs.declared.Refusal.{Refusal}
+use Rattle.bounds.specs.Reason.{coded}
+use Rattle.bounds.specs.declared.Reason.{Reason}
+use Rattle.step.specs.declared.Step.{Step}
 use Rattle.step.specs.declared.Stepped.{Stepped}
 
 -- the place 'step': "last mix forward, first backward"
@@ -24,6 +27,11 @@ stepped_by v g h =
     decided v
     (record { number = 0; detail = 0; composition = cells_of h; gain = (transition g h).gain; loss = (transition g h).loss })
     (record { number = v.number; detail = v.detail; composition = blank; gain = 0; loss = 0 })
+
+-- an answer as C gets it: this paper's number and detail, and the composition with its pair
+abbrev pub stepped_of : Result Step Reason → Stepped
+stepped_of (Ok s) = record { number = 0; detail = 0; composition = s.composition; gain = s.pair.gain; loss = s.pair.loss }
+stepped_of (Err reason) = record { number = (coded reason).number; detail = (coded reason).detail; composition = blank; gain = 0; loss = 0 }
 
 -- one serial on from s or back
 abbrev pub next_serial : Bool → ℕ → ℕ

@@ -20,14 +20,19 @@ pub record Begins (ms : List ℕ) (w : ℕ) (g : List ℕ) (f : PivotSums) : Typ
   pub small : (f.left ≤ 255 * f.at) × (f.sum ≤ 255 * f.at)
   pub passed : moving_from ms w g f.at (length ms - f.at) ≡ pivot_of ms w g
 
--- f is the first part that can move, or the number of parts, with the sums beside it
+-- no part can move
+abbrev pub Still : List ℕ → ℕ → List ℕ → Type 0
+Still ms w g = length ms ≤ pivot_of ms w g
+
+-- f is the first part that can move, with the sums beside it
 pub record PivotAt (ms : List ℕ) (w : ℕ) (g : List ℕ) (f : PivotSums) : Type 0 where
   pub first : f.at ≡ pivot_of ms w g
+  pub inside : f.at < length ms
   pub left : f.left ≡ sum_to ms f.at
   pub small : f.left ≤ 255 * f.at
-  pub sum : f.at < length ms → f.sum ≡ sum_to g (suc f.at)
-  pub right : f.at < length ms → f.right ≡ w - sum_to g (suc f.at)
-  pub way : f.at < length ms → f.falling ≡ is_odd (w - sum_to g (suc f.at))
+  pub sum : f.sum ≡ sum_to g (suc f.at)
+  pub right : f.right ≡ w - sum_to g (suc f.at)
+  pub way : f.falling ≡ is_odd (w - sum_to g (suc f.at))
 
 -- the parts before part f .at have room for what the value u leaves to them, and all stays within bytes
 pub record Leaves (ms g : List ℕ) (f : PivotSums) (u : ℕ) : Type 0 where

@@ -1,53 +1,29 @@
 // Consecutive compositions, one behind the other (document 01, "Trays").
-ghost use Rattle.std.specs.Prelude.{◌≡◌, List, ◌++◌, ℕ, ◌*◌, ◌≤◌, ◌<◌, eqb, length, get_or};
+ghost use Rattle.std.specs.Prelude.{◌≡◌, List, ◌++◌, ℕ, ◌*◌, ◌≤◌, ◌<◌, length, get_or};
 ghost use Rattle.walsh.specs.Order.{Composition};
 ghost use Rattle.bounds.specs.Refusal.{first_refusal};
+ghost use Rattle.bounds.specs.Reason.{told};
 ghost use Rattle.bounds.specs.Places.{lent_checks, copied};
 ghost use Rattle.bounds.specs.declared.Refusal.{Refusal};
-ghost use Rattle.step.specs.Batch.{beyond, range_checks, batch_of};
+ghost use Rattle.step.specs.Batch.{range_checks, batch_of};
 ghost use Rattle.step.specs.Run.{NextLeft, InFront, values_left, Running, BehindRun, CanMove, moved_of, shown, Onward, Asked, copies_from};
 ghost use Rattle.step.specs.Stride.{CanSlide, slid_of, Leaps, Strides};
 
 use crate::{PivotSums, is_sized, turn, turn_from};
-use bounds::{Refusal, copy, refused};
-use rank::locate;
-use walsh::{is_odd, lesser, over, wide};
+use bounds::{Reason, copy};
+use rank::{Located, locate};
+use walsh::is_odd;
 
-// The serials that the copies begin with and end with are not both within 1..count.
-fn is_beyond(count: u64, serial: u64, copies: u64) -> bool
-    ensures { result ≡ beyond count serial copies }
+// The places 'serial given' and 'lent part' of a tray, where N is `count` and a copy has n bytes: the serials that the copies begin with and end with
+// are both within 1..N.
+pub fn check_room(count: u64, n: usize, serial: u64, copies: u64, have: usize) -> Result<(), Reason>
+    ensures { told result ≡ first_refusal (range_checks count serial copies ++ lent_checks (copies * n) have) }
 {
-    let given = places::serial_refusal(count, serial);
-    if given.number != 0 {
-        return true;
+    places::check_serial(count, serial)?;
+    if count - serial + 1 < copies {
+        return Err(Reason::Serial);
     }
-    count - serial + 1 < copies
-}
-
-// `have` bytes are as many as the copies have. By division: the product may not fit.
-fn is_room(n: usize, copies: u64, have: usize) -> bool
-    ensures { result ≡ eqb have (copies * n) }
-{
-    if n == 0 {
-        return have == 0;
-    }
-    if have % n != 0 {
-        return false;
-    }
-    (have / n) as u64 == copies
-}
-
-// The places 'serial given' and 'lent part', where N is `count` and a copy has n bytes.
-pub fn room_refusal(count: u64, n: usize, serial: u64, copies: u64, have: usize) -> Refusal
-    ensures { result ≡ first_refusal (range_checks count serial copies ++ lent_checks (copies * n) have) }
-{
-    if is_beyond(count, serial, copies) {
-        return refused(6, 0);
-    }
-    if is_room(n, copies, have) {
-        return refused(0, 0);
-    }
-    refused(13, 0)
+    places::check_copies(n, copies, have)
 }
 
 // Where the first two parts stand that are left, that is, whose bound is not 0.
@@ -55,6 +31,16 @@ pub fn room_refusal(count: u64, n: usize, serial: u64, copies: u64, have: usize)
 struct Front {
     low: usize,
     high: usize,
+}
+
+// Bounds and total, and where the first two parts stand that are left.
+#[derive(Clone, Copy)]
+struct Shape<'a> {
+    upper: &'a [u8],
+    total: usize,
+    front: Front,
+    ghost few: { length upper.now ≤ 24 },
+    ghost in_front: { InFront upper.now front },
 }
 
 // The first two parts of a composition that are left, which way the second goes, and how often it can still move. Most steps move these two alone, so
@@ -71,37 +57,39 @@ struct Run {
 fn values_left(v: usize, lo: usize, hi: usize, falling: bool) -> usize
     ensures { result ≡ values_left lo hi falling v }
 {
-    if falling { over(v, lo) } else { over(hi, v) }
+    if falling {
+        v.saturating_sub(lo)
+    } else {
+        hi.saturating_sub(v)
+    }
 }
 
-// The first part from part i on that is left, or a place behind them all.
+// The first part from part i on that is left, or a place behind them all. (No `Option`: specs/Run `NextLeft` says this place.)
 fn next_left(upper: &[u8], i: usize) -> usize
     ensures { NextLeft upper.now i result }
 {
-    let mut j = i;
-    while j < upper.len() {
+    for j in i..upper.len() {
         if 0 < upper[j] {
             return j;
         }
-        j += 1;
     }
-    j
+    i.max(upper.len())
 }
 
-fn run_of(upper: &[u8], total: usize, front: Front, parts: &[u8]) -> Run
-    requires { InFront upper.now front × (length parts.now ≡ length upper.now) }
-    ensures { (result.first ≡ get_or parts.now front.low 0) × (result.second ≡ get_or parts.now front.high 0)
-        × Running upper.now total front result }
+fn run_of(shape: Shape, parts: &[u8]) -> Run
+    requires { length parts.now ≡ length shape.upper.now }
+    ensures { (result.first ≡ get_or parts.now shape.entry.front.low 0) × (result.second ≡ get_or parts.now shape.entry.front.high 0)
+        × Running shape.entry.upper.now shape.entry.total shape.entry.front result }
 {
-    let low = front.low;
-    let high = front.high;
+    let upper = shape.upper;
+    let Front { low, high } = shape.front;
     let first = parts[low];
     let second = parts[high];
-    let sum = wide(first) + wide(second);
-    let falling = is_odd(over(total, sum));
-    let lo = over(sum, wide(upper[low]));
-    let hi = lesser(wide(upper[high]), sum);
-    let more = values_left(wide(second), lo, hi, falling);
+    let sum = usize::from(first) + usize::from(second);
+    let falling = is_odd(shape.total.saturating_sub(sum));
+    let lo = sum.saturating_sub(usize::from(upper[low]));
+    let hi = usize::from(upper[high]).min(sum);
+    let more = values_left(usize::from(second), lo, hi, falling);
     Run {
         first,
         second,
@@ -110,58 +98,58 @@ fn run_of(upper: &[u8], total: usize, front: Front, parts: &[u8]) -> Run
     }
 }
 
-// The second part at its next value.
-fn moved(run: Run) -> Run
-    requires { CanMove run }
-    ensures { result ≡ moved_of run }
+// The second part so many values on.
+fn slid(run: Run, steps: usize) -> Run
+    requires { CanSlide run steps }
+    ensures { result ≡ slid_of run steps }
 {
+    let by = steps as u8;
     if run.falling {
         return Run {
-            first: run.first + 1,
-            second: run.second - 1,
+            first: run.first + by,
+            second: run.second - by,
             falling: true,
-            more: run.more - 1,
+            more: run.more - steps,
         };
     }
     Run {
-        first: run.first - 1,
-        second: run.second + 1,
+        first: run.first - by,
+        second: run.second + by,
         falling: false,
-        more: run.more - 1,
+        more: run.more - steps,
     }
 }
 
 // Where the search for the part that moves begins when the run has ended: behind its two parts, which cannot move.
-fn behind(upper: &[u8], front: Front, run: Run) -> PivotSums
-    requires { (length upper.now ≤ 24) × InFront upper.now front }
-    ensures { BehindRun upper.now front run result }
+fn behind(shape: Shape, run: Run) -> PivotSums
+    ensures { BehindRun shape.entry.upper.now shape.entry.front run result }
 {
-    let low = front.low;
-    let high = front.high;
+    let upper = shape.upper;
+    let Front { low, high } = shape.front;
     PivotSums {
         at: high + 1,
-        left: wide(upper[low]) + wide(upper[high]),
-        sum: wide(run.first) + wide(run.second),
+        left: usize::from(upper[low]) + usize::from(upper[high]),
+        sum: usize::from(run.first) + usize::from(run.second),
         right: 0,
         falling: false,
     }
 }
 
 // Goes on to the next composition: by the run where it can move, or else by a step of the parts behind it, with which a new run begins.
-fn onward(upper: &[u8], total: usize, front: Front, run: Run, parts: &mut [u8]) -> Run
-    requires { (length upper.now ≤ 24) × (total ≤ 255) × (length parts.old ≡ length upper.now) × InFront upper.now front
-        × Running upper.now total front run × Composition upper.now total (shown front run parts.old) }
-    ensures { Onward upper.now total front (shown front run parts.old) result parts.new }
+fn onward(shape: Shape, run: Run, parts: &mut [u8]) -> Run
+    requires { (shape.total ≤ 255) × (length parts.old ≡ length shape.upper.now)
+        × Running shape.upper.now shape.total shape.front run
+        × Composition shape.upper.now shape.total (shown shape.front run parts.old) }
+    ensures { Onward shape.entry.upper.now shape.entry.total shape.entry.front (shown shape.entry.front run parts.old) result parts.new }
 {
     if 0 < run.more {
-        return moved(run);
+        return slid(run, 1);
     }
-    let low = front.low;
-    let high = front.high;
+    let Front { low, high } = shape.front;
     parts[low] = run.first;
     parts[high] = run.second;
-    turn_from(upper, total, behind(upper, front, run), parts);
-    run_of(upper, total, front, parts)
+    turn_from(shape.upper, shape.total, behind(shape, run), parts);
+    run_of(shape, parts)
 }
 
 // Copies 24 cells over the beginning of `out`, or as many as it has room for. All 24 at once are two moves in compiled code; the other copy writes
@@ -193,27 +181,18 @@ fn put(front: Front, run: Run, cells: &[u8], out: &mut [u8])
 
 // Writes `copies` compositions from `first` on, each into the part of `out` that starts where the one before it ends. What a copy leaves behind its
 // own n bytes is overwritten by the next one, and the last one has room for n bytes alone.
-fn write_runs(
-    upper: &[u8],
-    total: usize,
-    front: Front,
-    first: [u8; 24],
-    copies: u64,
-    out: &mut [u8],
-)
-    requires { InFront upper.now front × Asked upper.now total first copies (length out.old) }
-    ensures { out.new ≡ copies_from upper.now total first copies }
+fn write_runs(shape: Shape, first: [u8; 24], copies: u64, out: &mut [u8])
+    requires { Asked shape.upper.now shape.total first copies (length out.old) }
+    ensures { out.new ≡ copies_from shape.entry.upper.now shape.entry.total first copies }
 {
-    let n = upper.len();
+    let n = shape.upper.len();
+    let front = shape.front;
     let mut parts = first;
-    let mut run = run_of(upper, total, front, &parts[..n]);
-    let mut at = 0;
-    let mut j: u64 = 0;
-    while j < copies {
+    let mut run = run_of(shape, &parts[..n]);
+    for j in 0..copies {
+        let at = j as usize * n;
         put(front, run, &parts, &mut out[at..]);
-        run = onward(upper, total, front, run, &mut parts[..n]);
-        at += n;
-        j += 1;
+        run = onward(shape, run, &mut parts[..n]);
     }
 }
 
@@ -228,83 +207,68 @@ fn write(upper: &[u8], total: usize, first: [u8; 24], copies: u64, out: &mut [u8
     }
     let low = next_left(upper, 0);
     let high = next_left(upper, low + 1);
-    write_runs(upper, total, Front { low, high }, first, copies, out);
+    let front = Front { low, high };
+    let shape = Shape {
+        upper,
+        total,
+        front,
+    };
+    write_runs(shape, first, copies, out);
 }
 
 // Writes `copies` compositions from that of `serial` on into `out`, or answers the refusal and writes nothing. One table serves them all.
-pub fn batch(upper: &[u8], total: u32, serial: u64, copies: u64, out: &mut [u8]) -> Refusal
-    ensures { ◌≡◌ {A = Refusal × List ℕ} (result, out.new)
+pub fn batch(
+    upper: &[u8],
+    total: u32,
+    serial: u64,
+    copies: u64,
+    out: &mut [u8],
+) -> Result<(), Reason>
+    ensures { ◌≡◌ {A = Refusal × List ℕ} (told result, out.new)
         (batch_of upper.now total serial copies out.old) }
 {
-    let first = locate(upper, total, serial);
-    if 0 < first.number {
-        return refused(first.number, first.detail);
-    }
-    let answer = room_refusal(first.count, upper.len(), serial, copies, out.len());
-    if 0 < answer.number {
-        return answer;
-    }
-    let parts = first.composition;
-    write(upper, total as usize, parts, copies, out);
-    answer
+    let Located { count, composition } = locate(upper, total, serial)?;
+    check_room(count, upper.len(), serial, copies, out.len())?;
+    write(upper, total as usize, composition, copies, out);
+    Ok(())
 }
 
 // ---- several steps in place
 
-// The second part so many values on.
-fn slid(run: Run, steps: usize) -> Run
-    requires { CanSlide run steps }
-    ensures { result ≡ slid_of run steps }
-{
-    let by = steps as u8;
-    if run.falling {
-        return Run {
-            first: run.first + by,
-            second: run.second - by,
-            falling: true,
-            more: run.more - steps,
-        };
-    }
-    Run {
-        first: run.first - by,
-        second: run.second + by,
-        falling: false,
-        more: run.more - steps,
-    }
-}
-
 // The steps that move the first two parts alone, all at once, and the step behind them; `most` steps at most. The answer is how many were made. Where
-// the first part is above its bound, it is one step.
+// the first part is above its bound, it is one step. (Bounds, total and parts apart, as in `turn`.)
 fn leap(upper: &[u8], total: usize, parts: &mut [u8], most: usize) -> usize
     requires { (1 < length upper.now) × (length upper.now ≤ 24) × (length parts.old ≡ length upper.now) × (total ≤ 4294967296)
         × (0 < most) }
     ensures { Leaps upper.now total parts.old most result parts.new }
 {
     let front = Front { low: 0, high: 1 };
-    let run = run_of(upper, total, front, parts);
+    let shape = Shape {
+        upper,
+        total,
+        front,
+    };
+    let run = run_of(shape, parts);
     if upper[0] < run.first {
         turn(upper, total, parts);
         return 1;
     }
-    let steps = lesser(most, run.more);
+    let steps = most.min(run.more);
     let to = slid(run, steps);
     parts[0] = to.first;
     parts[1] = to.second;
     if steps == most {
         return steps;
     }
-    turn_from(upper, total, behind(upper, front, to), parts);
+    turn_from(upper, total, behind(shape, to), parts);
     steps + 1
 }
 
-// So many forward steps in place, as by so many calls of `advance`.
+// So many forward steps in place, as by so many calls of `advance`. (A `while`, since each leap has a length of its own.)
 pub fn stride(upper: &[u8], total: u32, parts: &mut [u8], steps: usize)
     ensures { Strides upper.now total parts.old steps parts.new }
 {
-    if !is_sized(upper, parts) {
-        return;
-    }
-    if upper.len() < 2 {
+    if !is_sized(upper, parts) || upper.len() < 2 {
         return;
     }
     let mut made: usize = 0;

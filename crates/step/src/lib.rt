@@ -6,19 +6,24 @@
 
 pub mod batch;
 
-ghost use Rattle.std.specs.Prelude.{◌≡◌, true, cond, ◌+◌, ◌-◌, ◌≤◌, ◌<◌, min, ltb, length, get_or, set};
+ghost use Rattle.std.specs.Prelude.{◌≡◌, true, cond, ◌+◌, ◌-◌, ◌≤◌, ◌<◌, MatchOption, min, ltb, length, get_or, set};
 ghost use Rattle.walsh.specs.Step.{next_value};
 ghost use Rattle.walsh.specs.Transition.{transition, none};
-ghost use Rattle.bounds.specs.Edition.{blank};
-ghost use Rattle.step.specs.Steps.{step_of, successor_of, predecessor_of};
+ghost use Rattle.step.specs.Steps.{stepped_of, step_of, successor_of, predecessor_of};
 ghost use Rattle.step.specs.Advance.{turn_of, sized, Advances, Retreats};
-ghost use Rattle.step.specs.Turn.{Begins, PivotAt, Leaves, OtherAt, noting, moved_by, shifted_by};
+ghost use Rattle.step.specs.Turn.{Begins, PivotAt, Still, Leaves, OtherAt, noting, moved_by, shifted_by};
 
-use count::bounds_refusal;
-use places::composition_refusal;
-use walsh::{Transition, first_value, is_odd, lesser, over, wide};
+use bounds::Reason;
+use walsh::{Transition, first_value, is_odd};
 
-// A composition in 24 cells and the kinds that gained and lost a unit on the way to it, or a refusal's number and detail with all else 0.
+// A composition in 24 cells, and the pair of kinds that gained and lost a unit on the way to it.
+#[derive(Clone, Copy)]
+pub struct Step {
+    pub composition: [u8; 24],
+    pub pair: Transition,
+}
+
+// The same; or the refusal, with all else 0. (A number and no `Result`: the C interface.)
 #[repr(C)]
 #[derive(Clone, Copy)]
 pub struct Stepped {
@@ -27,6 +32,32 @@ pub struct Stepped {
     pub composition: [u8; 24],
     pub gain: u32,
     pub loss: u32,
+}
+
+impl From<Result<Step, Reason>> for Stepped {
+    ghost from_gives = { λ answer stepped. stepped ≡ stepped_of answer };
+
+    fn from(answer: Result<Step, Reason>) -> Stepped {
+        match answer {
+            Ok(step) => {
+                let composition = step.composition;
+                Stepped {
+                    number: 0,
+                    detail: 0,
+                    composition,
+                    gain: step.pair.gain,
+                    loss: step.pair.loss,
+                }
+            }
+            Err(reason) => Stepped {
+                number: reason.number(),
+                detail: reason.detail(),
+                composition: [0; 24],
+                gain: 0,
+                loss: 0,
+            },
+        }
+    }
 }
 
 // Part `at`, the sum of the bounds to its left, that of the parts up to it, itself included, that of the parts to its right, and which way it goes.
@@ -52,58 +83,38 @@ fn moves(v: usize, m: usize, before: usize, left: usize, falling: bool) -> bool
     ensures { result ≡ cond falling (ltb (before + v - left) v) (ltb v (min m (before + v))) }
 {
     if falling {
-        if before < left {
-            return 0 < v;
-        }
-        return false;
+        before < left && 0 < v
+    } else {
+        0 < before && v < m
     }
-    if 0 < before {
-        return v < m;
-    }
-    false
 }
 
-// The first part that can move, or their number. Part 0 has one value only, what the others leave. The search begins at part `start.at`, with the
-// sums of the bounds and of the parts before it.
-fn pivot(upper: &[u8], total: usize, start: PivotSums, parts: &[u8]) -> PivotSums
+// The first part that can move. Part 0 has one value only, what the others leave. The search begins at part `start.at`, with the sums of the bounds
+// and of the parts before it.
+fn pivot(upper: &[u8], total: usize, start: PivotSums, parts: &[u8]) -> Option<PivotSums>
     requires { (length upper.now ≤ 24) × (length parts.now ≡ length upper.now) × Begins upper.now total parts.now start }
-    ensures { PivotAt upper.now total parts.now result }
+    ensures { MatchOption result (Still upper.now total parts.now) (PivotAt upper.now total parts.now) }
 {
     let mut left = start.left;
     let mut sum = start.sum;
-    let mut i = start.at;
-    while i < parts.len() {
-        let m = wide(upper[i]);
-        let v = wide(parts[i]);
-        let right = over(total, sum + v);
+    for i in start.at..parts.len() {
+        let m = usize::from(upper[i]);
+        let v = usize::from(parts[i]);
+        let right = total.saturating_sub(sum + v);
         let falling = is_odd(right);
         if moves(v, m, sum, left, falling) {
-            return PivotSums {
+            return Some(PivotSums {
                 at: i,
                 left,
                 sum: sum + v,
                 right,
                 falling,
-            };
+            });
         }
         left += m;
         sum += v;
-        i += 1;
     }
-    PivotSums {
-        at: i,
-        left,
-        sum,
-        right: 0,
-        falling: false,
-    }
-}
-
-// `yes` where the test holds, `no` where it does not.
-fn chosen(test: bool, yes: u32, no: u32) -> u32
-    ensures { result ≡ cond test yes no }
-{
-    if test { yes } else { no }
+    None
 }
 
 // A part, counted from 1, gets the value v. The answer is what changes from it on, where `behind` is what changes behind it.
@@ -113,11 +124,20 @@ fn change(parts: &mut [u8], part: usize, v: usize, behind: Transition) -> Transi
         × (result ≡ noting behind part (get_or parts.old (part - 1) 0) v) }
 {
     let i = part - 1;
-    let old = wide(parts[i]);
-    let gain = chosen(v == old + 1, part as u32, behind.gain);
-    let loss = chosen(old == v + 1, part as u32, behind.loss);
+    let old = usize::from(parts[i]);
     parts[i] = v as u8;
-    Transition { gain, loss }
+    Transition {
+        gain: if v == old + 1 {
+            part as u32
+        } else {
+            behind.gain
+        },
+        loss: if old == v + 1 {
+            part as u32
+        } else {
+            behind.loss
+        },
+    }
 }
 
 // No part gains, and none loses.
@@ -161,17 +181,18 @@ fn other_part(upper: &[u8], found: PivotSums, u: usize, parts: &[u8]) -> Other
     let mut under = found.left;
     let mut rem = found.sum - u;
     let mut t = found.right + u;
-    let mut i = found.at;
-    while 1 < i {
-        let m = wide(upper[i - 1]);
+    for i in (1..found.at).rev() {
+        let m = usize::from(upper[i]);
         under -= m;
-        let v = first_value(over(rem, under), lesser(m, rem), is_odd(t));
-        if v != wide(parts[i - 1]) {
-            return Other { part: i, value: v };
+        let v = first_value(rem.saturating_sub(under), m.min(rem), is_odd(t));
+        if v != usize::from(parts[i]) {
+            return Other {
+                part: i + 1,
+                value: v,
+            };
         }
         rem -= v;
         t += v;
-        i -= 1;
     }
     Other {
         part: 1,
@@ -188,12 +209,11 @@ fn turn_from(upper: &[u8], total: usize, start: PivotSums, parts: &mut [u8]) -> 
     ensures { (parts.new ≡ turn_of upper.now total parts.old)
         × (result ≡ transition parts.old parts.new) }
 {
-    let found = pivot(upper, total, start, parts);
-    let i = found.at;
-    if i == parts.len() {
+    let Some(found) = pivot(upper, total, start, parts) else {
         return still();
-    }
-    let u = next_value(wide(parts[i]), found.falling);
+    };
+    let i = found.at;
+    let u = next_value(usize::from(parts[i]), found.falling);
     if found.left < found.sum - u {
         return still();
     }
@@ -202,7 +222,8 @@ fn turn_from(upper: &[u8], total: usize, start: PivotSums, parts: &mut [u8]) -> 
     change(parts, other.part, other.value, moved(i, found.falling))
 }
 
-// The same, where of no part it is known that it cannot move.
+// The same, where of no part it is known that it cannot move. (Bounds, total and parts come apart, as callers lend them: the parts are written in place,
+// and the way back takes a total of one more.)
 fn turn(upper: &[u8], total: usize, parts: &mut [u8]) -> Transition
     requires { (0 < length upper.now) × (length upper.now ≤ 24) × (length parts.old ≡ length upper.now) × (total ≤ 4294967296) }
     ensures { (parts.new ≡ turn_of upper.now total parts.old)
@@ -210,8 +231,8 @@ fn turn(upper: &[u8], total: usize, parts: &mut [u8]) -> Transition
 {
     let start = PivotSums {
         at: 1,
-        left: wide(upper[0]),
-        sum: wide(parts[0]),
+        left: usize::from(upper[0]),
+        sum: usize::from(parts[0]),
         right: 0,
         falling: false,
     };
@@ -223,13 +244,7 @@ fn is_sized(upper: &[u8], parts: &[u8]) -> bool
     ensures { result ≡ sized upper.now parts.now }
 {
     let n = upper.len();
-    if n == 0 {
-        return false;
-    }
-    if 24 < n {
-        return false;
-    }
-    parts.len() == n
+    0 < n && n <= 24 && parts.len() == n
 }
 
 // The forward step in place, for callers that hold a composition and need not have it checked: it becomes the next one, and the answer is the pair
@@ -258,75 +273,39 @@ pub fn retreat(upper: &[u8], total: u32, parts: &mut [u8]) -> Transition
     }
 }
 
-// The answer of a refused step.
-fn stopped(number: u32, detail: u64) -> Stepped
-    ensures { result ≡ record { number = number; detail = detail; composition = blank; gain = 0; loss = 0 } }
-{
-    Stepped {
-        number,
-        detail,
-        composition: [0; 24],
-        gain: 0,
-        loss: 0,
-    }
-}
-
-// The total that `turn` is to be given: one more for the backward step.
-fn side(total: u32, back: bool) -> usize
-    ensures { (result ≡ cond back (total + 1) total) × (result ≤ 4294967296) }
-{
-    if back {
-        total as usize + 1
-    } else {
-        total as usize
-    }
-}
-
-// The step over a copy of the parts, in 24 cells, with its pair; 9 where there is none.
-fn shift(upper: &[u8], total: usize, parts: &[u8]) -> Stepped
+// The step over a copy of the parts, in 24 cells, with its pair; 9 where there is none. (Bounds, total and parts apart, as in `turn`.)
+fn shift(upper: &[u8], total: usize, parts: &[u8]) -> Result<Step, Reason>
     requires { (0 < length upper.now) × (length upper.now ≤ 24) × (length parts.now ≡ length upper.now) × (total ≤ 4294967296) }
-    ensures { result ≡ shifted_by parts.now (turn_of upper.now total parts.now) }
+    ensures { stepped_of result ≡ shifted_by parts.now (turn_of upper.now total parts.now) }
 {
     let n = upper.len();
-    let mut cells = bounds::pack(parts);
-    let x = turn(upper, total, &mut cells[..n]);
-    if x.gain == 0 {
-        return stopped(9, 0);
+    let mut composition = bounds::pack(parts);
+    let pair = turn(upper, total, &mut composition[..n]);
+    if pair.gain == 0 {
+        return Err(Reason::NoStep);
     }
-    Stepped {
-        number: 0,
-        detail: 0,
-        composition: cells,
-        gain: x.gain,
-        loss: x.loss,
-    }
+    Ok(Step { composition, pair })
 }
 
-// The step with its checks, forward or backward.
-fn step(upper: &[u8], total: u32, composition: &[u8], back: bool) -> Stepped
-    ensures { result ≡ step_of back upper.now total composition.now }
+// The step with its checks, forward or backward. Backward `shift` is given one more than the total.
+fn checked_step(upper: &[u8], total: u32, composition: &[u8], back: bool) -> Result<Step, Reason>
+    ensures { stepped_of result ≡ step_of back upper.now total composition.now }
 {
-    let limits = bounds_refusal(upper, total);
-    if 0 < limits.number {
-        return stopped(limits.number, limits.detail);
-    }
-    let given = composition_refusal(upper, total, composition);
-    if 0 < given.number {
-        return stopped(given.number, given.detail);
-    }
-    shift(upper, side(total, back), composition)
+    count::check_bounds(upper, total)?;
+    places::check_composition(upper, total, composition)?;
+    shift(upper, total as usize + usize::from(back), composition)
 }
 
 // The composition one serial on.
-pub fn successor(upper: &[u8], total: u32, composition: &[u8]) -> Stepped
-    ensures { result ≡ successor_of upper.now total composition.now }
+pub fn successor(upper: &[u8], total: u32, composition: &[u8]) -> Result<Step, Reason>
+    ensures { stepped_of result ≡ successor_of upper.now total composition.now }
 {
-    step(upper, total, composition, false)
+    checked_step(upper, total, composition, false)
 }
 
 // The composition one serial back.
-pub fn predecessor(upper: &[u8], total: u32, composition: &[u8]) -> Stepped
-    ensures { result ≡ predecessor_of upper.now total composition.now }
+pub fn predecessor(upper: &[u8], total: u32, composition: &[u8]) -> Result<Step, Reason>
+    ensures { stepped_of result ≡ predecessor_of upper.now total composition.now }
 {
-    step(upper, total, composition, true)
+    checked_step(upper, total, composition, true)
 }

@@ -3,7 +3,7 @@
 // implementation.
 #![tactic(auto)]
 
-ghost use Rattle.std.specs.Prelude.{◌≤◌};
+ghost use Rattle.vectors.specs.Commands.{IsOnward};
 
 mod interleave;
 mod read;
@@ -11,7 +11,8 @@ mod record;
 mod room;
 mod show;
 
-use bounds::Refusal;
+use bounds::{Bounds, Reason};
+use read::Commands;
 use show::Answers;
 use std::io;
 use std::io::Read;
@@ -26,136 +27,119 @@ const PIECES: u32 = 4;
 const PIECE: u64 = 65536;
 
 // count: c, upper, total: number, detail, N
-fn count(to: &mut Answers, s: &[u8], from: usize) -> usize
-    ensures { from ≤ result }
+fn count(to: &mut Answers, from: &mut Commands)
+    ensures { IsOnward from.old from.new }
 {
     let mut upper = [0u8; 64];
-    let e = read::bounded_by(s, from, &mut upper);
-    let c = count::check(read::part(&upper, e.parts), e.total);
-    show::three(to, c.number, c.detail, c.count);
-    e.at
+    let upper = from.list(&mut upper);
+    to.counted(count::check(upper, from.total()));
 }
 
 // a record that nobody has checked: e, number of parts, 24 cells, total: number, detail, N
-fn count_record(to: &mut Answers, s: &[u8], from: usize) -> usize
-    ensures { from ≤ result }
+fn count_record(to: &mut Answers, from: &mut Commands)
+    ensures { IsOnward from.old from.new }
 {
     let mut upper = [0u8; 24];
-    let parts = read::number(s, from);
-    let e = read::bounded_by(s, parts.at, &mut upper);
-    let c = count::check_record(bounds::Bounds {
-        parts: parts.value as usize,
+    let parts = from.number() as usize;
+    from.list(&mut upper);
+    let total = from.total();
+    to.counted(count::check_record(Bounds {
+        parts,
         upper,
-        total: e.total,
-    });
-    show::three(to, c.number, c.detail, c.count);
-    e.at
+        total,
+    }));
 }
 
 // table: t, k, r: M(k, r), and nothing outside the table
-fn table(to: &mut Answers, s: &[u8], from: usize) -> usize
-    ensures { from ≤ result }
+fn table(to: &mut Answers, from: &mut Commands)
+    ensures { IsOnward from.old from.new }
 {
-    let k = read::number(s, from);
-    let r = read::number(s, k.at);
-    match mahonian::read((k.value % 65536) as usize, (r.value % 65536) as usize) {
-        mahonian::Entry::Count(n) => show::first(to, n),
-        mahonian::Entry::Outside => {}
+    let k = from.number() % 65536;
+    let r = from.number() % 65536;
+    if let Some(n) = mahonian::read(k as usize, r as usize) {
+        to.first(n);
     }
-    show::end(to);
-    r.at
+    to.end();
 }
 
 // rank: r, upper, total, composition: number, detail, serial
-fn rank(to: &mut Answers, s: &[u8], from: usize) -> usize
-    ensures { from ≤ result }
+fn rank(to: &mut Answers, from: &mut Commands)
+    ensures { IsOnward from.old from.new }
 {
     let mut upper = [0u8; 64];
     let mut composition = [0u8; 64];
-    let e = read::bounded_by(s, from, &mut upper);
-    let g = read::list(s, e.at, &mut composition);
-    match rank::rank(
-        read::part(&upper, e.parts),
-        e.total,
-        read::part(&composition, g.len),
-    ) {
-        rank::Ranking::Serial(serial) => show::three(to, 0, 0, serial),
-        rank::Ranking::Refused(number, detail) => show::three(to, number, detail, 0),
-    }
-    g.at
+    let upper = from.list(&mut upper);
+    let total = from.total();
+    let composition = from.list(&mut composition);
+    to.number(rank::rank(upper, total, composition));
 }
 
 // unrank: u, upper, total, serial, length: number, detail, the lent part
-fn unrank(to: &mut Answers, s: &[u8], from: usize) -> usize
-    ensures { from ≤ result }
+fn unrank(to: &mut Answers, from: &mut Commands)
+    ensures { IsOnward from.old from.new }
 {
     let mut upper = [0u8; 64];
     let mut out = [FILL; 1024];
-    let e = read::bounded_by(s, from, &mut upper);
-    let serial = read::number(s, e.at);
-    let size = read::number(s, serial.at);
-    let lent = read::lent(&mut out, size.value);
-    let r = rank::unrank(read::part(&upper, e.parts), e.total, serial.value, lent);
-    show::lent(to, r, lent);
-    size.at
+    let upper = from.list(&mut upper);
+    let total = from.total();
+    let serial = from.number();
+    let lent = room::lent(&mut out, from.number());
+    let r = rank::unrank(upper, total, serial, lent);
+    to.lent(r, lent);
 }
 
 // step: s forward or p backward, upper, total, composition: number, detail, 24 cells, gain, loss
-fn step(to: &mut Answers, s: &[u8], from: usize, back: bool) -> usize
-    ensures { from ≤ result }
+fn step(to: &mut Answers, from: &mut Commands, back: bool)
+    ensures { IsOnward from.old from.new }
 {
     let mut upper = [0u8; 64];
     let mut given = [0u8; 64];
-    let e = read::bounded_by(s, from, &mut upper);
-    let g = read::list(s, e.at, &mut given);
-    let ms = read::part(&upper, e.parts);
-    let composition = read::part(&given, g.len);
-    if back {
-        show::stepped(to, step::predecessor(ms, e.total, composition));
+    let upper = from.list(&mut upper);
+    let total = from.total();
+    let composition = from.list(&mut given);
+    to.stepped(if back {
+        step::predecessor(upper, total, composition)
     } else {
-        show::stepped(to, step::successor(ms, e.total, composition));
-    }
-    g.at
+        step::successor(upper, total, composition)
+    });
 }
 
 // batch: b, upper, total, serial, copies, length: number, detail, the lent part
-fn batch(to: &mut Answers, s: &[u8], from: usize) -> usize
-    ensures { from ≤ result }
+fn batch(to: &mut Answers, from: &mut Commands)
+    ensures { IsOnward from.old from.new }
 {
     let mut upper = [0u8; 64];
     let mut out = [FILL; 1024];
-    let e = read::bounded_by(s, from, &mut upper);
-    let serial = read::number(s, e.at);
-    let copies = read::number(s, serial.at);
-    let size = read::number(s, copies.at);
-    let lent = read::lent(&mut out, size.value);
-    let r = blocks::batch(
-        read::part(&upper, e.parts),
-        e.total,
-        serial.value,
-        copies.value,
-        lent,
-    );
-    show::lent(to, r, lent);
-    size.at
+    let upper = from.list(&mut upper);
+    let total = from.total();
+    let serial = from.number();
+    let copies = from.number();
+    let lent = room::lent(&mut out, from.number());
+    let r = blocks::batch(upper, total, serial, copies, lent);
+    to.lent(r, lent);
 }
 
 // a whole edition: w, upper, total, length: number, detail, the lent part
-fn whole(to: &mut Answers, s: &[u8], from: usize) -> usize
-    ensures { from ≤ result }
+fn whole(to: &mut Answers, from: &mut Commands)
+    ensures { IsOnward from.old from.new }
 {
     let mut upper = [0u8; 64];
     let mut out = [FILL; 1024];
-    let e = read::bounded_by(s, from, &mut upper);
-    let size = read::number(s, e.at);
-    let lent = read::lent(&mut out, size.value);
-    let r = listing::list(read::part(&upper, e.parts), e.total, lent);
-    show::lent(to, r, lent);
-    size.at
+    let upper = from.list(&mut upper);
+    let total = from.total();
+    let lent = room::lent(&mut out, from.number());
+    let r = listing::list(upper, total, lent);
+    to.lent(r, lent);
 }
 
 // Between a composition and a permutation, by inversions or by major index.
-fn conversion(letter: u8, upper: &[u8], total: u32, given: &[u8], lent: &mut [u8]) -> Refusal {
+fn conversion(
+    letter: u8,
+    upper: &[u8],
+    total: u32,
+    given: &[u8],
+    lent: &mut [u8],
+) -> Result<(), Reason> {
     match letter {
         b'o' => permutation::permutation(upper, total, given, lent),
         b'i' => permutation::inversions(upper, total, given, lent),
@@ -165,54 +149,47 @@ fn conversion(letter: u8, upper: &[u8], total: u32, given: &[u8], lent: &mut [u8
 }
 
 // a conversion: o, i, m or d, upper, total, composition or permutation, length: number, detail, the lent part
-fn convert(to: &mut Answers, s: &[u8], letter: u8, from: usize) -> usize
-    ensures { from ≤ result }
+fn convert(to: &mut Answers, from: &mut Commands, letter: u8)
+    ensures { IsOnward from.old from.new }
 {
     let mut upper = [0u8; 64];
     let mut given = [0u8; 64];
     let mut out = [FILL; 1024];
-    let e = read::bounded_by(s, from, &mut upper);
-    let g = read::list(s, e.at, &mut given);
-    let size = read::number(s, g.at);
-    let lent = read::lent(&mut out, size.value);
-    let r = conversion(
-        letter,
-        read::part(&upper, e.parts),
-        e.total,
-        read::part(&given, g.len),
-        lent,
-    );
-    show::lent(to, r, lent);
-    size.at
+    let upper = from.list(&mut upper);
+    let total = from.total();
+    let given = from.list(&mut given);
+    let lent = room::lent(&mut out, from.number());
+    let r = conversion(letter, upper, total, given, lent);
+    to.lent(r, lent);
 }
 
 // The command at a letter; any other byte is passed over.
-fn command(to: &mut Answers, s: &[u8], letter: u8, from: usize) -> usize
-    ensures { from ≤ result }
+fn command(to: &mut Answers, from: &mut Commands, letter: u8)
+    ensures { IsOnward from.old from.new }
 {
     match letter {
-        b'c' => count(to, s, from),
-        b'e' => count_record(to, s, from),
-        b't' => table(to, s, from),
-        b'r' => rank(to, s, from),
-        b'u' => unrank(to, s, from),
-        b's' => step(to, s, from, false),
-        b'p' => step(to, s, from, true),
-        b'b' => batch(to, s, from),
-        b'w' => whole(to, s, from),
-        b'o' | b'i' | b'm' | b'd' => convert(to, s, letter, from),
-        b'n' => record::opening(to, s, from),
-        b'k' => record::call(to, s, from),
-        b'l' => interleave::list(to, s, from),
-        _ => from,
+        b'c' => count(to, from),
+        b'e' => count_record(to, from),
+        b't' => table(to, from),
+        b'r' => rank(to, from),
+        b'u' => unrank(to, from),
+        b's' => step(to, from, false),
+        b'p' => step(to, from, true),
+        b'b' => batch(to, from),
+        b'w' => whole(to, from),
+        b'o' | b'i' | b'm' | b'd' => convert(to, from, letter),
+        b'n' => record::opening(to, from),
+        b'k' => record::call(to, from),
+        b'l' => interleave::list(to, from),
+        _ => {}
     }
 }
 
-// Every command.
-fn run(to: &mut Answers, s: &[u8]) {
-    let mut at = 0;
-    while at < s.len() {
-        at = command(to, s, s[at], at + 1);
+// Every command. (A `while let`: the next letter is an `Option`.)
+fn run(to: &mut Answers, text: &[u8]) {
+    let mut from = Commands { rest: text };
+    while let Some(letter) = from.letter() {
+        command(to, &mut from, letter);
     }
 }
 
@@ -226,11 +203,9 @@ fn piece(to: &mut Answers, rt: &HostRuntime) -> io::Result<()> {
 }
 
 fn main(rt: HostRuntime) -> io::Result<()> {
-    let mut to = show::begin(&rt)?;
-    let mut i: u32 = 0;
-    while i < PIECES {
+    let mut to = Answers::begin(&rt)?;
+    for _ in 0..PIECES {
         piece(&mut to, &rt)?;
-        i += 1;
     }
-    show::finish(to)
+    to.finish()
 }

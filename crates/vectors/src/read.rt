@@ -1,160 +1,77 @@
 // Numbers from the commands.
-ghost use Rattle.std.specs.Prelude.{◌≤◌, length};
+ghost use Rattle.std.specs.Prelude.{◌≤◌, ◌<◌, IsSome, length};
+ghost use Rattle.vectors.specs.Commands.{IsOnward};
 
-const MOST: u64 = 18_446_744_073_709_551_615;
+// A number as a list has it: cut to its width.
+pub(crate) trait Entry: Copy {
+    fn cut(n: u64) -> Self;
+}
 
-// A number, and where it ends.
+impl Entry for u8 {
+    fn cut(n: u64) -> u8 {
+        (n % 256) as u8
+    }
+}
+
+impl Entry for u32 {
+    fn cut(n: u64) -> u32 {
+        (n % 4_294_967_296) as u32
+    }
+}
+
+impl Entry for u64 {
+    fn cut(n: u64) -> u64 {
+        n
+    }
+}
+
+// The commands that are still to be read.
 #[derive(Clone, Copy)]
-pub struct Numeral {
-    pub value: u64,
-    pub at: usize,
+pub(crate) struct Commands<'a> {
+    pub rest: &'a [u8],
 }
 
-// How many numbers were stored, and where the list ends.
-#[derive(Clone, Copy)]
-pub struct Listed {
-    pub len: usize,
-    pub at: usize,
-}
-
-// An edition's number of parts and total, and where it ends.
-#[derive(Clone, Copy)]
-pub struct Bounded {
-    pub parts: usize,
-    pub total: u32,
-    pub at: usize,
-}
-
-fn is_digit(b: u8) -> bool {
-    if b < 48 { false } else { b < 58 }
-}
-
-// The number with one digit more, and the largest where that is too large.
-fn with_digit(n: u64, b: u8) -> u64 {
-    if MOST / 10 < n {
-        return MOST;
+impl<'a> Commands<'a> {
+    // The next byte.
+    pub(crate) fn letter(&mut self) -> Option<u8>
+        ensures onward { IsOnward self.old self.new }
+        ensures one { IsSome result → length self.new.rest.now < length self.old.rest.now }
+    {
+        let (letter, rest) = self.rest.split_first()?;
+        self.rest = rest;
+        Some(*letter)
     }
-    let tens = n * 10;
-    let digit = (b % 48) as u64;
-    if MOST - tens < digit {
-        return MOST;
-    }
-    tens + digit
-}
 
-// Where the next digit stands.
-fn digit_from(s: &[u8], from: usize) -> usize
-    ensures { from ≤ result }
-{
-    let mut at = from;
-    while at < s.len() {
-        if is_digit(s[at]) {
-            return at;
+    // The next number, and the largest where it is too large; 0 past the end.
+    pub(crate) fn number(&mut self) -> u64
+        ensures { IsOnward self.old self.new }
+    {
+        let start = self.rest.iter().position(|b| b.is_ascii_digit());
+        let digits = &self.rest[start.unwrap_or(self.rest.len())..];
+        let end = digits.iter().position(|b| !b.is_ascii_digit());
+        let (digits, rest) = digits.split_at(end.unwrap_or(digits.len()));
+        self.rest = rest;
+        digits.iter().fold(0, |n: u64, b| {
+            n.saturating_mul(10).saturating_add(u64::from(*b % 48))
+        })
+    }
+
+    // The next number, as a total is.
+    pub(crate) fn total(&mut self) -> u32
+        ensures { IsOnward self.old self.new }
+    {
+        u32::cut(self.number())
+    }
+
+    // The next list, its length in front; as many of its entries as there is room for.
+    pub(crate) fn list<'l, T: Entry>(&mut self, space: &'l mut [T]) -> &'l mut [T]
+        ensures { IsOnward self.old self.new }
+    {
+        let len = (self.number() as usize).min(space.len());
+        let list = &mut space[..len];
+        for entry in list.iter_mut() {
+            *entry = T::cut(self.number());
         }
-        at += 1;
+        list
     }
-    at
-}
-
-// The next number; 0 past the end.
-pub(crate) fn number(s: &[u8], from: usize) -> Numeral
-    ensures { from ≤ result.at }
-{
-    let mut at = digit_from(s, from);
-    let mut value = 0;
-    while at < s.len() {
-        let b = s[at];
-        if !is_digit(b) {
-            return Numeral { value, at };
-        }
-        value = with_digit(value, b);
-        at += 1;
-    }
-    Numeral { value, at }
-}
-
-// The next list, its length in front, as bytes; as many as there is room for.
-pub(crate) fn list(s: &[u8], from: usize, out: &mut [u8]) -> Listed
-    ensures { (from ≤ result.at) × (result.len ≤ length out.new) }
-{
-    let n = number(s, from);
-    let mut at = n.at;
-    let mut i: usize = 0;
-    while (i as u64) < n.value {
-        if out.len() <= i {
-            return Listed { len: i, at };
-        }
-        let x = number(s, at);
-        out[i] = (x.value % 256) as u8;
-        at = x.at;
-        i += 1;
-    }
-    Listed { len: i, at }
-}
-
-// The same, as words and as longs.
-pub(crate) fn words(s: &[u8], from: usize, out: &mut [u32]) -> Listed
-    ensures { from ≤ result.at }
-{
-    let n = number(s, from);
-    let mut at = n.at;
-    let mut i: usize = 0;
-    while (i as u64) < n.value {
-        if out.len() <= i {
-            return Listed { len: i, at };
-        }
-        let x = number(s, at);
-        out[i] = (x.value % 4294967296) as u32;
-        at = x.at;
-        i += 1;
-    }
-    Listed { len: i, at }
-}
-
-pub(crate) fn longs(s: &[u8], from: usize, out: &mut [u64]) -> Listed
-    ensures { from ≤ result.at }
-{
-    let n = number(s, from);
-    let mut at = n.at;
-    let mut i: usize = 0;
-    while (i as u64) < n.value {
-        if out.len() <= i {
-            return Listed { len: i, at };
-        }
-        let x = number(s, at);
-        out[i] = x.value;
-        at = x.at;
-        i += 1;
-    }
-    Listed { len: i, at }
-}
-
-// The first n bytes, or all.
-pub(crate) fn part(s: &[u8], n: usize) -> &[u8] {
-    if s.len() < n {
-        return s;
-    }
-    &s[..n]
-}
-
-// The next list and number: the upper bounds of an edition, and its total.
-pub(crate) fn bounded_by(s: &[u8], from: usize, upper: &mut [u8]) -> Bounded
-    ensures { from ≤ result.at }
-{
-    let m = list(s, from, upper);
-    let total = number(s, m.at);
-    Bounded {
-        parts: m.len,
-        total: (total.value % 4294967296) as u32,
-        at: total.at,
-    }
-}
-
-// The first n bytes, to be written, or all.
-pub(crate) fn lent(s: &mut [u8], n: u64) -> &mut [u8] {
-    if (s.len() as u64) < n {
-        return s;
-    }
-    let size = n as usize;
-    &mut s[..size]
 }

@@ -1,83 +1,59 @@
 // Openings, and calls on a record that nobody has checked.
-ghost use Rattle.std.specs.Prelude.{◌≤◌};
+ghost use Rattle.vectors.specs.Commands.{IsOnward};
 
+use crate::read::Commands;
+use crate::room;
+use crate::room::ENTRIES;
 use crate::show::Answers;
-use crate::{read, room, show};
 use model::Ledger;
 
-// A record, and where it ends.
-#[derive(Clone, Copy)]
-struct Recorded {
-    ledger: Ledger,
-    at: usize,
-}
-
 // The next record: number of parts, 24 cells, total, entries, sold, voided, 24 cells.
-fn record(s: &[u8], from: usize) -> Recorded
-    ensures { from ≤ result.at }
+fn record(from: &mut Commands) -> Ledger
+    ensures { IsOnward from.old from.new }
 {
     let mut upper = [0u8; 24];
     let mut next = [0u8; 24];
-    let parts = read::number(s, from);
-    let e = read::bounded_by(s, parts.at, &mut upper);
-    let entries = read::number(s, e.at);
-    let sold = read::number(s, entries.at);
-    let voided = read::number(s, sold.at);
-    let g = read::list(s, voided.at, &mut next);
-    let bounds = bounds::Bounds {
-        parts: parts.value as usize,
-        upper,
-        total: e.total,
-    };
-    let ledger = Ledger {
-        bounds,
-        entries: entries.value,
-        sold: sold.value,
-        voided: voided.value,
+    let parts = from.number() as usize;
+    from.list(&mut upper);
+    let total = from.total();
+    let entries = from.number();
+    let sold = from.number();
+    let voided = from.number();
+    from.list(&mut next);
+    Ledger {
+        bounds: bounds::Bounds {
+            parts,
+            upper,
+            total,
+        },
+        entries,
+        sold,
+        voided,
         next,
-    };
-    Recorded { ledger, at: g.at }
+    }
 }
 
 // opening: n, upper, total, entries of the order column, entries of the item column: number, detail; the record
-pub(crate) fn opening(to: &mut Answers, s: &[u8], from: usize) -> usize
-    ensures { from ≤ result }
+pub(crate) fn opening(to: &mut Answers, from: &mut Commands)
+    ensures { IsOnward from.old from.new }
 {
     let mut upper = [0u8; 64];
-    let column = room::words();
-    let items = room::bytes();
-    let e = read::bounded_by(s, from, &mut upper);
-    let size = read::number(s, e.at);
-    let items_size = read::number(s, size.at);
-    show::opened(
-        to,
-        ledger::open(
-            read::part(&upper, e.parts),
-            e.total,
-            room::part_32(&column, size.value as usize),
-            read::part(&items, items_size.value as usize),
-        ),
-    );
-    items_size.at
+    let column: [u32; ENTRIES] = room::filled();
+    let items: [u8; ENTRIES] = room::filled();
+    let upper = from.list(&mut upper);
+    let total = from.total();
+    let orders = from.number();
+    let itemlines = from.number();
+    to.opened(ledger::open(
+        upper,
+        total,
+        room::part(&column, orders),
+        room::part(&items, itemlines),
+    ));
 }
 
-// The first of some orders; 0 where there is none.
-fn first(orders: &[u32]) -> u32 {
-    if orders.len() == 0 {
-        return 0;
-    }
-    orders[0]
-}
-
-// The first of some item lines; 0 where there is none.
-fn first_item(itemlines: &[u8]) -> u8 {
-    if itemlines.len() == 0 {
-        return 0;
-    }
-    itemlines[0]
-}
-
-// What a call answers, and the record after it: 0 peek, 1 claim for the first order and the first item line, 3 bundle of all of them, any other void.
+// What a call answers, and the record after it: 0 peek, 1 claim for the first order and the first item line, 3 bundle of all of them, any other void. (By the
+// number that the command has; `replay` has a type for it, of its own.)
 fn called(
     to: &mut Answers,
     ledger: Ledger,
@@ -88,77 +64,50 @@ fn called(
     orders: &[u32],
     itemlines: &[u8],
 ) {
-    if which == 0 {
-        show::peeked(to, ledger::peek(ledger, column, items));
-        show::ledger(to, ledger);
-        return;
+    match which {
+        0 => to.peeked(ledger::peek(ledger, column, items), ledger),
+        1 => {
+            let order = orders.first().copied().unwrap_or(0);
+            let item = itemlines.first().copied().unwrap_or(0);
+            to.claimed(ledger::claim(ledger, column, items, serial, order, item));
+        }
+        3 => to.claimed(ledger::claim_all(ledger, column, items, serial, orders, itemlines)),
+        _ => to.claimed(ledger::void(ledger, column, items, serial)),
     }
-    if which == 1 {
-        let order = first(orders);
-        let item = first_item(itemlines);
-        show::claimed(
-            to,
-            ledger::claim(ledger, column, items, serial, order, item),
-        );
-        return;
-    }
-    if which == 3 {
-        show::claimed(
-            to,
-            ledger::claim_all(ledger, column, items, serial, orders, itemlines),
-        );
-        return;
-    }
-    show::claimed(to, ledger::void(ledger, column, items, serial));
 }
 
-// The call that is read from a place in the commands on, of a record and two columns; where what is read ends.
+// The next call, of a record and two columns.
 fn called_with(
     to: &mut Answers,
-    s: &[u8],
-    from: usize,
+    from: &mut Commands,
     ledger: Ledger,
     column: &mut [u32],
     items: &mut [u8],
-) -> usize
-    ensures { from ≤ result }
+)
+    ensures { IsOnward from.old from.new }
 {
-    let mut orders = room::words();
-    let mut itemlines = room::bytes();
-    let which = read::number(s, from);
-    let serial = read::number(s, which.at);
-    let o = read::words(s, serial.at, &mut orders);
-    let i = read::list(s, o.at, &mut itemlines);
-    called(
-        to,
-        ledger,
-        column,
-        items,
-        which.value,
-        serial.value,
-        room::part_32(&orders, o.len),
-        read::part(&itemlines, i.len),
-    );
-    i.at
+    let mut orders: [u32; ENTRIES] = room::filled();
+    let mut itemlines: [u8; ENTRIES] = room::filled();
+    let which = from.number();
+    let serial = from.number();
+    let orders = from.list(&mut orders);
+    let itemlines = from.list(&mut itemlines);
+    called(to, ledger, column, items, which, serial, orders, itemlines);
 }
 
 // call: k, record, order column, item column, which call, serial, orders, item lines: the order numbers before, the item lines before; number, detail,
 // serial, 24 cells, of a peek gain and loss too; the record; the order column; the item column
-pub(crate) fn call(to: &mut Answers, s: &[u8], from: usize) -> usize
-    ensures { from ≤ result }
+pub(crate) fn call(to: &mut Answers, from: &mut Commands)
+    ensures { IsOnward from.old from.new }
 {
-    let mut space = room::words();
-    let mut bytes = room::bytes();
-    let r = record(s, from);
-    let c = read::words(s, r.at, &mut space);
-    let i = read::list(s, c.at, &mut bytes);
-    let column = room::lent_32(&mut space, c.len as u64);
-    let items = read::lent(&mut bytes, i.len as u64);
-    let ledger = r.ledger;
-    show::words(to, ledger::entries(ledger, column, items));
-    show::listed(to, ledger::entry_items(ledger, column, items));
-    let end = called_with(to, s, i.at, ledger, column, items);
-    show::words(to, column);
-    show::listed(to, items);
-    end
+    let mut column: [u32; ENTRIES] = room::filled();
+    let mut items: [u8; ENTRIES] = room::filled();
+    let ledger = record(from);
+    let column = from.list(&mut column);
+    let items = from.list(&mut items);
+    to.list(ledger::entries(ledger, column, items));
+    to.list(ledger::entry_items(ledger, column, items));
+    called_with(to, from, ledger, column, items);
+    to.list(column);
+    to.list(items);
 }

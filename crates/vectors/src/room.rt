@@ -1,58 +1,26 @@
-// Room for lists and what is lent of it, whatever the lengths.
+// Room for lists, and what is lent of it, whatever the lengths.
 ghost use Rattle.std.specs.Prelude.{◌≡◌, length};
 
-// What room holds before something is stored there: not 0, so that what a call leaves as it was shows.
-const FILL: u32 = 7;
+// The entries of a column, and of a script's pool, in which bundles name several a call.
+pub(crate) const ENTRIES: usize = 2048;
 
-// For an order column, and for the orders of a script's pool, in which bundles name several a call.
-pub(crate) fn words() -> [u32; 2048]
-    ensures { 2048 ≡ length result }
-{
-    [FILL; 2048]
-}
+// The numbers of 2,048 rows of answers, and of a script of as many calls and more.
+pub(crate) const NUMBERS: usize = 59392;
 
-// For an item column, and for the item lines of a script's pool.
-pub(crate) fn bytes() -> [u8; 2048]
-    ensures { 2048 ≡ length result }
+// Room that holds 7s before something is stored there, and not 0s: what a call leaves as it was shows.
+pub(crate) fn filled<T: Copy + From<u8>, const N: usize>() -> [T; N]
+    ensures { N ≡ length result }
 {
-    [7; 2048]
-}
-
-// For 2,048 rows of answers, and for a script of as many calls and more.
-pub(crate) fn longs() -> [u64; 59392]
-    ensures { 59392 ≡ length result }
-{
-    [7; 59392]
+    [T::from(7); N]
 }
 
 // The first n entries, or all.
-pub(crate) fn part_32(s: &[u32], n: usize) -> &[u32] {
-    if s.len() < n {
-        return s;
-    }
-    &s[..n]
-}
-
-pub(crate) fn part_64(s: &[u64], n: usize) -> &[u64] {
-    if s.len() < n {
-        return s;
-    }
-    &s[..n]
+pub(crate) fn part<T>(s: &[T], n: u64) -> &[T] {
+    &s[..(n as usize).min(s.len())]
 }
 
 // The same, to be written.
-pub(crate) fn lent_32(s: &mut [u32], n: u64) -> &mut [u32] {
-    if (s.len() as u64) < n {
-        return s;
-    }
-    let size = n as usize;
-    &mut s[..size]
-}
-
-pub(crate) fn lent_64(s: &mut [u64], n: u64) -> &mut [u64] {
-    if (s.len() as u64) < n {
-        return s;
-    }
-    let size = n as usize;
+pub(crate) fn lent<T>(s: &mut [T], n: u64) -> &mut [T] {
+    let size = (n as usize).min(s.len());
     &mut s[..size]
 }

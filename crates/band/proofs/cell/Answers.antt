@@ -1,5 +1,5 @@
 -- `band::cell` meets its contract.
-use Rattle.std.proofs.Common.{◌≡◌, ℕ, suc, ◌+◌, ◌-◌, ◌*◌, ◌<◌, ◌≤◌, get_or, ap, ◌∙◌, arith}
+use Rattle.std.proofs.Common.{◌≡◌, suc, ◌+◌, ◌-◌, ◌*◌, ◌<◌, ◌≤◌, arith}
 use Rattle.band.proofs.Bands.{cell_room}
 use Rattle.band.proofs.Rows.{at_low, at_place, at_small}
 use Rattle.band.specs.Band.{band_size, cell_index}
@@ -19,17 +19,6 @@ place_at c =
       at_small ms a.total a.k a.t a.row p.3 p.4 p.2,
       cell_room ms a.total a.k a.t p.0 p.4,
     )
-
-pub returns : goal.returns
-returns c =
-    let s = c in
-    let a = s.args in
-    let e = ap (λ (n : ℕ). get_or a.cells.now n 0) (place_at (goal.at.returns s).Start).1 in
-    let h = s.requires.6 a.t s.requires.4 (omega (arith, s.requires.4.high, s.requires.2)) in
-    (e ∙ h.0, omega (arith, e, h.0, h.1))
-
-pub overflow_sub-result : goal.overflow_sub-result
-overflow_sub-result c = (place_at (goal.at.overflow_sub-result c).Start).0
 
 pub overflow_add-result : goal.overflow_add-result
 overflow_add-result c = let p = place_at (goal.at.overflow_add-result c).Start in omega arith

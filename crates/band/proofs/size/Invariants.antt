@@ -4,6 +4,3 @@ use Rattle.band.proofs.size.Given as goal
 
 abbrev pub invariant-loop-k : goal.invariant-loop-k
 invariant-loop-k l = Sizing l.upper l.total l.k l.left l.cells
-
-abbrev pub decreases-loop-k : goal.decreases-loop-k
-decreases-loop-k l = l.k

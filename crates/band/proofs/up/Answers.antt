@@ -1,6 +1,6 @@
 -- `band::up` meets its contract.
 use Rattle.std.proofs.Common.{◌+◌, ◌*◌, ◌≤◌, get_or, arith}
-use Rattle.band.proofs.Rows.{row_ends, row_fits, row_small, row_up}
+use Rattle.band.proofs.Rows.{row_ends, row_fits, row_small}
 use Rattle.band.proofs.up.Goals as goal
 use Rattle.band.proofs.up.Goals.{Start}
 
@@ -21,14 +21,3 @@ overflow_add-from-3 c = let k = row_at (goal.at.overflow_add-from-3 c).Start in 
 
 pub row_of-requires : goal.row_of-requires
 row_of-requires c = let k = row_at (goal.at.row_of-requires c).Start in omega arith
-
-pub returns : goal.returns
-returns c =
-    let s = c in
-    let p = s.requires in
-    let e = c.row_of.ensures in
-    row_up _ _ _ p.2 p.3 s.args.from p.4 _ _ c.wide-m.ensures.0 e.0 e.1 e.2 e.3
-    e.4
-
-pub overflow_sub-from : goal.overflow_sub-from
-overflow_sub-from c = let k = row_at (goal.at.overflow_sub-from c).Start in omega arith

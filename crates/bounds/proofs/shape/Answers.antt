@@ -1,65 +1,27 @@
 -- `bounds::shape` meets its contract.
-use native.Mathlib.Omega.{arith}
-use borrow.Author.Tests.{eq-eqb, ne_eqb, lt-ltb, le-ltb}
+use Rattle.std.proofs.Common.{arith, ◌∙◌}
+use Rattle.std.proofs.lemmas.Bool.Decides.{nat_tests}
 use Rattle.bounds.specs.Refusal.{first_refusal}
-use Rattle.bounds.specs.Edition.{shaped_of}
+use Rattle.bounds.proofs.Reasons.{passed_on}
 use Rattle.bounds.proofs.shape.Goals as goal
 
-pub returns-then-n-eq0 : goal.returns-then-n-eq0
-unfolding shaped_of first_refusal
-returns-then-n-eq0 c = simp (eq-eqb _ _ c.if-n-eq0.true) c.unshaped.ensures
+pub returns-then-is_empty-clause-refusal : goal.returns-then-is_empty-clause-refusal
+unfolding first_refusal
+returns-then-is_empty-clause-refusal c = grind (arith, nat_tests)
 
-pub returns-then-n-gt24 : goal.returns-then-n-gt24
-unfolding shaped_of first_refusal
-returns-then-n-gt24 c = simp (ne_eqb _ _ c.if-n-eq0.false, lt-ltb _ _ c.if-n-gt24.true) c.unshaped-then-n-gt24.ensures
+pub returns-in_err-all-clause-refusal : goal.returns-in_err-all-clause-refusal
+unfolding first_refusal
+returns-in_err-all-clause-refusal c =
+    passed_on c.in_err-all.field-0.0 _ c.from_residual.ensures.1 ∙ grind (arith, nat_tests, c.in_err-all.ensures)
 
-pub returns-then-s-gt0 : goal.returns-then-s-gt0
-unfolding shaped_of first_refusal
-returns-then-s-gt0 c =
-    let at-scan = c in
-    simp (
-      ne_eqb _ _ at-scan.if-n-eq0.false,
-      le-ltb _ _ at-scan.if-n-gt24.false,
-      ← at-scan.scan-s.ensures.0,
-      lt-ltb _ _ c.if-s-gt0.true,
-    ) c.unshaped-then-s-gt0.ensures
+pub returns-then-total-gt255-clause-refusal : goal.returns-then-total-gt255-clause-refusal
+unfolding first_refusal
+returns-then-total-gt255-clause-refusal c = grind (arith, nat_tests, c.in_ok-all.ensures)
 
-pub returns-then-total-gt255 : goal.returns-then-total-gt255
-unfolding shaped_of first_refusal
-returns-then-total-gt255 c =
-    let at-scan = c in
-    simp (
-      ne_eqb _ _ at-scan.if-n-eq0.false,
-      le-ltb _ _ at-scan.if-n-gt24.false,
-      ← at-scan.scan-s.ensures.0,
-      le-ltb _ _ c.if-s-gt0.false,
-      lt-ltb _ _ c.if-total-gt255.true,
-    ) c.unshaped-then-total-gt255.ensures
+pub returns-then-all-total-clause-refusal : goal.returns-then-all-total-clause-refusal
+unfolding first_refusal
+returns-then-all-total-clause-refusal c = grind (arith, nat_tests, c.in_ok-all.ensures)
 
-pub returns-then-s-total : goal.returns-then-s-total
-unfolding shaped_of first_refusal
-returns-then-s-total c =
-    let at-scan = c in
-    simp (
-      ne_eqb _ _ at-scan.if-n-eq0.false,
-      le-ltb _ _ at-scan.if-n-gt24.false,
-      ← at-scan.scan-s.ensures.0,
-      le-ltb _ _ c.if-s-gt0.false,
-      le-ltb _ _ c.if-total-gt255.false,
-      ← at-scan.scan-s.ensures.1 (omega arith),
-      lt-ltb _ _ c.if-s-total.true,
-    ) c.unshaped-then-s-total.ensures
-
-pub returns : goal.returns
-unfolding shaped_of first_refusal
-returns c =
-    let at-scan = c in
-    simp (
-      ne_eqb _ _ at-scan.if-n-eq0.false,
-      le-ltb _ _ at-scan.if-n-gt24.false,
-      ← at-scan.scan-s.ensures.0,
-      le-ltb _ _ c.if-s-gt0.false,
-      le-ltb _ _ c.if-total-gt255.false,
-      ← at-scan.scan-s.ensures.1 (omega arith),
-      le-ltb _ _ c.if-s-total.false,
-    )
+pub returns-clause-refusal : goal.returns-clause-refusal
+unfolding first_refusal
+returns-clause-refusal c = grind (arith, nat_tests, c.in_ok-all.ensures)

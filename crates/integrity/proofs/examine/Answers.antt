@@ -1,46 +1,70 @@
 -- `integrity::examine` meets its contract.
-use borrow.Author.Tests.{not-true, not-false}
-use mathlib.Core.Path.{◌≡◌, sym, ap, ◌∙◌}
-use mathlib.Core.Bool.{Bool, true}
-use Rattle.model.specs.Entry.{columns, room}
+use Rattle.std.proofs.Common.{◌≡◌, ℕ, List, sym, ap, ◌∙◌, arith}
+use Rattle.model.specs.Entry.{Entry, columns, room, voided_in}
+use Rattle.model.specs.Record.{written}
 use Rattle.integrity.specs.Examine.{framed, seen_by}
-use Rattle.integrity.proofs.Checks.{seen_fits, seen_none, not_framed, few_zeros, by_counts, orders_within, items_within, passable}
+use Rattle.integrity.specs.Lines.{if_sound}
+use Rattle.integrity.proofs.Checks.{seen_some, seen_none, seen_not, seen_tested, frame_room, not_framed, not_sound, few_zeros, by_counts}
+use Rattle.integrity.proofs.Checks.{lent_room, part_written, part_few}
+use Rattle.integrity.proofs.Passes.{sound_some, sound_none}
 use Rattle.integrity.proofs.examine.Goals as goal
-use Rattle.integrity.proofs.examine.Goals.{Else-not-seen}
+use Rattle.integrity.proofs.examine.Goals.{After-frame, After-scan}
 
-pub returns-then-not-seen : goal.returns-then-not-seen
-returns-then-not-seen c =
-    let no = sym (seen_fits _ c.frame-seen.ensures) ∙ not-true _ c.if-not-seen.true in
-    seen_none _ (not_framed _ _ no) c.unseen.ensures
+-- the room of the columns
+as_room : (c : After-frame) → c.len.result ≡ room (columns c.args.orders.now c.args.items.now)
+as_room c = c.len.ensures ∙ lent_room c.args.orders.now c.args.items.now c.of-lent.result c.of-lent.ensures
 
--- the tests that look at no line pass
-passes : (c : Else-not-seen) → let a = c.args in framed a.ledger (room (columns a.orders.now a.items.now)) ≡ true
-passes c = sym (seen_fits _ c.frame-seen.ensures) ∙ not-false _ c.if-not-seen.false
+framed_for : (c : After-frame) → c.frame.result ≡ seen_by (framed c.args.ledger (room (columns c.args.orders.now c.args.items.now))) c.args.ledger
+framed_for c = c.frame.ensures ∙ ap (λ (n : ℕ). seen_by (framed c.args.ledger n) c.args.ledger) (as_room c)
 
-pub returns-then-not-counted : goal.returns-then-not-counted
-returns-then-not-counted c =
-    let s = c in
-    let no = by_counts _ _ _ (passes (goal.at.returns-then-not-counted s).Else-not-seen) _ s.scan-scanned.ensures.0 _ s.scan-scanned.ensures.1 ∙ sym c.counted.ensures ∙ c.if-not-counted.true in
-    seen_none _ no c.unseen-then-not-counted.ensures
+-- what the pass finds among the lines l
+abbrev found : (c : After-scan) → List Entry → ℕ
+found c l = voided_in l
 
-pub returns : goal.returns
-returns c =
-    let s = c in
-    let a = s.args in
-    let yes = by_counts _ _ _ (passes (goal.at.returns s).Else-not-seen) _ s.scan-scanned.ensures.0 _ s.scan-scanned.ensures.1 ∙ sym c.counted.ensures ∙ c.if-not-counted.false in
-    s.frame-seen.ensures ∙ ap (λ (b : Bool). seen_by b a.ledger) (passes (goal.at.returns s).Else-not-seen ∙ sym yes)
+-- what it answers
+passed : (c : After-scan) → let w = written c.args.ledger (columns c.args.orders.now c.args.items.now) in c.scan.result ≡ if_sound w (found c w)
+passed c =
+    let lines = part_written c.args.orders.now c.args.items.now c.of-lent.result c.of-lent.ensures c.args.ledger c.part.result c.part.ensures.lines in
+    c.scan.ensures ∙ ap (λ (l : List Entry). if_sound l (found c l)) lines
 
-pub slice_bounds-scan-end : goal.slice_bounds-scan-end
-slice_bounds-scan-end c =
-    let a = c.args in sym (orders_within a.ledger a.orders.now a.items.now (passes (goal.at.slice_bounds-scan-end c).Else-not-seen))
+pub returns-in_err-count : goal.returns-in_err-count
+returns-in_err-count c =
+    let r = c.args.ledger in
+    let col = columns c.args.orders.now c.args.items.now in
+    let no = seen_none r (sym c.in_err-count.was ∙ framed_for (goal.at.returns-in_err-count c).After-frame) in
+    c.from_residual.ensures ∙ seen_not r (not_framed r col no)
 
-pub slice_bounds-scan-end-2 : goal.slice_bounds-scan-end-2
-slice_bounds-scan-end-2 c =
-    let a = c.args in sym (items_within a.ledger a.orders.now a.items.now (passes (goal.at.slice_bounds-scan-end-2 c).Else-not-seen))
+pub part-requires : goal.part-requires
+part-requires c =
+    let f = (goal.at.part-requires c).After-frame in
+    let t = seen_some c.args.ledger (sym c.in_ok-count.was ∙ framed_for f) in
+    (omega arith, omega (arith, (frame_room c.args.ledger _ t.0).0, as_room f, c.len.ensures))
 
-pub scan-scanned-requires : goal.scan-scanned-requires
-scan-scanned-requires c = passable _ _ _ (passes (goal.at.scan-scanned-requires c).Else-not-seen)
+pub scan-requires : goal.scan-requires
+scan-requires c =
+    let t = seen_some c.args.ledger (sym c.in_ok-count.was ∙ framed_for (goal.at.scan-requires c).After-frame) in
+    part_few c.args.orders.now c.args.items.now c.of-lent.result c.of-lent.ensures c.args.ledger c.part.result t.0 c.part.ensures.orders
+
+pub returns-in_err-zeros : goal.returns-in_err-zeros
+returns-in_err-zeros c =
+    let r = c.args.ledger in
+    let col = columns c.args.orders.now c.args.items.now in
+    let no = sound_none (written r col) _ (sym c.in_err-zeros.was ∙ passed (goal.at.returns-in_err-zeros c).After-scan) in
+    c.from_residual-in_err-zeros.ensures ∙ seen_not r (not_sound r col no)
 
 pub counted-requires : goal.counted-requires
 counted-requires c =
-    let a = c.args in few_zeros a.ledger a.orders.now a.items.now (passes (goal.at.counted-requires c).Else-not-seen) _ c.scan-scanned.ensures.0
+    let r = c.args.ledger in
+    let col = columns c.args.orders.now c.args.items.now in
+    let t = seen_some r (sym c.in_ok-count.was ∙ framed_for (goal.at.counted-requires c).After-frame) in
+    let s = sound_some (written r col) (sym c.in_ok-zeros.was ∙ passed (goal.at.counted-requires c).After-scan) in
+    few_zeros r col t.0 s.1
+
+pub returns : goal.returns
+returns c =
+    let r = c.args.ledger in
+    let col = columns c.args.orders.now c.args.items.now in
+    let t = seen_some r (sym c.in_ok-count.was ∙ framed_for (goal.at.returns c).After-frame) in
+    let s = sound_some (written r col) (sym c.in_ok-zeros.was ∙ passed (goal.at.returns c).After-scan) in
+    let tested = c.counted.ensures ∙ sym (by_counts r col t.0 s.1 s.0) in
+    c.then_some.ensures ∙ seen_tested r tested t.1

@@ -1,86 +1,82 @@
 -- `integrity::examine_all` meets its contract.
-use borrow.Author.Tests.{not-true, not-false}
-use mathlib.Core.Path.{◌≡◌, sym, ap, ◌∙◌}
-use mathlib.Core.Bool.{true}
-use Prim.Native.Nat.{ℕ, min}
-use native.Mathlib.Omega.{arith}
-use lib.ListN.{length, take}
-use lib.Seq.{length-take-le}
-use Rattle.model.specs.Entry.{columns, pairs, room}
+use Rattle.std.proofs.Common.{◌≡◌, ℕ, List, sym, ap, ◌∙◌, arith}
+use Rattle.model.specs.Entry.{Entry, columns, room, voided_in, pairs}
+use Rattle.model.specs.Record.{written}
+use Rattle.integrity.specs.Examine.{framed, seen_by}
+use Rattle.integrity.specs.Lines.{lines_in, if_sound}
 use Rattle.integrity.specs.Again.{first_again, place_again}
-use Rattle.integrity.specs.Examine.{framed}
-use Rattle.integrity.proofs.Pairs.{pairs_cut}
-use Rattle.integrity.proofs.Checks.{seen_fits, seen_count, met_none, met_made, not_framed, few_zeros, by_counts}
-use Rattle.integrity.proofs.Checks.{as_written, orders_within, items_within, passable}
+use Rattle.integrity.specs.declared.meet.Swept.{Swept}
+use Rattle.integrity.proofs.Checks.{seen_some, seen_none, met_not, met_tested, frame_room, not_framed, not_sound, few_zeros, by_counts}
+use Rattle.integrity.proofs.Checks.{lent_room, part_written, part_few}
+use Rattle.integrity.proofs.Passes.{sound_some, sound_none}
 use Rattle.integrity.proofs.examine_all.Goals as goal
-use Rattle.integrity.proofs.examine_all.Goals.{After-lesser-k, Else-not-tested}
+use Rattle.integrity.proofs.examine_all.Goals.{After-frame, After-meet}
 
-pub returns-then-not-tested : goal.returns-then-not-tested
-returns-then-not-tested c =
-    let no = sym (seen_fits _ c.frame-tested.ensures) ∙ not-true _ c.if-not-tested.true in
-    met_none _ _ _ (not_framed _ _ no) c.unmet.ensures
+-- the room of the columns
+as_room : (c : After-frame) → c.len.result ≡ room (columns c.args.orders.now c.args.items.now)
+as_room c = c.len.ensures ∙ lent_room c.args.orders.now c.args.items.now c.of-lent.result c.of-lent.ensures
 
--- the tests that look at no line pass
-passes : (c : Else-not-tested) → let a = c.args in framed a.ledger (room (columns a.orders.now a.items.now)) ≡ true
-passes c = sym (seen_fits _ c.frame-tested.ensures) ∙ not-false _ c.if-not-tested.false
+framed_for : (c : After-frame) → c.frame.result ≡ seen_by (framed c.args.ledger (room (columns c.args.orders.now c.args.items.now))) c.args.ledger
+framed_for c = c.frame.ensures ∙ ap (λ (n : ℕ). seen_by (framed c.args.ledger n) c.args.ledger) (as_room c)
 
--- the orders of the bundle that have an item line
-module _ (c : After-lesser-k) where
-  abbrev k : ℕ
-  k = c.lesser-k.result
+-- what the pass finds among the lines l
+abbrev found : (c : After-meet) → List Entry → Swept
+found c l = record { zeros = voided_in l; first = first_again l (pairs c.args.bundle.now c.args.itemlines.now); place = place_again l (pairs c.args.bundle.now c.args.itemlines.now) }
 
-  fewest : k ≡ min (length c.args.bundle.now) (length c.args.itemlines.now)
-  fewest = c.lesser-k.ensures
+-- what it answers
+passed : (c : After-meet) → let w = written c.args.ledger (columns c.args.orders.now c.args.items.now) in c.meet.result ≡ if_sound w (found c w)
+passed c =
+    let lines = part_written c.args.orders.now c.args.items.now c.of-lent.result c.of-lent.ensures c.args.ledger c.part-lines.result c.part-lines.ensures.lines in
+    let es = c.of.ensures in
+    c.meet.ensures
+    ∙ ap (λ (m : List Entry). if_sound (lines_in c.part-lines.result) (record {
+      zeros = voided_in (lines_in c.part-lines.result);
+      first = first_again (lines_in c.part-lines.result) m;
+      place = place_again (lines_in c.part-lines.result) m;
+    })) es
+    ∙ ap (λ (l : List Entry). if_sound l (found c l)) lines
 
-  pub orders_cut : length (take k c.args.bundle.now) ≡ k
-  orders_cut = length-take-le k _ (omega (arith, fewest))
+pub returns-in_err-count : goal.returns-in_err-count
+returns-in_err-count c =
+    let r = c.args.ledger in
+    let col = columns c.args.orders.now c.args.items.now in
+    let es = columns c.args.bundle.now c.args.itemlines.now in
+    let no = seen_none r (sym c.in_err-count.was ∙ framed_for (goal.at.returns-in_err-count c).After-frame) in
+    c.from_residual.ensures ∙ met_not r col es (not_framed r col no)
 
-  pub items_cut : length (take k c.args.itemlines.now) ≡ k
-  items_cut = length-take-le k _ (omega (arith, fewest))
+pub part-lines-requires : goal.part-lines-requires
+part-lines-requires c =
+    let f = (goal.at.part-lines-requires c).After-frame in
+    let t = seen_some c.args.ledger (sym c.in_ok-count.was ∙ framed_for f) in
+    (omega arith, omega (arith, (frame_room c.args.ledger _ t.0).0, as_room f, c.len.ensures))
 
-  pub bundle_cut : pairs (take k c.args.bundle.now) (take k c.args.itemlines.now)
-      ≡ pairs c.args.bundle.now c.args.itemlines.now
-  bundle_cut =
-      ap (λ (n : ℕ). pairs (take n c.args.bundle.now) (take n c.args.itemlines.now)) fewest
-      ∙ pairs_cut c.args.bundle.now c.args.itemlines.now
+pub meet-requires : goal.meet-requires
+meet-requires c =
+    let t = seen_some c.args.ledger (sym c.in_ok-count.was ∙ framed_for (goal.at.meet-requires c).After-frame) in
+    part_few c.args.orders.now c.args.items.now c.of-lent.result c.of-lent.ensures c.args.ledger c.part-lines.result t.0 c.part-lines.ensures.orders
 
-pub returns-then-not-counted : goal.returns-then-not-counted
-returns-then-not-counted c =
-    let m = c in
-    let no = by_counts _ _ _ (passes (goal.at.returns-then-not-counted m).Else-not-tested) _ m.meet-swept.ensures.zeros _ m.meet-swept.ensures.sound ∙ sym c.counted.ensures ∙ c.if-not-counted.true in
-    met_none _ _ _ no c.unmet-then-not-counted.ensures
-
-pub returns : goal.returns
-returns c =
-    let m = c in
-    let a = m.args in
-    let s = m.meet-swept.ensures in
-    let yes = by_counts _ _ _ (passes (goal.at.returns m).Else-not-tested) _ s.zeros _ s.sound ∙ sym c.counted.ensures ∙ c.if-not-counted.false in
-    let l = as_written a.ledger a.orders.now a.items.now (passes (goal.at.returns m).Else-not-tested) in
-    let es = bundle_cut (goal.at.returns m).After-lesser-k in
-    met_made _ _ _ yes (seen_count _ (passes (goal.at.returns m).Else-not-tested) m.frame-tested.ensures) (s.first ∙ (λ i. first_again (l i) (es i))) (s.place ∙ (λ i. place_again (l i) (es i)))
-
-pub meet-swept-requires : goal.meet-swept-requires
-meet-swept-requires c =
-    let a = c.args in
-    let l = c in
-    let p = passable a.ledger a.orders.now a.items.now (passes (goal.at.meet-swept-requires c).Else-not-tested) in
-    (p.1, p.0, items_cut (goal.at.meet-swept-requires l).After-lesser-k ∙ sym (orders_cut (goal.at.meet-swept-requires l).After-lesser-k))
-
-pub slice_bounds-meet-end : goal.slice_bounds-meet-end
-slice_bounds-meet-end c =
-    let a = c.args in sym (orders_within a.ledger a.orders.now a.items.now (passes (goal.at.slice_bounds-meet-end c).Else-not-tested))
-
-pub slice_bounds-meet-end-2 : goal.slice_bounds-meet-end-2
-slice_bounds-meet-end-2 c =
-    let a = c.args in sym (items_within a.ledger a.orders.now a.items.now (passes (goal.at.slice_bounds-meet-end-2 c).Else-not-tested))
-
-pub slice_bounds-meet-end-3 : goal.slice_bounds-meet-end-3
-slice_bounds-meet-end-3 c = sym (orders_cut (goal.at.slice_bounds-meet-end-3 c).After-lesser-k)
-
-pub slice_bounds-meet-end-4 : goal.slice_bounds-meet-end-4
-slice_bounds-meet-end-4 c = sym (items_cut (goal.at.slice_bounds-meet-end-4 c).After-lesser-k)
+pub returns-in_err-swept : goal.returns-in_err-swept
+returns-in_err-swept c =
+    let r = c.args.ledger in
+    let col = columns c.args.orders.now c.args.items.now in
+    let es = columns c.args.bundle.now c.args.itemlines.now in
+    let no = sound_none (written r col) _ (sym c.in_err-swept.was ∙ passed (goal.at.returns-in_err-swept c).After-meet) in
+    c.from_residual-in_err-swept.ensures ∙ met_not r col es (not_sound r col no)
 
 pub counted-requires : goal.counted-requires
 counted-requires c =
-    let a = c.args in few_zeros a.ledger a.orders.now a.items.now (passes (goal.at.counted-requires c).Else-not-tested) _ c.meet-swept.ensures.zeros
+    let r = c.args.ledger in
+    let col = columns c.args.orders.now c.args.items.now in
+    let t = seen_some r (sym c.in_ok-count.was ∙ framed_for (goal.at.counted-requires c).After-frame) in
+    let s = sound_some (written r col) (sym c.in_ok-swept.was ∙ passed (goal.at.counted-requires c).After-meet) in
+    few_zeros r col t.0 (ap (λ (p : Swept). p.zeros) s.1)
+
+pub returns : goal.returns
+returns c =
+    let r = c.args.ledger in
+    let col = columns c.args.orders.now c.args.items.now in
+    let es = columns c.args.bundle.now c.args.itemlines.now in
+    let t = seen_some r (sym c.in_ok-count.was ∙ framed_for (goal.at.returns c).After-frame) in
+    let s = sound_some (written r col) (sym c.in_ok-swept.was ∙ passed (goal.at.returns c).After-meet) in
+    let tested = c.counted.ensures ∙ sym (by_counts r col t.0 (ap (λ (p : Swept). p.zeros) s.1) s.0) in
+    c.then_some.ensures ∙ met_tested r col es tested t.1 (ap (λ (p : Swept). p.first) s.1) (ap (λ (p : Swept). p.place) s.1)

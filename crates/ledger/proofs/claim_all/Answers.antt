@@ -1,12 +1,11 @@
 -- `ledger::claim_all` meets its contract.
+use Rattle.reply.proofs.Exits.{some_number}
 use mathlib.Core.Path.{◌≡◌, refl, sym, ap, ◌∙◌}
 use mathlib.Core.List.{List, ◌++◌, append_assoc}
 use Prim.Native.Nat.{ℕ, ◌+◌, ◌-◌, ◌≤◌}
 use native.Mathlib.Omega.{arith}
 use lib.ListN.{length, take, drop, length-drop}
 use lib.Seq.{length-take-le, drop-drop, sets, sets-eq}
-use Rattle.bounds.specs.Places.{copied}
-use Rattle.bounds.proofs.Cells.{copied_same}
 use Rattle.model.specs.Entry.{Lent, columns, entries_in, put}
 use Rattle.model.specs.Model.{Call}
 use Rattle.model.proofs.Entries.{room_entries, orders_back, items_back}
@@ -15,23 +14,23 @@ use Rattle.model.proofs.Replies.{Writing, writing, entered_next}
 use Rattle.ledger.specs.Counting.{counting}
 use Rattle.ledger.proofs.Counts.{paired, counts_all}
 use Rattle.ledger.proofs.claim_all.Goals as goal
-use Rattle.ledger.proofs.claim_all.Goals.{After-copy, Else-taken-ne0}
+use Rattle.ledger.proofs.claim_all.Goals.{In-Ok}
 
-pub returns-then-taken-ne0 : goal.returns-then-taken-ne0
-returns-then-taken-ne0 c = calling_refused _ _ _ _ c.claim_all-taken.ensures c.if-taken-ne0.true
+pub returns-in-Err : goal.returns-in-Err
+returns-in-Err c = rw c.turned_away.ensures (calling_refused _ _ _ _ c.in-Err.ensures (some_number c.in-Err.failed))
 
-wrote : (c : Else-taken-ne0)
+wrote : (c : In-Ok)
     → let a = c.args in
     Writing a.ledger (columns a.orders.now a.items.now) (Call.claim_all a.serial (columns a.bundle.now a.itemlines.now))
-wrote c = writing _ _ _ _ c.claim_all-taken.ensures c.if-taken-ne0.false
+wrote c = writing _ _ _ _ c.in-Ok.ensures refl
 
 -- an accepted bundle has an item line for each order
-module _ (c : Else-taken-ne0) where
+module _ (c : In-Ok) where
   abbrev bundle : Lent
   bundle = columns c.args.bundle.now c.args.itemlines.now
 
   pub even : length bundle.items ≡ length bundle.orders
-  even = paired _ _ _ _ _ c.claim_all-taken.ensures c.if-taken-ne0.false
+  even = paired _ _ _ _ _ c.in-Ok.ensures refl
 
   pub long : length (entries_in bundle) ≡ length bundle.orders
   long = omega (arith, room_entries bundle, even)
@@ -42,7 +41,7 @@ record Inside (entries lines orders items : ℕ) : Type 0 where
   pub fits_items : entries + lines ≤ items
   pub few : entries + lines ≤ 1000000
 
-inside : (c : Else-taken-ne0)
+inside : (c : In-Ok)
     → let a = c.args in
     Inside a.ledger.entries (length a.bundle.now) (length a.orders.now) (length a.items.now)
 inside c =
@@ -57,10 +56,10 @@ inside c =
 
 pub following-next-requires : goal.following-next-requires
 following-next-requires c =
-    let w = wrote (goal.at.following-next-requires c).Else-taken-ne0 in let p = parts _ _ w.belongs in (p.few, p.next, omega (arith, w.inside))
+    let w = wrote (goal.at.following-next-requires c).In-Ok in let p = parts _ _ w.belongs in (p.few, p.next, omega (arith, w.inside))
 
 pub counted-requires : goal.counted-requires
-counted-requires c = let f = c in ((inside (goal.at.counted-requires f).Else-taken-ne0).few, f.following-next.ensures)
+counted-requires c = let f = c in ((inside (goal.at.counted-requires f).In-Ok).few, f.following-next.ensures)
 
 -- a part of a column, and the column with that part written over
 part_size : (col : List ℕ) (at n : ℕ) → at + n ≤ length col → length (take (at + n - at) (drop at col)) ≡ n
@@ -71,24 +70,6 @@ laid : (col es new : List ℕ) (at n : ℕ) → n ≡ length es → at + n ≤ l
 laid col es new at n e fits is =
     let wide : at + n - at ≡ length es = omega arith in
     rw (is, wide, drop-drop (length es) at col) (sym (append_assoc (take at col) es (drop (at + length es) col)) ∙ sym (sets-eq es col at (omega arith)))
-
-pub lay-requires : goal.lay-requires
-lay-requires c =
-    let e = c in
-    let a = e.args in
-    part_size a.orders.now a.ledger.entries (length a.bundle.now) (inside (goal.at.lay-requires e).Else-taken-ne0).fits
-
--- the item lines that are copied
-copied_items : (c : After-copy)
-    → let a = c.args in
-    let at = a.ledger.entries in
-    let n = length a.bundle.now in
-    copied a.itemlines.now (take (at + n - at) (drop at a.items.now)) ≡ a.itemlines.now
-copied_items c =
-    let e = c in
-    let a = e.args in
-    copied_same a.itemlines.now _
-    (part_size a.items.now a.ledger.entries (length a.bundle.now) (inside (goal.at.After-copy e).Else-taken-ne0).fits_items ∙ sym (even (goal.at.After-copy e).Else-taken-ne0))
 
 -- both columns, with the lines of the bundle
 both_laid : (os is os' is' : List ℕ) (at : ℕ) (b : Lent) → length b.items ≡ length b.orders
@@ -103,31 +84,33 @@ pub returns : goal.returns
 returns c =
     let e = c in
     let a = e.args in
-    let i = inside (goal.at.returns e).Else-taken-ne0 in
-    let os = laid a.orders.now a.bundle.now _ a.ledger.entries _ refl i.fits c.lay.ensures in
-    let is = laid a.items.now a.itemlines.now _ a.ledger.entries _ (sym (even (goal.at.returns e).Else-taken-ne0)) i.fits_items
-    (c.copy.ensures ∙ copied_items (goal.at.returns c).After-copy) in
-    let more = ap (λ (n : ℕ). counting a.ledger n (a.ledger.sold + n) a.ledger.voided) (sym (long (goal.at.returns e).Else-taken-ne0)) in
+    let i = inside (goal.at.returns e).In-Ok in
+    let os = laid a.orders.now a.bundle.now _ a.ledger.entries _ refl i.fits c.copy_from_slice.ensures.after in
+    let is = laid a.items.now a.itemlines.now _ a.ledger.entries _ (sym (even (goal.at.returns e).In-Ok)) i.fits_items
+    c.copy_from_slice-2.ensures.after in
+    let more = ap (λ (n : ℕ). counting a.ledger n (a.ledger.sold + n) a.ledger.voided) (sym (long (goal.at.returns e).In-Ok)) in
     rw c.counted.ensures
-    (calling_accepted _ _ _ _ e.claim_all-taken.ensures _ _ e.if-taken-ne0.false
-    (more ∙ counts_all _ _ _ _ _ e.claim_all-taken.ensures e.if-taken-ne0.false (wrote (goal.at.returns e).Else-taken-ne0))
-    (both_laid _ _ _ _ _ (bundle (goal.at.returns e).Else-taken-ne0) (even (goal.at.returns e).Else-taken-ne0) os is ∙ sym (entered_next _ _ _ (wrote (goal.at.returns e).Else-taken-ne0))))
+    (calling_accepted _ _ _ _ e.in-Ok.ensures _ _ refl
+    (more ∙ counts_all _ _ _ _ _ e.in-Ok.ensures refl (wrote (goal.at.returns e).In-Ok))
+    (both_laid _ _ _ _ _ (bundle (goal.at.returns e).In-Ok) (even (goal.at.returns e).In-Ok) os is ∙ sym (entered_next _ _ _ (wrote (goal.at.returns e).In-Ok))))
 
 pub overflow_add-end : goal.overflow_add-end
-overflow_add-end c = omega (arith, (inside (goal.at.overflow_add-end c).Else-taken-ne0).few)
+overflow_add-end c = omega (arith, (inside (goal.at.overflow_add-end c).In-Ok).few)
 
 pub offset_bounds-orders-at : goal.offset_bounds-orders-at
-offset_bounds-orders-at c = omega (arith, (inside (goal.at.offset_bounds-orders-at c).Else-taken-ne0).fits)
-
-pub slice_bounds-lay-end : goal.slice_bounds-lay-end
-slice_bounds-lay-end c = (inside (goal.at.slice_bounds-lay-end c).Else-taken-ne0).fits
-
-pub slice_bounds-copy-start : goal.slice_bounds-copy-start
-slice_bounds-copy-start c = omega (arith, (inside (goal.at.slice_bounds-copy-start c).Else-taken-ne0).fits_items)
-
-pub slice_bounds-copy-end : goal.slice_bounds-copy-end
-slice_bounds-copy-end c = (inside (goal.at.slice_bounds-copy-end c).Else-taken-ne0).fits_items
+offset_bounds-orders-at c = omega (arith, (inside (goal.at.offset_bounds-orders-at c).In-Ok).fits)
 
 pub overflow_add-ledger : goal.overflow_add-ledger
 overflow_add-ledger c =
-    let e = c in omega (arith, (inside (goal.at.overflow_add-ledger e).Else-taken-ne0).few, (parts _ _ (wrote (goal.at.overflow_add-ledger e).Else-taken-ne0).belongs).few_sold)
+    let e = c in omega (arith, (inside (goal.at.overflow_add-ledger e).In-Ok).few, (parts _ _ (wrote (goal.at.overflow_add-ledger e).In-Ok).belongs).few_sold)
+
+pub slice_bounds-copy_from_slice-end : goal.slice_bounds-copy_from_slice-end
+slice_bounds-copy_from_slice-end c = (inside (goal.at.slice_bounds-copy_from_slice-end c).In-Ok).fits
+
+pub slice_bounds-copy_from_slice-end-2 : goal.slice_bounds-copy_from_slice-end-2
+slice_bounds-copy_from_slice-end-2 c = (inside (goal.at.slice_bounds-copy_from_slice-end-2 c).In-Ok).fits_items
+
+pub copy_from_slice-requires-2 : goal.copy_from_slice-requires-2
+copy_from_slice-requires-2 c =
+    let a = (goal.at.copy_from_slice-requires-2 c).In-Ok in
+    part_size c.args.items.now c.args.ledger.entries (length c.args.bundle.now) (inside a).fits_items ∙ sym (even a)

@@ -1,5 +1,6 @@
 -- `ledger::void` meets its contract.
-use mathlib.Core.Path.{sym}
+use mathlib.Core.Path.{refl, sym}
+use Rattle.reply.proofs.Exits.{some_number}
 use Prim.Native.Nat.{◌<◌}
 use native.Mathlib.Omega.{arith}
 use lib.ListN.{length}
@@ -9,45 +10,45 @@ use Rattle.model.proofs.Records.{parts, calling_refused, calling_accepted}
 use Rattle.model.proofs.Replies.{Writing, writing, entered_next}
 use Rattle.ledger.proofs.Counts.{counts_void}
 use Rattle.ledger.proofs.void.Goals as goal
-use Rattle.ledger.proofs.void.Goals.{Else-voided-ne0}
+use Rattle.ledger.proofs.void.Goals.{In-Ok}
 
-pub returns-then-voided-ne0 : goal.returns-then-voided-ne0
-returns-then-voided-ne0 c = calling_refused _ _ _ _ c.void-voided.ensures c.if-voided-ne0.true
+pub returns-in-Err : goal.returns-in-Err
+returns-in-Err c = rw c.turned_away.ensures (calling_refused _ _ _ _ c.in-Err.ensures (some_number c.in-Err.refused))
 
-wrote : (c : Else-voided-ne0)
+wrote : (c : In-Ok)
     → let a = c.args in
     Writing a.ledger (columns a.orders.now a.items.now) (Call.void a.serial)
-wrote c = writing _ _ _ _ c.void-voided.ensures c.if-voided-ne0.false
+wrote c = writing _ _ _ _ c.in-Ok.ensures refl
 
 -- the next entry is one of both columns
-inside : (c : Else-voided-ne0)
+inside : (c : In-Ok)
     → let a = c.args in (a.ledger.entries < length a.orders.now) × (a.ledger.entries < length a.items.now)
 inside c = let w = wrote c in let f = (parts _ _ w.belongs).fits in (omega (arith, w.inside, f), omega (arith, w.inside, f))
 
 pub following-after-requires : goal.following-after-requires
 following-after-requires c =
-    let w = wrote (goal.at.following-after-requires c).Else-voided-ne0 in let p = parts _ _ w.belongs in (p.few, p.next, omega (arith, w.inside))
+    let w = wrote (goal.at.following-after-requires c).In-Ok in let p = parts _ _ w.belongs in (p.few, p.next, omega (arith, w.inside))
 
 pub counted-requires : goal.counted-requires
 counted-requires c =
-    let w = wrote (goal.at.counted-requires c).Else-voided-ne0 in
+    let w = wrote (goal.at.counted-requires c).In-Ok in
     (omega (arith, w.inside, (parts _ _ w.belongs).small), c.following-after.ensures)
 
 pub returns : goal.returns
 returns c =
     let e = c in
     rw c.counted.ensures
-    (calling_accepted _ _ _ _ e.void-voided.ensures _ _ e.if-voided-ne0.false
-    (counts_void e.args.ledger e.args.serial) (sym (entered_next _ _ _ (wrote (goal.at.returns e).Else-voided-ne0))))
+    (calling_accepted _ _ _ _ e.in-Ok.ensures _ _ refl
+    (counts_void e.args.ledger e.args.serial) (sym (entered_next _ _ _ (wrote (goal.at.returns e).In-Ok))))
 
 pub offset_bounds-orders-entry : goal.offset_bounds-orders-entry
-offset_bounds-orders-entry c = omega (arith, (inside (goal.at.offset_bounds-orders-entry c).Else-voided-ne0).0)
+offset_bounds-orders-entry c = omega (arith, (inside (goal.at.offset_bounds-orders-entry c).In-Ok).0)
 
 pub bounds-orders-entry : goal.bounds-orders-entry
-bounds-orders-entry c = (inside (goal.at.bounds-orders-entry c).Else-voided-ne0).0
+bounds-orders-entry c = (inside (goal.at.bounds-orders-entry c).In-Ok).0
 
 pub bounds-items-entry : goal.bounds-items-entry
-bounds-items-entry c = (inside (goal.at.bounds-items-entry c).Else-voided-ne0).1
+bounds-items-entry c = (inside (goal.at.bounds-items-entry c).In-Ok).1
 
 pub overflow_add-ledger : goal.overflow_add-ledger
-overflow_add-ledger c = omega (arith, (parts _ _ (wrote (goal.at.overflow_add-ledger c).Else-voided-ne0).belongs).few_voided)
+overflow_add-ledger c = omega (arith, (parts _ _ (wrote (goal.at.overflow_add-ledger c).In-Ok).belongs).few_voided)

@@ -1,11 +1,11 @@
 -- `ledger::written` meets its contract.
-use mathlib.Core.Path.{sym, ◌∙◌}
+use Rattle.std.proofs.Common.{sym}
 use Rattle.model.proofs.Records.{entries_none, entries_some}
-use Rattle.integrity.proofs.Checks.{seen_fits}
+use Rattle.integrity.proofs.Checks.{seen_some, seen_none}
 use Rattle.ledger.proofs.written.Goals as goal
 
-pub returns-then-seen : goal.returns-then-seen
-returns-then-seen c = sym (entries_some _ _ (sym (seen_fits _ c.examine-seen.ensures) ∙ c.if-seen.true))
+pub returns-in-Some : goal.returns-in-Some
+returns-in-Some c = sym (entries_some _ _ (seen_some _ c.in-Some.ensures).0)
 
-pub returns : goal.returns
-returns c = sym (entries_none _ _ (sym (seen_fits _ c.examine-seen.ensures) ∙ c.if-seen.false))
+pub returns-in-None : goal.returns-in-None
+returns-in-None c = sym (entries_none _ _ (seen_none _ c.in-None.ensures))

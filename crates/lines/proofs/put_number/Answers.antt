@@ -18,10 +18,8 @@ bounds-out-at c = omega (arith, length_small c.args.n (omega arith), c.requires)
 
 pub put_two-requires : goal.put_two-requires
 put_two-requires c =
-    let start = c in
-    (omega arith, omega (arith, length_two start.args.n (omega arith) (omega arith), start.requires))
+    (omega arith, omega (arith, length_two c.args.n (omega arith) (omega arith), c.requires))
 
 pub returns-then-n-lt100 : goal.returns-then-n-lt100
 returns-then-n-lt100 c =
-    let start = c in
-    retold (sym (decimal_two start.args.n (omega arith) (omega arith))) c.put_two.ensures
+    retold (sym (decimal_two c.args.n (omega arith) (omega arith))) c.put_two.ensures

@@ -4,25 +4,25 @@ use native.Mathlib.Omega.{arith}
 use Rattle.listing.proofs.Turns.{Turns, Turn, Part, single_room, walked_single, turns_begin, turns_at, turns_more}
 use Rattle.listing.proofs.Turns.{turn_within, walk_shorter, part_begins, part_done, rising_turn, falling_turn}
 use Rattle.listing.proofs.+falling_rising.Goals as goal
-use Rattle.listing.proofs.+falling_rising.Goals.{falling-After-lesser-most, falling-In-loop-j, falling-Joined-is_odd, falling-then-is_odd, falling-else-is_odd}
-use Rattle.listing.proofs.+falling_rising.Goals.{rising-After-lesser-most, rising-In-loop-j, rising-Joined-is_odd, rising-then-is_odd, rising-else-is_odd}
+use Rattle.listing.proofs.+falling_rising.Goals.{falling-After-min-most, falling-In-loop-j, falling-Joined-is_odd, falling-then-is_odd, falling-else-is_odd}
+use Rattle.listing.proofs.+falling_rising.Goals.{rising-After-min-most, rising-In-loop-j, rising-Joined-is_odd, rising-then-is_odd, rising-else-is_odd}
 
 -- ---- falling
 
 -- the part that the loop goes over
-falling_part : (t : ℕ) (c : falling-After-lesser-most t) →
+falling_part : (t : ℕ) (c : falling-After-min-most t) →
     let a = c.args in
-    let bound = c.wide-bound.result in
-    Part a.upper.now a.parts a.rest a.t a.g.now a.out.now (a.parts - 1) bound (a.room - bound) c.over-least.result
-    c.lesser-most.result
-falling_part t c = part_begins c.requires.1 c.if-parts-eq1.false refl c.wide-bound.ensures refl c.over-least.ensures c.lesser-most.ensures
+    let bound = c.from-bound.result in
+    Part a.upper.now a.parts a.rest a.t a.g.now a.out.now (a.parts - 1) bound (a.room - bound) c.saturating_sub-least.result
+    c.min-most.result
+falling_part t c = part_begins c.requires.1 c.if-parts-eq1.false refl c.from-bound.ensures refl c.saturating_sub-least.ensures c.min-most.ensures
 
 -- a turn of it
 falling_turn_at : (t : ℕ) (c : falling-In-loop-j t) →
     let l = c.loop-j in
     let a = c.args in
-    Turn a.upper.now (a.parts - 1) (a.room - c.wide-bound.result) a.rest a.t a.g.now a.out.now l.j
-    (c.lesser-most.result - l.j) l.g l.out l.at
+    Turn a.upper.now (a.parts - 1) (a.room - c.from-bound.result) a.rest a.t a.g.now a.out.now l.j
+    (c.min-most.result - l.j) l.g l.out l.at
 falling_turn_at t c = let inv = c.loop-j.invariant in falling_turn inv.0 (omega arith) inv.2 inv.1 refl
 
 -- the shorter edition has a part fewer
@@ -82,19 +82,19 @@ falling-returns t c = let inv = c.loop-j.invariant in part_done inv.0 inv.2 (ome
 -- ---- rising
 
 -- the part that the loop goes over
-rising_part : (t : ℕ) (c : rising-After-lesser-most t) →
+rising_part : (t : ℕ) (c : rising-After-min-most t) →
     let a = c.args in
-    let bound = c.wide-bound.result in
-    Part a.upper.now a.parts a.rest a.t a.g.now a.out.now (a.parts - 1) bound (a.room - bound) c.over-least.result
-    c.lesser-most.result
-rising_part t c = part_begins c.requires.1 c.if-parts-eq1.false refl c.wide-bound.ensures refl c.over-least.ensures c.lesser-most.ensures
+    let bound = c.from-bound.result in
+    Part a.upper.now a.parts a.rest a.t a.g.now a.out.now (a.parts - 1) bound (a.room - bound) c.saturating_sub-least.result
+    c.min-most.result
+rising_part t c = part_begins c.requires.1 c.if-parts-eq1.false refl c.from-bound.ensures refl c.saturating_sub-least.ensures c.min-most.ensures
 
 -- a turn of it
 rising_turn_at : (t : ℕ) (c : rising-In-loop-j t) →
     let l = c.loop-j in
     let a = c.args in
-    Turn a.upper.now (a.parts - 1) (a.room - c.wide-bound.result) a.rest a.t a.g.now a.out.now l.j
-    (c.over-least.result + l.j) l.g l.out l.at
+    Turn a.upper.now (a.parts - 1) (a.room - c.from-bound.result) a.rest a.t a.g.now a.out.now l.j
+    (c.saturating_sub-least.result + l.j) l.g l.out l.at
 rising_turn_at t c = let inv = c.loop-j.invariant in rising_turn inv.0 (omega arith) inv.2 inv.1 refl
 
 -- the shorter edition has a part fewer

@@ -1,31 +1,25 @@
--- `mahonian::read` meets its contract: one `simp` of the tests at each return.
-use mathlib.Core.Path.{◌≡◌, ap, ◌∙◌}
-use Prim.Native.Nat.{◌≤◌, ◌<◌, ◌+◌}
-use native.Mathlib.Omega.{arith}
+-- `mahonian::read` meets its contract.
+use Rattle.std.proofs.Common.{◌≡◌, ◌+◌, ◌≤◌, ◌<◌, Some, ap, ◌∙◌, get_or, arith}
 use borrow.Author.Tests.{le-leb, lt-leb}
-use lib.ListN.{get_or}
 use Rattle.mahonian.specs.Mahonian.{top}
 use Rattle.mahonian.specs.Table.{table, start}
 use Rattle.mahonian.specs.Read.{read_of}
-use Rattle.mahonian.specs.declared.Entry.TheVariants.{Count}
 use Rattle.mahonian.proofs.Rows.{Row, row_at, stored_is}
 use Rattle.mahonian.proofs.read.Goals as goal
-use Rattle.mahonian.proofs.read.Goals.{After-start}
+use Rattle.mahonian.proofs.read.Goals.{After-start, then-k-lt2-via-then-k-lt2, then-k-lt2-via-else-k-lt2+then-k-gt16, then-k-lt2-via-else-k-lt2+else-k-gt16+then-top-r}
 
 pub returns-then-k-lt2 : goal.returns-then-k-lt2
 unfolding read_of
-returns-then-k-lt2 c = simp (lt-leb _ _ c.if-k-lt2.true)
-
-pub returns-then-k-gt16 : goal.returns-then-k-gt16
-unfolding read_of
-returns-then-k-gt16 c = simp (le-leb _ _ c.if-k-lt2.false, lt-leb _ _ c.if-k-gt16.true)
-
-pub returns-then-top-r : goal.returns-then-top-r
-unfolding read_of
-returns-then-top-r c =
-    let x = c.args in
-    let past : top x.k < x.r = omega arith in
-    simp (le-leb _ _ c.if-k-lt2.false, le-leb _ _ c.if-k-gt16.false, lt-leb _ _ past)
+returns-then-k-lt2 c =
+    let k = c.args.k in
+    let r = c.args.r in
+    elim c.then-k-lt2.branch [
+      | then-k-lt2-via-then-k-lt2 w ↦ simp (lt-leb 2 k w.if-k-lt2.true)
+      | then-k-lt2-via-else-k-lt2+then-k-gt16 w ↦ simp (le-leb 2 k w.if-k-lt2.false, lt-leb k 16 w.if-k-gt16.true)
+      | then-k-lt2-via-else-k-lt2+else-k-gt16+then-top-r w ↦
+          let past : top k < r = omega (arith, w.top.ensures, w.if-top-r.true) in
+          simp (le-leb 2 k w.if-k-lt2.false, le-leb k 16 w.if-k-gt16.false, lt-leb r (top k) past)
+    ]
 
 row : (c : After-start) → Row c.args.k
 row c = row_at c.args.k (omega arith)
@@ -41,8 +35,7 @@ unfolding read_of
 returns c =
     let x = c.args in
     let within : x.r ≤ top x.k = omega arith in
-    let at : c.stored.result ≡ get_or table (start x.k + x.r) 0 = c.stored.ensures ∙ ap (λ n. get_or table (n + x.r) 0)
-    c.start.ensures in
+    let at : c.stored.result ≡ get_or table (start x.k + x.r) 0 = c.stored.ensures ∙ ap (λ n. get_or table (n + x.r) 0) c.start.ensures in
     simp
     (le-leb _ _ c.if-k-lt2.false, le-leb _ _ c.if-k-gt16.false, le-leb _ _ within)
-    (ap Count (at ∙ stored_is x.k x.r (omega arith) (omega arith) within))
+    (ap Some (at ∙ stored_is x.k x.r (omega arith) (omega arith) within))

@@ -9,6 +9,3 @@ abbrev pub invariant-loop-j : goal.invariant-loop-j
 invariant-loop-j l =
     (l.j ≤ length l.g) × (l.first + l.j ≤ 255) × (l.second + l.j ≤ 255)
     × (lifts l.g l.j l.first ≡ lifts l.g l.i l.x) × (lifts l.g l.j l.second ≡ lifts l.g l.i l.y)
-
-abbrev pub decreases-loop-j : goal.decreases-loop-j
-decreases-loop-j l = l.j

@@ -1,26 +1,22 @@
--- `rank::rank` meets its contract. By what `serial_of` and `bounds_refusal` answer.
-use mathlib.Core.Path.{sym, ◌∙◌}
-use native.Mathlib.Omega.{arith}
-use lib.Arith.{le-zero}
-use Rattle.bounds.proofs.Refusals.{same_number}
+-- `rank::rank` meets its contract.
+use Rattle.bounds.proofs.Reasons.{passed_as, accepted}
 use Rattle.rank.proofs.Calls.{ranked_accepted, ranked_edition, ranked_low, ranked_high}
 use Rattle.rank.proofs.rank.Goals as goal
 
-pub returns-then-e-gt0 : goal.returns-then-e-gt0
-returns-then-e-gt0 c = let e = c.bounds_refusal-e in ranked_edition _ _ _ e.result e.ensures c.if-e-gt0.true
+pub returns-in-Ok : goal.returns-in-Ok
+returns-in-Ok c =
+    let f = c.in-Ok.ensures in
+    ranked_accepted _ _ _ c.in-Ok.found.serial f.refusal (rw f.found)
 
-pub returns-else-e-gt0 : goal.returns-else-e-gt0
-returns-else-e-gt0 c =
-    let f = c.serial_of-f in
-    let e = c.bounds_refusal-e in
-    let l = c.if-f-gt6.true in
-    ranked_high _ _ _ f.result f.ensures (omega (arith, l)) (sym (same_number e.ensures) ∙ le-zero c.if-e-gt0.false)
+pub returns-in_err-check_bounds-in-Err : goal.returns-in_err-check_bounds-in-Err
+returns-in_err-check_bounds-in-Err c =
+    let e = c.in_err-check_bounds-in-Err.field-0.0 in
+    rw (passed_as e _ c.from_residual.ensures.1) (ranked_edition _ _ _ e c.in_err-check_bounds-in-Err.ensures)
 
-pub returns-else-f-gt6 : goal.returns-else-f-gt6
-returns-else-f-gt6 c =
-    let f = c.serial_of-f in
-    let some = c.if-f-eq0.false in
-    ranked_low _ _ _ f.result f.ensures (omega (arith, some)) c.if-f-gt6.false
+pub returns-in_ok-check_bounds-in-Err : goal.returns-in_ok-check_bounds-in-Err
+returns-in_ok-check_bounds-in-Err c =
+    ranked_high _ _ _ c.in-Err.reason c.in-Err.ensures.refusal (accepted _ c.in_ok-check_bounds-in-Err.ensures)
 
-pub returns-then-f-eq0 : goal.returns-then-f-eq0
-returns-then-f-eq0 c = let f = c.serial_of-f in ranked_accepted _ _ _ f.result f.ensures c.if-f-eq0.true
+pub returns-else-number-gt6 : goal.returns-else-number-gt6
+returns-else-number-gt6 c =
+    ranked_low _ _ _ c.in-Err.reason c.in-Err.ensures.refusal (rw c.number.ensures at c.if-number-gt6.false)

@@ -11,17 +11,16 @@ use Rattle.replay.proofs.pool_fits.Goals as goal
 
 pub returns-then-left-used : goal.returns-then-left-used
 returns-then-left-used c =
-    let test = c in
-    let a = test.args in
-    let next = named_next a.rows.now test.loop-k.k (omega (arith, test.loop-k-test.true)) a.counts in
-    sym (ne_eqb a.pool (named_in a.counts a.rows.now) (λ e. absurd (omega (arith, e, next, test.loop-k.invariant, c.uses-used.ensures, c.if-left-used.true))))
+    let a = c.args in
+    let next = named_next a.rows.now c.loop-k.k (omega (arith, c.loop-k-test.true)) a.counts in
+    let used = rw c.from.ensures at c.uses-used.ensures in
+    sym (ne_eqb a.pool (named_in a.counts a.rows.now) (λ e. absurd (omega (arith, e, next, used))))
 
 pub loop-k-preserved : goal.loop-k-preserved
 loop-k-preserved c =
-    let test = c in
-    let a = test.args in
-    let next = named_next a.rows.now test.loop-k.k (omega (arith, test.loop-k-test.true)) a.counts in
-    omega (arith, next, test.loop-k.invariant, c.uses-used.ensures, c.if-left-used.false)
+    let a = c.args in
+    let next = named_next a.rows.now c.loop-k.k (omega (arith, c.loop-k-test.true)) a.counts in
+    omega (arith, next, rw c.from.ensures at c.uses-used.ensures)
 
 -- nothing is left just where the pool has what is named
 none_left : (left pool named : ℕ) → pool ≡ left + named → eqb left 0 ≡ eqb pool named

@@ -3,6 +3,11 @@ use mathlib.Core.Path.{◌≡◌, sym, ap, ◌∙◌}
 use mathlib.Core.Bool.{true}
 use Prim.Native.Nat.{ℕ}
 use lib.ListN.{length}
+use Rattle.std.proofs.Common.{Ok, Err, refl, arith}
+use Rattle.std.proofs.lemmas.Result.{err_from_is_err_and}
+use Rattle.bounds.specs.declared.Reason.{Reason}
+use Rattle.bounds.proofs.Reasons.{coded-number}
+use Rattle.model.specs.Results.{opened_of}
 use Rattle.model.specs.Basics.{all}
 use Rattle.model.specs.Entry.{columns}
 use Rattle.replay.specs.Replay.{Script, scripted, Buffers, buffers, sizes_of, sizes}
@@ -30,24 +35,24 @@ fitting c =
 fits : (c : Else-not-fits) → let s = (goal.at.Else-not-fits c).Start in all (sizes (asked s) (lent s)) ≡ true
 fits c = fitting (goal.at.Else-not-fits c).After-fits ∙ c.if-not-fits.false
 
-pub returns-then-opened-ne0 : goal.returns-then-opened-ne0
-returns-then-opened-ne0 c =
-    let s = (goal.at.returns-then-opened-ne0 c).Start in
-    let opened = c.open-opened in
-    replay_unopened _ (asked s) (lent s) opened.result opened.ensures c.if-opened-ne0.true
+pub returns-in_err-opened : goal.returns-in_err-opened
+returns-in_err-opened c =
+    let s = (goal.at.returns-in_err-opened c).Start in
+    let reason = c.in_err-opened.field-0.0 in
+    let e = err_from_is_err_and c.from_residual.result c.from_residual.ensures.1 in
+    let is : c.from_residual.result ≡ Err reason = e.1 ∙ ap (λ (r : Reason). Err r) e.2 in
+    rw is (replay_unopened _ (asked s) (lent s) (opened_of (Err reason)) c.in_err-opened.ensures (λ z. omega (arith, coded-number reason, z)))
 
 pub returns-then-not-fits : goal.returns-then-not-fits
 returns-then-not-fits c =
     let s = (goal.at.returns-then-not-fits c).Start in
-    let opened = c.open-opened in
-    replay_unfit _ (asked s) (lent s) opened.result opened.ensures c.if-opened-ne0.false
-    (fitting (goal.at.returns-then-not-fits c).After-fits ∙ c.if-not-fits.true) _ c.unopened.ensures
+    replay_unfit _ (asked s) (lent s) (opened_of (Ok c.in_ok-opened.opened)) c.in_ok-opened.ensures refl
+    (fitting (goal.at.returns-then-not-fits c).After-fits ∙ c.if-not-fits.true) _ refl
 
 pub returns : goal.returns
 returns c =
     let s = (goal.at.returns c).Start in
-    let opened = c.open-opened in
-    replay_done _ (asked s) (lent s) opened.result opened.ensures c.if-opened-ne0.false _ _ (fits (goal.at.returns c).Else-not-fits) c.run-last.ensures
+    replay_done _ (asked s) (lent s) (opened_of (Ok c.in_ok-opened.opened)) c.in_ok-opened.ensures refl _ _ (fits (goal.at.returns c).Else-not-fits) c.run.ensures
 
-pub run-last-requires : goal.run-last-requires
-run-last-requires c = fits (goal.at.run-last-requires c).Else-not-fits
+pub run-requires : goal.run-requires
+run-requires c = fits (goal.at.run-requires c).Else-not-fits

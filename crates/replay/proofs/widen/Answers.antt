@@ -1,4 +1,4 @@
-use mathlib.Core.Path.{◌≡◌, refl, ap, ◌∙◌}
+use mathlib.Core.Path.{◌≡◌, ap, ◌∙◌}
 use mathlib.Core.List.{List, ◌++◌}
 use Prim.Native.Nat.{ℕ, min}
 use native.Mathlib.Numerals.{add-one}
@@ -11,12 +11,10 @@ use Rattle.replay.proofs.widen.Goals as goal
 pub loop-i-preserved : goal.loop-i-preserved
 loop-i-preserved c =
     let l = c.loop-i in
-    let a = c.args in
-    let n = c.lesser-n.ensures in (
-      omega arith,
-      length-set l.out l.i _ ∙ l.invariant.1,
-      ap (λ (x : ℕ). set l.out l.i x) c.wide.ensures.0
-          ∙ ap (λ (x : List ℕ). set x l.i (get_or a.cells.now l.i 0)) l.invariant.2
+    let a = c.args in (
+      length-set l.out l.i _ ∙ l.invariant.0,
+      ap (λ (x : ℕ). set l.out l.i x) c.from.ensures
+          ∙ ap (λ (x : List ℕ). set x l.i (get_or a.cells.now l.i 0)) l.invariant.1
           ∙ rw add-one (copied_suc a.cells.now a.out.now l.i (omega arith) (omega arith)),
     )
 
@@ -25,11 +23,5 @@ unfolding copied
 returns c =
     let l = c.loop-i in
     let a = c.args in
-    let all : l.i ≡ min (length a.cells.now) (length a.out.now) = omega (arith, c.lesser-n.ensures) in
-    l.invariant.2 ∙ ap (λ (k : ℕ). take k a.cells.now ++ drop k a.out.now) all
-
-pub loop-i-init : goal.loop-i-init
-loop-i-init c = (omega arith, refl, refl)
-
-pub shape_of-out : goal.shape_of-out
-shape_of-out c = c.loop-i.invariant.1
+    let all : l.i ≡ min (length a.cells.now) (length a.out.now) = omega (arith, c.min-i-end.ensures) in
+    l.invariant.1 ∙ ap (λ (k : ℕ). take k a.cells.now ++ drop k a.out.now) all

@@ -1,77 +1,83 @@
 -- `reply::claim` meets its contract.
-use mathlib.Core.Path.{◌≡◌, sym, ap, ◌∙◌}
-use mathlib.Core.Bool.{true}
-use Prim.Native.Nat.{ℕ, ◌+◌}
-use native.Mathlib.Omega.{arith}
-use borrow.Author.Tests.{not-true, not-false}
-use Rattle.bounds.proofs.Refusals.{same_number}
+use Rattle.std.proofs.Common.{◌≡◌, ℕ, ◌+◌, true, sym, ap, ◌∙◌, arith}
+use Rattle.bounds.specs.Reason.{coded}
+use Rattle.bounds.specs.declared.Reason.{Reason}
+use Rattle.bounds.proofs.Reasons.{accepted}
 use Rattle.bounds.proofs.Chains.{Accepts}
 use Rattle.model.specs.declared.Answer.{Answer}
-use Rattle.model.specs.Basics.{first_place}
-use Rattle.model.specs.Entry.{entry, same_order, columns}
+use Rattle.model.specs.Entry.{entry, columns}
 use Rattle.model.specs.Model.{order_checks, refused_with}
-use Rattle.model.specs.Record.{consistent, written}
+use Rattle.model.specs.Printing.{size}
+use Rattle.model.specs.Record.{printing_of, consistent, written}
 use Rattle.model.proofs.Records.{parts, answered_16, answered_by}
 use Rattle.model.proofs.Answers.{claim_none, claim_refused, claim_again, claim_good}
-use Rattle.integrity.proofs.Checks.{found_fits, found_count, found_place}
+use Rattle.integrity.specs.Lines.{stands_at}
+use Rattle.integrity.proofs.Checks.{found_some, found_none}
+use Rattle.integrity.proofs.Passes.{at_some, at_none}
+use Rattle.reply.proofs.Exits.{nothing_for, passed_answer, some_number}
 use Rattle.reply.proofs.claim.Goals as goal
-use Rattle.reply.proofs.claim.Goals.{Else-bad-ne0, Else-not-found, Else-placed-ne0}
+use Rattle.reply.proofs.claim.Goals.{In_ok-found, In_ok-check_order}
 
-fits : (c : Else-not-found) → let a = c.args in consistent a.ledger (columns a.orders.now a.items.now) ≡ true
-fits c = sym (found_fits _ _ _ c.examine_for-found.ensures) ∙ not-false _ c.if-not-found.false
+-- N, and where the order stands
+found : (c : In_ok-found) → let r = c.args.ledger in
+    let col = columns c.args.orders.now c.args.items.now in
+    (consistent r col ≡ true) × (c.in_ok-found.found.count ≡ size (printing_of r))
+    × (c.in_ok-found.found.place ≡ stands_at (entry c.args.order c.args.item) (written r col))
+found c =
+    found_some c.args.ledger (columns c.args.orders.now c.args.items.now) (entry c.args.order c.args.item)
+    (sym c.in_ok-found.ensures.ok_part ∙ c.examine_for.ensures)
 
-pub returns-then-not-found : goal.returns-then-not-found
-returns-then-not-found c =
-    let apart = sym (found_fits _ _ _ c.examine_for-found.ensures) ∙ not-true _ c.if-not-found.true in
-    c.refused.ensures ∙ sym (answered_16 _ _ _ apart)
+pub returns-in_err-found : goal.returns-in_err-found
+returns-in_err-found c =
+    let n = nothing_for c.in_err-found.ensures.value in
+    let apart = found_none _ _ (entry c.args.order c.args.item) (n.0 ∙ c.examine_for.ensures) in
+    passed_answer _ _ c.from_residual.ensures.1
+    ∙ ap (λ (e : Reason). refused_with (coded e).number (coded e).detail) n.1
+    ∙ sym (answered_16 _ _ _ apart)
 
-pub returns-then-bad-ne0 : goal.returns-then-bad-ne0
-returns-then-bad-ne0 c =
-    let checked = sym c.check_order-bad.ensures in
-    c.refused-then-bad-ne0.ensures ∙ sym (answered_by _ _ _ (fits (goal.at.returns-then-bad-ne0 c).Else-not-found) ∙ claim_none _ _ _ _ _ _ c.if-bad-ne0.true checked)
+pub returns-in_err-check_order : goal.returns-in_err-check_order
+returns-in_err-check_order c =
+    let e = c.in_err-check_order.field-0.0 in
+    passed_answer _ _ c.from_residual-in_err-check_order.ensures.1
+    ∙ sym (answered_by _ _ _ (found (goal.at.returns-in_err-check_order c).In_ok-found).0
+    ∙ claim_none _ _ _ _ _ _ (some_number e) (sym c.in_err-check_order.ensures))
 
-pub place-placed-requires : goal.place-placed-requires
-place-placed-requires c =
-    let e = c in (fits (goal.at.place-placed-requires e).Else-not-found, found_count _ _ _ (fits (goal.at.place-placed-requires e).Else-not-found) e.examine_for-found.ensures)
+pub place-requires : goal.place-requires
+place-requires c = let f = found (goal.at.place-requires c).In_ok-found in (f.0, f.1)
 
 -- the order's own checks accept it
-ordered : (c : Else-bad-ne0) → let a = c.args in Accepts (order_checks (entry a.order a.item))
-ordered c = sym (same_number c.check_order-bad.ensures) ∙ c.if-bad-ne0.false
+ordered : (c : In_ok-check_order) → Accepts (order_checks (entry c.args.order c.args.item))
+ordered c = accepted _ c.in_ok-check_order.ensures
 
-pub returns-then-placed-ne0 : goal.returns-then-placed-ne0
-returns-then-placed-ne0 c =
-    let e = c in
-    let p = c.place-placed.ensures in
-    p
-    ∙ sym (answered_by _ _ _ (fits (goal.at.returns-then-placed-ne0 e).Else-not-found)
-    ∙ claim_refused _ _ _ _ (ordered (goal.at.returns-then-placed-ne0 e).Else-bad-ne0) (λ z. c.if-placed-ne0.true (ap (λ (x : Answer). x.number) p ∙ z)))
+pub returns-in_err-line : goal.returns-in_err-line
+returns-in_err-line c =
+    let e = c.in_err-line.field-0.0 in
+    let p = c.in_err-line.ensures in
+    passed_answer _ _ c.from_residual-in_err-line.ensures.1 ∙ p
+    ∙ sym (answered_by _ _ _ (found (goal.at.returns-in_err-line c).In_ok-found).0
+    ∙ claim_refused _ _ _ _ (ordered (goal.at.returns-in_err-line c).In_ok-check_order) (λ z. some_number e (ap (λ (x : Answer). x.number) p ∙ z)))
 
--- where the order stands
-place : (c : Else-placed-ne0)
-    → let e = c in
-    let a = e.args in
-    e.examine_for-found.result.place
-    ≡ first_place (same_order (entry a.order a.item)) (written a.ledger (columns a.orders.now a.items.now))
-place c = let e = c in found_place _ _ _ (fits (goal.at.Else-placed-ne0 e).Else-not-found) e.examine_for-found.ensures
+pub returns-in-Some : goal.returns-in-Some
+returns-in-Some c =
+    let f = found (goal.at.returns-in-Some c).In_ok-found in
+    let at = at_some (entry c.args.order c.args.item) _ (sym c.in-Some.is ∙ f.2) in
+    ap (λ (k : ℕ). refused_with 20 (k + 1)) (sym at.0)
+    ∙ sym (answered_by _ _ _ f.0
+    ∙ claim_again _ _ _ _ (ordered (goal.at.returns-in-Some c).In_ok-check_order) (ap (λ (x : Answer). x.number) (sym c.in_ok-line.ensures))
+    (omega (arith, at.0, at.1)))
 
-pub returns-then-found-ledger : goal.returns-then-found-ledger
-returns-then-found-ledger c =
-    let t = c in
-    let n = t in
-    let e = n in
-    let p = n.place-placed.ensures in
-    let w = (parts _ _ (fits (goal.at.returns-then-found-ledger e).Else-not-found)).length_written in
-    c.refused-then-found-ledger.ensures
-    ∙ ap (λ (k : ℕ). refused_with 20 (k + 1)) (place (goal.at.returns-then-found-ledger n).Else-placed-ne0)
-    ∙ sym (answered_by _ _ _ (fits (goal.at.returns-then-found-ledger e).Else-not-found)
-    ∙ claim_again _ _ _ _ (ordered (goal.at.returns-then-found-ledger e).Else-bad-ne0) (ap (λ (x : Answer). x.number) (sym p) ∙ n.if-placed-ne0.false) (omega (arith, t.if-found-ledger.true, place (goal.at.returns-then-found-ledger n).Else-placed-ne0, w)))
+pub overflow_add-result : goal.overflow_add-result
+overflow_add-result c =
+    let f = found (goal.at.overflow_add-result c).In_ok-found in
+    let at = at_some (entry c.args.order c.args.item) _ (sym c.in-Some.is ∙ f.2) in
+    let q = parts _ _ f.0 in
+    omega (arith, at.1, q.length_written, q.entries, q.small)
 
-pub returns : goal.returns
-returns c =
-    let n = c in
-    let e = n in
-    let p = n.place-placed.ensures in
-    let w = (parts _ _ (fits (goal.at.returns e).Else-not-found)).length_written in
-    p
-    ∙ sym (answered_by _ _ _ (fits (goal.at.returns e).Else-not-found)
-    ∙ claim_good _ _ _ _ (ordered (goal.at.returns e).Else-bad-ne0) (ap (λ (x : Answer). x.number) (sym p) ∙ n.if-placed-ne0.false) (omega (arith, c.if-found-ledger.false, place (goal.at.returns n).Else-placed-ne0, w)))
+pub returns-in-None : goal.returns-in-None
+returns-in-None c =
+    let f = found (goal.at.returns-in-None c).In_ok-found in
+    let none = at_none (entry c.args.order c.args.item) _ (sym c.in-None.is ∙ f.2) in
+    c.in_ok-line.ensures
+    ∙ sym (answered_by _ _ _ f.0
+    ∙ claim_good _ _ _ _ (ordered (goal.at.returns-in-None c).In_ok-check_order) (ap (λ (x : Answer). x.number) (sym c.in_ok-line.ensures))
+    (omega (arith, none)))

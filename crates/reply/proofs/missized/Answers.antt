@@ -1,14 +1,9 @@
 -- `reply::missized` meets its contract.
-use mathlib.Core.Path.{sym, ◌∙◌}
-use Rattle.integrity.proofs.Checks.{seen_fits}
+use Rattle.integrity.proofs.Checks.{seen_some, seen_none}
 use Rattle.reply.proofs.missized.Goals as goal
 
-pub returns-then-seen : goal.returns-then-seen
-returns-then-seen c =
-    let together = sym (seen_fits _ c.examine-seen.ensures) ∙ c.if-seen.true in
-    c.refused.ensures ∙ rw together
+pub returns-in-Some : goal.returns-in-Some
+returns-in-Some c = rw (seen_some _ c.in-Some.ensures).0
 
-pub returns : goal.returns
-returns c =
-    let apart = sym (seen_fits _ c.examine-seen.ensures) ∙ c.if-seen.false in
-    c.refused-2.ensures ∙ rw apart
+pub returns-in-None : goal.returns-in-None
+returns-in-None c = rw (seen_none _ c.in-None.ensures)

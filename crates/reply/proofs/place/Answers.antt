@@ -1,62 +1,59 @@
 -- `reply::place` meets its contract: each way out is a law of the model's proofs/Replies.antt.
-use mathlib.Core.Path.{sym, ap, ◌∙◌}
-use Prim.Native.Nat.{◌≤◌}
-use native.Mathlib.Omega.{arith}
-use lib.ListN.{length}
+use Rattle.std.proofs.Common.{◌≤◌, length, sym, ap, ◌∙◌, arith}
 use Rattle.model.specs.Entry.{columns}
-use Rattle.model.proofs.Records.{Consistent, parts}
 use Rattle.model.specs.Model.{refused_with}
+use Rattle.model.proofs.Records.{Consistent, parts}
 use Rattle.model.proofs.Replies.{serial_low, serial_over, serial_below, serial_above, serial_next}
 use Rattle.reply.proofs.place.Goals as goal
-use Rattle.reply.proofs.place.Goals.{Start, Then-serial-entries}
+use Rattle.reply.proofs.place.Goals.{Start, Then-serial-next, then-serial-eq0-via-then-serial-eq0, then-serial-eq0-via-else-serial-eq0+then-count-serial}
 
 full : (c : Start) → Consistent c.args.ledger (columns c.args.orders.now c.args.items.now)
 full c = parts _ _ c.requires.0
 
 pub returns-then-serial-eq0 : goal.returns-then-serial-eq0
-returns-then-serial-eq0 c = c.refused.ensures ∙ sym (serial_low _ _ c.requires.0 _ (omega (arith, c.if-serial-eq0.true)))
+returns-then-serial-eq0 c =
+    elim c.then-serial-eq0.branch [
+      | then-serial-eq0-via-then-serial-eq0 w ↦ sym (serial_low _ _ c.requires.0 _ (omega (arith, w.if-serial-eq0.true)))
+      | then-serial-eq0-via-else-serial-eq0+then-count-serial w ↦
+          sym (serial_over _ _ c.requires.0 _ (omega (arith, w.if-count-serial.true, c.requires.1)))
+    ]
 
-pub returns-then-count-serial : goal.returns-then-count-serial
-returns-then-count-serial c =
-    let s = c in
-    c.refused-then-count-serial.ensures ∙ sym (serial_over _ _ s.requires.0 _ (omega (arith, c.if-count-serial.true, s.requires.1)))
+pub overflow_add-next : goal.overflow_add-next
+overflow_add-next c =
+    let q = full (goal.at.overflow_add-next c).Start in
+    omega (arith, q.entries, q.small)
 
-within : (c : Then-serial-entries) → let s = c in s.args.serial ≤ length s.args.orders.now
+within : (c : Then-serial-next) → c.args.serial ≤ length c.args.orders.now
 within c =
-    let s = c in
-    omega (arith, c.if-serial-entries.true, (full (goal.at.Then-serial-entries s).Start).entries, (full (goal.at.Then-serial-entries s).Start).fits)
+    let q = full (goal.at.Then-serial-next c).Start in
+    omega (arith, c.if-serial-next.true, q.entries, q.fits)
 
-pub returns-then-serial-entries : goal.returns-then-serial-entries
-returns-then-serial-entries c =
-    let s = c in
-    let t = c in
-    c.refused-then-serial-entries.ensures
-    ∙ ap (refused_with 18) c.wide.ensures
-    ∙ sym (serial_below _ _ s.requires.0 _ (omega (arith, t.if-serial-eq0.false)) (omega (arith, t.if-count-serial.false, s.requires.1))
-    (omega (arith, t.if-serial-entries.true)))
+pub returns-then-serial-next : goal.returns-then-serial-next
+returns-then-serial-next c =
+    ap (refused_with 18) c.from.ensures
+    ∙ sym (serial_below _ _ c.requires.0 _ (omega (arith, c.if-serial-eq0.false)) (omega (arith, c.if-count-serial.false, c.requires.1))
+    (omega (arith, c.if-serial-next.true)))
 
-pub returns-then-entries-serial : goal.returns-then-entries-serial
-returns-then-entries-serial c =
-    let s = c in
-    let inside = c.if-count-serial.false in
-    let above = c.if-entries-serial.true in
-    c.refused-then-entries-serial.ensures ∙ sym (serial_above _ _ s.requires.0 _ (omega (arith, above)) (omega (arith, s.requires.1, inside)) above)
+pub returns-then-next-serial : goal.returns-then-next-serial
+returns-then-next-serial c =
+    let above = c.if-next-serial.true in
+    sym (serial_above _ _ c.requires.0 _ (omega (arith, above)) (omega (arith, c.requires.1, c.if-count-serial.false)) above)
+
+pub next_line-requires : goal.next_line-requires
+next_line-requires c =
+    let q = full (goal.at.next_line-requires c).Start in
+    omega (arith, q.small, c.requires.1, c.if-count-serial.false, c.if-serial-next.false)
 
 pub returns : goal.returns
 returns c =
-    let s = c in
-    let e = c in
-    c.accepted.ensures
-    ∙ sym (serial_next _ _ s.requires.0 _ (omega (arith, e.if-serial-entries.false)) (omega (arith, s.requires.1, e.if-count-serial.false))
-    (omega (arith, e.if-serial-entries.false, e.if-entries-serial.false)))
-
-pub accepted-requires : goal.accepted-requires
-accepted-requires c =
-    let s = c in
-    omega (arith, (full (goal.at.accepted-requires s).Start).small, s.requires.1, c.if-count-serial.false, c.if-serial-entries.false)
+    rw c.next_line.ensures
+    (sym (serial_next _ _ c.requires.0 _ (omega (arith, c.if-serial-next.false)) (omega (arith, c.requires.1, c.if-count-serial.false))
+    (omega (arith, c.if-serial-next.false, c.if-next-serial.false))))
 
 pub offset_bounds-orders-at : goal.offset_bounds-orders-at
-offset_bounds-orders-at c = omega (arith, within (goal.at.offset_bounds-orders-at c).Then-serial-entries)
+offset_bounds-orders-at c =
+    let q = full (goal.at.offset_bounds-orders-at c).Start in
+    omega (arith, c.if-serial-next.true, q.entries, q.small)
 
 pub bounds-orders-at : goal.bounds-orders-at
-bounds-orders-at c = omega (arith, within (goal.at.bounds-orders-at c).Then-serial-entries, c.if-serial-eq0.false)
+bounds-orders-at c = omega (arith, within (goal.at.bounds-orders-at c).Then-serial-next, c.if-serial-eq0.false)

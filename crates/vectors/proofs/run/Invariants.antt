@@ -1,6 +1,6 @@
--- `vectors::run` ends: each command reads on.
-use Rattle.std.proofs.Common.{◌-◌, length}
+-- `vectors::run` ends: each command has a letter.
+use Rattle.std.proofs.Common.{length}
 use Rattle.vectors.proofs.run.Given as goal
 
-abbrev pub decreases-loop-at : goal.decreases-loop-at
-decreases-loop-at l = length l.s - l.at
+abbrev pub decreases-loop-letter : goal.decreases-loop-letter
+decreases-loop-letter l = length l.from.rest.now

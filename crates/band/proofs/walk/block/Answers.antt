@@ -1,5 +1,5 @@
 -- `band::walk::block` meets its contract. The index stands between those of the run's two ends.
-use Rattle.std.proofs.Common.{ℕ, ◌+◌, ◌-◌, ◌<◌, ◌≤◌, length, get_or, ap, arith}
+use Rattle.std.proofs.Common.{ℕ, ◌+◌, ◌-◌, ◌<◌, ◌≤◌, length, arith}
 use Rattle.band.proofs.Runs.{in_run_lem}
 use Rattle.band.proofs.walk.block.Goals as goal
 use Rattle.band.proofs.walk.block.Goals.{After-value}
@@ -26,16 +26,5 @@ overflow_sub-result c = omega (arith, (value_at (goal.at.overflow_sub-result c).
 pub overflow_sub-result-2 : goal.overflow_sub-result-2
 overflow_sub-result-2 c = omega (arith, (value_at (goal.at.overflow_sub-result-2 c).After-value).1, c.requires.0.low)
 
-pub overflow_add-result : goal.overflow_add-result
-overflow_add-result c = omega (arith, (index_at (goal.at.overflow_add-result c).After-value).0)
-
-pub offset_bounds-cells-row : goal.offset_bounds-cells-row
-offset_bounds-cells-row c = omega (arith, (index_at (goal.at.offset_bounds-cells-row c).After-value).0)
-
 pub bounds-cells-row : goal.bounds-cells-row
 bounds-cells-row c = (index_at (goal.at.bounds-cells-row c).After-value).1
-
-pub returns : goal.returns
-returns c =
-    let a = c.args in
-    ap (λ (v : ℕ). get_or a.cells.now (a.row.start + (a.rem - v - a.row.low)) 0) c.value.ensures

@@ -1,4 +1,4 @@
-use Rattle.std.proofs.Common.{◌≡◌, ℕ, suc, ◌+◌, ◌<◌, ◌≤◌, refl, ◌∙◌, lt_trans, arith}
+use Rattle.std.proofs.Common.{◌≡◌, ℕ, suc, ◌+◌, ◌<◌, ◌≤◌, ◌∙◌, lt_trans, arith}
 use Rattle.walsh.specs.Sums.{sum}
 use Rattle.walsh.specs.Order.{least, most, is_odd, part_choices}
 use Rattle.walsh.specs.Rank.{part_index, block_size}
@@ -73,19 +73,13 @@ returns c =
     let l = c.loop-i in
     let a = c.args in
     let n = steps_at (goal.at.returns c).After-index-steps in
-    l.invariant.1 ∙ sum_at (block_size a.upper.now a.k a.rem a.t) l.i (part_index a.upper.now a.k a.rem a.t a.v)
+    l.invariant ∙ sum_at (block_size a.upper.now a.k a.rem a.t) l.i (part_index a.upper.now a.k a.rem a.t a.v)
     (omega arith)
-
-pub run_of-w-requires : goal.run_of-w-requires
-run_of-w-requires c = (c.requires.0.inside, c.requires.0.row.left)
-
-pub loop-i-init : goal.loop-i-init
-loop-i-init c = (omega arith, refl)
 
 pub overflow_add-s : goal.overflow_add-s
 overflow_add-s c =
-    let b = block_at (goal.at.overflow_add-s c).After-block-s in omega (arith, b.0, b.1, b.2, c.loop-i.invariant.1)
+    let b = block_at (goal.at.overflow_add-s c).After-block-s in omega (arith, b.0, b.1, b.2, c.loop-i.invariant)
 
 pub loop-i-preserved : goal.loop-i-preserved
 loop-i-preserved c =
-    let b = block_at (goal.at.loop-i-preserved c).After-block-s in (omega arith, omega (arith, b.0, b.1, c.loop-i.invariant.1))
+    let b = block_at (goal.at.loop-i-preserved c).After-block-s in omega (arith, b.0, b.1, c.loop-i.invariant)

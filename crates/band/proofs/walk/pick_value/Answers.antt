@@ -1,4 +1,4 @@
-use Rattle.std.proofs.Common.{ℕ, suc, ◌+◌, ◌-◌, ◌<◌, ◌≤◌, le_trans, arith, w64, Fits}
+use Rattle.std.proofs.Common.{ℕ, suc, ◌+◌, ◌-◌, ◌<◌, le_trans, arith}
 use Rattle.walsh.specs.Sums.{sum}
 use Rattle.walsh.specs.Order.{part_choices}
 use Rattle.walsh.specs.Rank.{block_size}
@@ -57,14 +57,6 @@ loop-size-init c =
           (first_at (goal.at.loop-size-init s).Start) c.block-size.ensures,
     )
 
-pub overflow_add-i : goal.overflow_add-i
-overflow_add-i c =
-    let k = asks_at (goal.at.overflow_add-i c).After-run_of-w (c.loop-size.i + 1) (next_at (goal.at.overflow_add-i c).In-loop-size) in
-    fits c.run_of-w.result.low k.1 k.0.high k.0.small
-  where
-    fits : {i hi rem : ℕ} (lo : ℕ) → i < suc hi - lo → hi ≤ rem → rem ≤ 255 → Fits w64 i
-    fits lo l h s = omega arith
-
 pub loop-size-preserved : goal.loop-size-preserved
 loop-size-preserved c =
     let s = c in
@@ -91,15 +83,9 @@ returns c =
     (run_picks a.upper.now a.k a.rem a.t w.result w.ensures l.i c.value.result c.value.ensures) l.invariant.1
     (omega arith)
 
-pub run_of-w-requires : goal.run_of-w-requires
-run_of-w-requires c = (c.requires.0.inside, c.requires.0.row.left)
-
 pub block-size-requires : goal.block-size-requires
 block-size-requires c = asks_at (goal.at.block-size-requires c).After-run_of-w 0 (first_at (goal.at.block-size-requires c).Start)
 
 pub block-size-requires-in-loop-size : goal.block-size-requires-in-loop-size
 block-size-requires-in-loop-size c =
     asks_at (goal.at.block-size-requires-in-loop-size c).After-run_of-w (c.loop-size.i + 1) (next_at (goal.at.block-size-requires-in-loop-size c).In-loop-size)
-
-pub loop-size-smaller : goal.loop-size-smaller
-loop-size-smaller c = let n = next_at (goal.at.loop-size-smaller c).In-loop-size in omega arith

@@ -5,6 +5,3 @@ use Rattle.band.proofs.walk.place.Given as goal
 abbrev pub invariant-loop-k : goal.invariant-loop-k
 invariant-loop-k l =
     Placed l.upper l.total l.g l.k l.rem l.t l.s l.row
-
-abbrev pub decreases-loop-k : goal.decreases-loop-k
-decreases-loop-k l = l.k

@@ -1,8 +1,5 @@
 -- `blocks::copies::write` meets its contract. The first j copies are written, and the cells have the next one.
-use mathlib.Core.Path.{◌≡◌}
-use mathlib.Core.List.{List}
-use Prim.Native.Nat.{ℕ, ◌+◌, ◌-◌, ◌*◌, ◌≤◌, ◌<◌}
-use lib.ListN.{length, take}
+use Rattle.std.proofs.Common.{◌≡◌, List, ℕ, ◌+◌, ◌-◌, ◌*◌, ◌≤◌, ◌<◌, length, take}
 use Rattle.walsh.specs.Serial.{serial_of, composition_of}
 use Rattle.step.specs.Batch.{copies_of}
 use Rattle.blocks.specs.Blocks.{Entered}
@@ -14,8 +11,11 @@ from upper total first = serial_of upper total (take (length upper) first)
 
 abbrev pub invariant-loop-j : goal.invariant-loop-j
 invariant-loop-j l =
-    (l.j ≤ l.end) × (length l.out ≡ length l.initial.out) × (length l.cells ≡ 40) × (take (l.j * l.n) l.out ≡ copies_of l.upper l.total (from l.upper l.total l.initial.cells) l.j)
-    × (take l.n l.cells ≡ composition_of l.upper l.total (from l.upper l.total l.initial.cells + l.j)) × (l.j < l.end → Entered l.upper l.total l.width (take l.n l.cells) l.i)
+    let ms = l.fronts.job.upper.now in
+    let r = l.fronts.job.total in
+    (l.j ≤ l.end) × (length l.out ≡ length l.initial.out) × (take (l.j * l.n) l.out ≡ copies_of ms r (from ms r l.initial.cells) l.j)
+    × (take l.n l.cells ≡ composition_of ms r (from ms r l.initial.cells + l.j))
+    × (l.j < l.end → Entered ms r l.fronts.width (take l.n l.cells) l.i)
 
 abbrev pub decreases-loop-j : goal.decreases-loop-j
 decreases-loop-j l = l.end - l.j

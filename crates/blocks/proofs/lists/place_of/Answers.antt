@@ -1,21 +1,25 @@
 -- `blocks::lists::place_of` meets its contract.
-use mathlib.Core.Path.{sym, ap, ◌∙◌}
-use native.Mathlib.Omega.{arith}
-use Rattle.rank.specs.Rank.{Answer, answer_of}
+use Rattle.std.proofs.Common.{◌≡◌, ◌<◌, sym, ap, ◌∙◌, arith}
+use Rattle.walsh.specs.Serial.{serial_of}
+use Rattle.walsh.proofs.Serials.{serial_pos}
+use Rattle.rank.specs.Rank.{Answer}
 use Rattle.rank.proofs.RoundTrips.{rank_accepted}
+use Rattle.blocks.proofs.Listed.{was_ok}
 use Rattle.blocks.proofs.lists.place_of.Goals as goal
+use Rattle.blocks.proofs.lists.place_of.Goals.{In_ok-serial}
 
-pub returns-in-Serial : goal.returns-in-Serial
-returns-in-Serial c =
-    λ l.
-    let rank = c.rank in
+found : (c : In_ok-serial) →
     let a = c.args in
-    let is = ap answer_of (sym c.in-Serial.is) ∙ rank.ensures in
-    let found = rank_accepted a.upper.now a.sum a.parts.now (sym (ap (λ (y : Answer). y.number) is)) in
-    ap (λ (y : Answer). y.serial) is ∙ found.2
+    (0 < c.in_ok-serial.serial) × (c.in_ok-serial.serial ≡ serial_of a.upper.now a.sum a.parts.now)
+found c =
+    let a = c.args in
+    let is = rw (was_ok c.rank.result _ _ c.ok.ensures.value c.in_ok-serial.was) at c.rank.ensures in
+    let known = rank_accepted a.upper.now a.sum a.parts.now (sym (ap (λ (y : Answer). y.number) is)) in
+    let serial = ap (λ (y : Answer). y.serial) is ∙ known.2 in
+    (omega (arith, serial, serial_pos a.upper.now a.sum a.parts.now known.1), serial)
 
-pub overflow_cast-sum : goal.overflow_cast-sum
-overflow_cast-sum c = let p = c.requires in omega (arith, p)
+pub overflow_sub-result : goal.overflow_sub-result
+overflow_sub-result c = (found (goal.at.overflow_sub-result c).In_ok-serial).0
 
-pub returns-in-Refused : goal.returns-in-Refused
-returns-in-Refused c = λ l. absurd (omega arith)
+pub returns : goal.returns
+returns c = omega (arith, found (goal.at.returns c).In_ok-serial)

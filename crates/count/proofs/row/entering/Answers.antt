@@ -15,10 +15,10 @@ fits_at : (c : Then-enters) → let a = c.args in Fits w64 (a.part.m + 1) × (a.
 fits_at c =
     let s = c in
     let p = s.requires in
-    fits_behind s.args.part.row.low _ _ _ (p.5.entering c.if-enters.true) (at_total _ _ _ p.0 _ p.1 p.2) p.0.small
+    fits_behind s.args.part.row.low _ _ _ (p.3.entering c.if-enters.true) (at_total s.args.part _ p.0 p.1) s.args.part.passing.small
 
-low_counts : (c : Start) → let a = c.args in RowCounts a.upper.now a.total a.cells.now a.part.k 0 (a.t - (a.part.m + 1) + 1)
-low_counts c u b l h = c.requires.4 u b l (shorter c.args.t c.args.part.m u h)
+low_counts : (c : Start) → let a = c.args in RowCounts a.part.upper.now a.part.total a.cells.now a.part.k 0 (a.t - (a.part.m + 1) + 1)
+low_counts c u b l h = c.requires.2 u b l (shorter c.args.t c.args.part.m u h)
   where
     shorter : (t m u : ℕ) → u < t - (m + 1) + 1 → u < t + 1
     shorter t m u h = omega arith
@@ -27,7 +27,7 @@ pub cell-requires : goal.cell-requires
 cell-requires c =
     let s = c in
     let p = s.requires in
-    (p.0.small, p.3, entering_in _ _ _ p.0 _ p.1 p.2 (p.5.entering c.if-enters.true), low_counts (goal.at.cell-requires s).Start)
+    (entering_in s.args.part _ p.0 p.1 (p.3.entering c.if-enters.true), low_counts (goal.at.cell-requires s).Start)
 
 pub returns-then-enters : goal.returns-then-enters
 returns-then-enters c = let e = c.cell.ensures in (e.1, λ _. e.0, λ h. absurd (false≢true (sym h ∙ c.if-enters.true)))

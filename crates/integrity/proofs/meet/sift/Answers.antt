@@ -1,43 +1,37 @@
-use Prim.Native.Nat.{◌+◌, ◌≤◌}
-use native.Mathlib.Omega.{arith}
-use Rattle.integrity.proofs.Sifting.{unmarked_lines, marked_fewer}
+use Rattle.std.proofs.Common.{◌≡◌, ℕ, ◌+◌, ◌*◌, ◌-◌, ◌/◌, ◌≤◌, length, subst, arith}
+use Rattle.integrity.specs.Lines.{lines_in}
+use Rattle.integrity.specs.Sift.{Sifted}
+use Rattle.integrity.proofs.Sifting.{unmarked_part, unmarked_lines}
 use Rattle.integrity.proofs.meet.sift.Goals as goal
-use Rattle.integrity.proofs.meet.sift.Goals.{then-marked-ne0, else-marked-ne0}
+use Rattle.integrity.proofs.meet.sift.Goals.{then-marked, else-marked}
 
-pub loop-i-preserved : goal.loop-i-preserved
-loop-i-preserved c =
-    let at = c.loop-i in
-    let start = c in
-    let p = start.requires in
-    let h : at.i + 8 ≤ start.args.to = omega (arith, c.loop-i-test.true) in
-    elim c.if-marked-ne0.branch [
-      | then-marked-ne0 w ↦ rw w.hit-is (w.look-hit.ensures.0, omega (arith, w.look-hit.ensures.1, at.invariant.1), h)
-      | else-marked-ne0 w ↦
-          let over = c.marked.ensures w.if-marked-ne0.false in
-          let s = unmarked_lines _ _ _ _ p.2 p.3 8 at.invariant.0 p.4 at.invariant.1 over (omega (arith, h, p.1)) in
-          rw w.hit-is (s, at.invariant.1, h)
+pub loop-j-init : goal.loop-j-init
+loop-j-init c =
+    let e : c.args.from ≡ c.args.from + 0 = omega arith in
+    (subst (λ (i : ℕ). Sifted (lines_in c.args.lines) (lines_in c.args.bundle) i c.args.start.first c.args.start.place) e c.requires.sifted, omega arith)
+
+pub loop-j-preserved : goal.loop-j-preserved
+loop-j-preserved c =
+    let a = c.args in
+    let s = c.loop-j.invariant in
+    let at = a.from + 8 * c.loop-j.j in
+    let next : at + 8 ≡ a.from + 8 * (c.loop-j.j + 1) = omega arith in
+    let inside : at + 8 ≤ length a.lines.orders.now = omega (arith, c.loop-j-test.true, c.requires.range.0, c.requires.range.1) in
+    elim c.if-marked.branch [
+      | then-marked w ↦ rw w.hit-is (
+        subst (λ (i : ℕ). Sifted (lines_in a.lines) (lines_in a.bundle) i w.look-hit.result.first w.look-hit.result.place) next w.look-hit.ensures.sifted,
+        omega (arith, w.look-hit.ensures.fewer, s.1),
+      )
+      | else-marked w ↦
+          let none = unmarked_part a.marks.now a.lines.orders.now at 8 (omega arith) inside (c.marked.ensures w.if-marked.false) in
+          let over = unmarked_lines a.lines.orders.now a.lines.items.now a.bundle.orders.now a.bundle.items.now a.lines.paired a.bundle.paired 8 s.0
+          c.requires.marked s.1 none inside in
+          rw w.hit-is
+          (subst (λ (i : ℕ). Sifted (lines_in a.lines) (lines_in a.bundle) i c.loop-j.hit.first c.loop-j.hit.place) next over, s.1)
     ]
 
-pub loop-i-init : goal.loop-i-init
-loop-i-init c = let p = c.requires in (p.5, omega arith, p.0)
-
-pub overflow_sub-to : goal.overflow_sub-to
-overflow_sub-to c = c.loop-i.invariant.2
-
-pub marked-requires : goal.marked-requires
-marked-requires c = let p = c.requires in (omega (arith, p.1, c.loop-i-test.true), p.4.all)
-
-pub look-hit-requires : goal.look-hit-requires
-look-hit-requires c =
-    let p = c.requires in
-    let at = c.loop-i in
-    (omega arith, omega (arith, p.1, c.loop-i-test.true), p.2, p.3, marked_fewer p.4 at.invariant.1, at.invariant.0)
-
-pub look-requires : goal.look-requires
-look-requires c =
-    let p = c.requires in
-    let at = c.loop-i in
-    (at.invariant.2, p.1, p.2, p.3, marked_fewer p.4 at.invariant.1, at.invariant.0)
-
-pub returns : goal.returns
-returns c = (c.look.ensures.0, omega (arith, c.look.ensures.1, c.loop-i.invariant.1))
+pub look-requires-clause-sifted : goal.look-requires-clause-sifted
+look-requires-clause-sifted c =
+    let a = c.args in
+    let all : a.from + 8 * c.loop-j.j ≡ a.from + 8 * ((a.to - a.from) / 8) = omega (arith, c.loop-j-test.false, c.loop-j.auto.j-end) in
+    subst (λ (i : ℕ). Sifted (lines_in a.lines) (lines_in a.bundle) i c.loop-j.hit.first c.loop-j.hit.place) all c.loop-j.invariant.0

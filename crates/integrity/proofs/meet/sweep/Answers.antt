@@ -1,96 +1,75 @@
-use mathlib.Core.Path.{◌≡◌, refl, sym, ap, ◌∙◌}
-use mathlib.Core.List.{List}
-use Prim.Native.Nat.{◌+◌, ◌-◌, ◌≤◌}
-use native.Mathlib.Omega.{arith}
-use lib.Dec.{eqb}
-use lib.ListN.{length, take, drop, length-take}
-use lib.Seq.{take_all}
-use borrow.Author.Tests.{eqb-true, eqb-false, not-true, not-false}
-use Rattle.model.specs.Entry.{Entry, is_voided, is_unsound, voided_in, unsound_in, pairs}
-use Rattle.integrity.proofs.Places.{many_block, many_all, many_few, none_more, none_never}
-use Rattle.integrity.proofs.Pairs.{pairs_length, part_lines, part_even}
+use Rattle.std.proofs.Common.{◌≡◌, ◌≤◌, ℕ, ◌+◌, ◌*◌, min, List, length, refl, sym, ap, subst, ◌∙◌, arith}
+use Rattle.model.specs.Entry.{Entry, voided_in}
+use Rattle.integrity.specs.Lines.{lines_in, if_sound}
+use Rattle.integrity.specs.Sift.{Sifted}
 use Rattle.integrity.proofs.Again.{again_only}
-use Rattle.integrity.proofs.Sifting.{sifted_all, marked_fewer}
+use Rattle.integrity.proofs.Pairs.{pairs_length}
+use Rattle.integrity.proofs.Passes.{block_of, sound_made, sound_not, counted_none, counted_few, counted_all, counted_more, counted_fails}
+use Rattle.integrity.proofs.Sifting.{sifted_all}
 use Rattle.integrity.proofs.meet.sweep.Goals as goal
-use Rattle.integrity.proofs.meet.sweep.Goals.{After-block-part, After-lesser, then-not-part, else-not-part}
+use Rattle.integrity.proofs.meet.sweep.Goals.{After-voids}
 
--- a block ends within the lines
-ends : (c : After-lesser)
-    → c.loop-i.i + c.lesser.result ≤ length c.args.lines.now
-ends c = omega (arith, c.lesser.ensures)
+module _ (c : After-voids) where
+  abbrev lines : List Entry
+  lines = lines_in c.args.lines
 
-pub block-part-requires : goal.block-part-requires
-block-part-requires c =
-    let at = c.loop-i in
-    let start = c in
-    let n = at.i + c.lesser.result - at.i in
-    let l = length-take n (drop at.i start.args.lines.now) in
-    (part_even n at.i start.args.lines.now start.args.items.now start.requires.1, omega (arith, l, ends (goal.at.block-part-requires c).After-lesser, start.requires.0))
+  abbrev from : ℕ
+  from = c.loop-k.k * 1024
 
--- the spoilt lines up to a block's end
-zeros_so_far : (c : After-block-part)
-    → let at = c.loop-i in
-    let a = c.args in
-    at.zeros + c.block-part.result.zeros ≡ voided_in (take (at.i + c.lesser.result) (pairs a.lines.now a.items.now))
-zeros_so_far c =
-    let at = c.loop-i in
-    let a = c.args in
-    let to = at.i + c.lesser.result in
-    let part = part_lines (to - at.i) at.i a.lines.now a.items.now in
-    many_block is_voided (pairs a.lines.now a.items.now) at.i to _ _ (omega arith) at.invariant.0
-    (c.block-part.ensures.0 ∙ ap voided_in (sym part))
+  abbrev to : ℕ
+  to = c.min-to.result
 
-few : (c : After-block-part)
-    → let at = c.loop-i in
-    at.zeros + c.block-part.result.zeros ≤ at.i + c.lesser.result
-few c = many_few is_voided _ _ _ (zeros_so_far c)
+  long : length lines ≡ length c.args.lines.orders.now
+  long = pairs_length c.args.lines.orders.now c.args.lines.items.now c.args.lines.paired
+
+  ends : to ≡ min (length lines) (from + 1024)
+  ends = omega (arith, c.min-to.ensures, c.len.ensures, long)
+
+  inside : from ≤ length lines
+  inside = omega (arith, c.blocks-k-end.ensures.some c.loop-k.k (omega arith), long)
+
+  -- what is answered for the block
+  found : c.voids.result ≡ if_sound (block_of lines from to) (voided_in (block_of lines from to))
+  found = c.voids.ensures ∙ ap (λ (l : List Entry). if_sound l (voided_in l)) c.part.ensures.lines
+
+pub loop-k-init : goal.loop-k-init
+loop-k-init c =
+    let e : 0 ≡ min (length c.args.lines.orders.now) (0 * 1024) = omega arith in
+    (counted_none _, subst (λ (i : ℕ). Sifted (lines_in c.args.lines) (lines_in c.args.bundle) i c.args.start.first c.args.start.place) e c.requires.sifted, omega arith)
+
+pub loop-k-preserved : goal.loop-k-preserved
+loop-k-preserved c =
+    let a = (goal.at.loop-k-preserved c).After-voids in
+    let e : to a ≡ min (length c.args.lines.orders.now) ((c.loop-k.k + 1) * 1024) = omega (arith, ends a, long a) in (
+      counted_more (lines a) c.loop-k.invariant.0 refl (ends a) (inside a) (sym c.in_ok-zeros.was ∙ found a),
+      subst (λ (i : ℕ). Sifted (lines a) (lines_in c.args.bundle) i c.sift-hit.result.first c.sift-hit.result.place) e c.sift-hit.ensures.sifted,
+      omega (arith, c.sift-hit.ensures.fewer, c.loop-k.invariant.2),
+    )
 
 pub overflow_add-zeros : goal.overflow_add-zeros
 overflow_add-zeros c =
-    let start = c in
-    omega (arith, few (goal.at.overflow_add-zeros c).After-block-part, ends (goal.at.overflow_add-zeros c).After-lesser, start.requires.0)
+    let a = (goal.at.overflow_add-zeros c).After-voids in
+    let more = counted_more (lines a) c.loop-k.invariant.0 refl (ends a) (inside a) (sym c.in_ok-zeros.was ∙ found a) in
+    omega (arith, counted_few (lines a) more, long a, c.requires.few)
 
-pub loop-i-preserved : goal.loop-i-preserved
-loop-i-preserved c =
-    let at = c.loop-i in
-    let a = c.args in
-    let block = c in
-    let to = at.i + block.lesser.result in
-    let l = pairs a.lines.now a.items.now in
-    let part = ap unsound_in (part_lines (to - at.i) at.i a.lines.now a.items.now) in
-    let ok = block.block-part.ensures.1 in (
-      zeros_so_far (goal.at.loop-i-preserved block).After-block-part,
-      elim c.if-not-part.branch [
-        | then-not-part w ↦ w.sound-is ∙ none_never is_unsound l at.i to (omega arith) (λ z. eqb-false _ _ (sym ok ∙ not-true _ w.if-not-part.true) (sym part ∙ z))
-        | else-not-part w ↦ w.sound-is ∙ none_more is_unsound l at.i to (omega arith) _ at.invariant.1 (part ∙ eqb-true _ _ (sym ok ∙ not-false _ w.if-not-part.false))
-      ],
-      c.sift-hit.ensures.0,
-      marked_fewer at.invariant.3 c.sift-hit.ensures.1,
-      ends (goal.at.loop-i-preserved block).After-lesser,
-    )
+pub sift-hit-requires-clause-sifted : goal.sift-hit-requires-clause-sifted
+sift-hit-requires-clause-sifted c =
+    let a = (goal.at.sift-hit-requires-clause-sifted c).After-voids in
+    let e : min (length c.args.lines.orders.now) (from a) ≡ from a = omega (arith, inside a, long a) in
+    subst (λ (i : ℕ). Sifted (lines a) (lines_in c.args.bundle) i c.loop-k.hit.first c.loop-k.hit.place) e c.loop-k.invariant.1
+
+pub returns-in_err-zeros : goal.returns-in_err-zeros
+returns-in_err-zeros c =
+    let a = (goal.at.returns-in_err-zeros c).After-voids in
+    let fails = counted_fails (lines a) c.loop-k.invariant.0 refl (ends a) (inside a) (sym c.in_err-zeros.was ∙ found a) in
+    c.from_residual.ensures ∙ sound_not (lines a) _ fails
 
 pub returns : goal.returns
 returns c =
-    let at = c.loop-i in
-    let start = c in
-    let a = start.args in
-    let l = pairs a.lines.now a.items.now in
-    let es = pairs a.bundle.now a.itemlines.now in
-    let n = pairs_length a.lines.now a.items.now start.requires.1 in
-    let e : at.i ≡ length l = omega (arith, c.loop-i-test.false, at.invariant.4, n) in
-    let q = again_only l es (sifted_all l es e at.invariant.2) in
-    record {
-      zeros = many_all is_voided l at.i _ (omega (arith, e)) at.invariant.0;
-      sound = at.invariant.1 ∙ ap (λ (m : List Entry). eqb (unsound_in m) 0) (take_all at.i l (omega (arith, e)));
-      first = q.0;
-      place = q.1;
-    }
-
-pub loop-i-init : goal.loop-i-init
-loop-i-init c = let p = c.requires in (refl, refl, p.4, p.3, omega arith)
-
-pub sift-hit-requires : goal.sift-hit-requires
-sift-hit-requires c =
-    let at = c.loop-i in
-    let p = c.requires in
-    (omega arith, ends (goal.at.sift-hit-requires c).After-lesser, p.1, p.2, at.invariant.3, at.invariant.2)
+    let l = lines_in c.args.lines in
+    let es = lines_in c.args.bundle in
+    let n = pairs_length c.args.lines.orders.now c.args.lines.items.now c.args.lines.paired in
+    let h : length l ≤ c.loop-k.k * 1024 = omega (arith, c.blocks-k-end.ensures.all, n, c.loop-k-test.false) in
+    let all = counted_all l c.loop-k.invariant.0 h in
+    let again = again_only l es (sifted_all l es (omega (arith, n, h)) c.loop-k.invariant.1) in
+    sound_made l all.0 (rw (all.1, again.0, again.1))

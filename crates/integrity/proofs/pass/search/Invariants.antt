@@ -1,12 +1,8 @@
--- `integrity::pass::search` meets its contract: it goes through the first `to` lines.
-use Prim.Native.Nat.{◌-◌}
-use lib.ListN.{take}
-use Rattle.model.specs.Entry.{entry, same_order, pairs}
-use Rattle.integrity.proofs.Places.{Seeking}
+-- `integrity::pass::search` meets its contract: none of the first k lines is of the order.
+use Rattle.model.specs.Entry.{entry, same_order}
+use Rattle.integrity.specs.Lines.{lines_in}
+use Rattle.integrity.proofs.Places.{Clear}
 use Rattle.integrity.proofs.pass.search.Given as goal
 
-abbrev pub invariant-loop-i : goal.invariant-loop-i
-invariant-loop-i l = Seeking (same_order (entry l.order l.item)) (take l.to (pairs l.orders l.items)) l.at l.i
-
-abbrev pub decreases-loop-i : goal.decreases-loop-i
-decreases-loop-i l = l.to - l.i
+abbrev pub invariant-loop-k : goal.invariant-loop-k
+invariant-loop-k l = Clear (same_order (entry l.order l.item)) (lines_in l.lines) l.k

@@ -1,82 +1,72 @@
--- `step::batch::batch` meets its contract: the laws of proofs/Batches at each return.
-use mathlib.Core.Path.{◌≡◌, refl, sym, ◌∙◌}
-use native.Mathlib.Omega.{arith}
-use lib.ListN.{length, take}
+-- `step::batch::batch` meets its contract.
+use Rattle.std.proofs.Common.{◌≡◌, refl, ◌∙◌, length, take}
 use Rattle.walsh.specs.Order.{count_of}
 use Rattle.walsh.specs.Serial.{composition_of}
 use Rattle.walsh.proofs.Serials.{composition_is, serial_composition}
 use Rattle.bounds.specs.Edition.{edition_checks}
-use Rattle.bounds.proofs.Editions.{Shapely}
 use Rattle.bounds.proofs.Chains.{Accepts}
 use Rattle.bounds.proofs.Editions.{edition_shapely}
+use Rattle.bounds.proofs.Reasons.{passed_as, accepted}
 use Rattle.rank.proofs.Calls.{nearest_bytes}
-use Rattle.rank.proofs.Locations.{Locates, located_refused, located_accepted}
 use Rattle.step.proofs.Batches.{Ranged, ranged, batch_edition, batch_range, batch_done}
 use Rattle.step.proofs.batch.batch.Goals as goal
-use Rattle.step.proofs.batch.batch.Goals.{Else-answer-gt0, Else-first-gt0}
+use Rattle.step.proofs.batch.batch.Goals.{In_ok-check_room, In_ok-count}
 
-pub returns-then-first-gt0 : goal.returns-then-first-gt0
-returns-then-first-gt0 c =
-    let first = c.locate-first in
-    let some = c.if-first-gt0.true in
-    rw c.refused.ensures (batch_edition _ _ _ _ _ (sym (located_refused _ _ _ first.result first.ensures some)) some)
+pub returns-in_err-count : goal.returns-in_err-count
+returns-in_err-count c =
+    let e = c.in_err-count.field-0.0 in
+    rw (passed_as e _ c.from_residual.ensures.1) (batch_edition _ _ _ _ _ e c.in_err-count.ensures.refusal)
 
 -- an accepted edition
-accepted : (c : Else-first-gt0) →
-    let a = c.args in
-    Accepts (edition_checks a.upper.now a.total) × Locates a.upper.now a.total a.serial c.locate-first.result
-accepted c = let first = c.locate-first in located_accepted _ _ _ first.result first.ensures (omega arith)
+edition_at : (c : In_ok-count) → Accepts (edition_checks c.args.upper.now c.args.total)
+edition_at c = accepted _ c.in_ok-count.ensures.refusal
 
-shape_at : (c : Else-first-gt0) → let a = c.args in Shapely a.upper.now a.total
-shape_at c = edition_shapely _ _ (accepted c).0
-
-pub returns-then-answer-gt0 : goal.returns-then-answer-gt0
-returns-then-answer-gt0 c =
-    let at = accepted (goal.at.returns-then-answer-gt0 c).Else-first-gt0 in
-    batch_range _ _ _ _ _ at.0 at.1.count c.room_refusal-answer.ensures c.if-answer-gt0.true
+pub returns-in_err-check_room : goal.returns-in_err-check_room
+returns-in_err-check_room c =
+    let e = c.in_err-check_room.field-0.0 in
+    rw
+    (passed_as e _ c.from_residual-in_err-check_room.ensures.1)
+    (batch_range _ _ _ _ _ (edition_at (goal.at.returns-in_err-check_room c).In_ok-count) c.in_ok-count.ensures.located.count e c.in_err-check_room.ensures)
 
 -- an accepted range
-range_at : (c : Else-answer-gt0) →
+range_at : (c : In_ok-check_room) →
     let a = c.args in
     Ranged (count_of a.upper.now a.total) (length a.upper.now) a.serial a.copies (length a.out.now)
 range_at c =
     let a = c.args in
-    let room = c.room_refusal-answer in
-    rw (accepted (goal.at.Else-answer-gt0 c).Else-first-gt0).1.count at
-    (ranged _ (length a.upper.now) a.serial a.copies (length a.out.now) room.ensures (omega arith))
+    rw c.in_ok-count.ensures.located.count at
+    (ranged _ (length a.upper.now) a.serial a.copies (length a.out.now) c.in_ok-check_room.ensures refl)
 
 -- the composition that the copies begin with
-first_at : (c : Else-answer-gt0) →
+first_at : (c : In_ok-check_room) →
     let a = c.args in
-    let first = c.locate-first.result in
-    take (length a.upper.now) first.composition ≡ composition_of a.upper.now a.total a.serial
+    take (length a.upper.now) c.in_ok-count.field-0.composition ≡ composition_of a.upper.now a.total a.serial
 first_at c =
     let a = c.args in
     let p = range_at c in
-    nearest_bytes a.upper.now a.total a.serial p.some p.within _ _ refl (accepted (goal.at.Else-answer-gt0 c).Else-first-gt0).1.cells
+    nearest_bytes a.upper.now a.total a.serial p.some p.within _ _ refl c.in_ok-count.ensures.located.cells
 
 pub write-requires : goal.write-requires
 write-requires c =
-    let e = c in
-    let a = e.args in
-    let p = range_at (goal.at.write-requires e).Else-answer-gt0 in
-    let s = shape_at (goal.at.write-requires e).Else-first-gt0 in
+    let a = c.args in
+    let i = (goal.at.write-requires c).In_ok-check_room in
+    let p = range_at i in
+    let s = edition_shapely _ _ (edition_at (goal.at.write-requires c).In_ok-count) in
     let valid = composition_is a.upper.now a.total a.serial p.some p.within in
     let number = serial_composition a.upper.now a.total a.serial p.some p.within in
     record {
       some = s.some;
       few = s.few;
       small = s.small;
-      valid = rw (first_at (goal.at.write-requires e).Else-answer-gt0) valid;
-      within = rw (first_at (goal.at.write-requires e).Else-answer-gt0, number) p.few;
+      valid = rw (first_at i) valid;
+      within = rw (first_at i, number) p.few;
       room = p.room;
     }
 
 pub returns : goal.returns
 returns c =
-    let e = c in
-    let a = e.args in
-    let at = accepted (goal.at.returns e).Else-first-gt0 in
-    let p = range_at (goal.at.returns e).Else-answer-gt0 in
-    batch_done _ _ _ _ _ at.0 at.1.count e.room_refusal-answer.ensures (omega arith)
-    (c.write.ensures ∙ rw (first_at (goal.at.returns e).Else-answer-gt0, serial_composition a.upper.now a.total a.serial p.some p.within))
+    let a = c.args in
+    let i = (goal.at.returns c).In_ok-check_room in
+    let p = range_at i in
+    batch_done _ _ _ _ _ (edition_at (goal.at.returns c).In_ok-count) c.in_ok-count.ensures.located.count c.in_ok-check_room.ensures refl
+    (c.write.ensures ∙ rw (first_at i, serial_composition a.upper.now a.total a.serial p.some p.within))

@@ -8,15 +8,15 @@ use Rattle.step.specs.Stride.{turns_of}
 use Rattle.step.proofs.Ways.{sized_is, any_other, any_few}
 use Rattle.step.proofs.Strides.{turns_none, turns_add, turns_still, strides}
 use Rattle.step.proofs.batch.stride.Goals as goal
-use Rattle.step.proofs.batch.stride.Goals.{Else-not-is_sized}
+use Rattle.step.proofs.batch.stride.Goals.{Else-not-is_sized, then-not-is_sized-via-then-not-is_sized, then-not-is_sized-via-else-not-is_sized+then-upper-lt2}
 
 pub returns-then-not-is_sized : goal.returns-then-not-is_sized
 returns-then-not-is_sized c =
-    let size = c in
-    strides _ _ _ (turns_still _ _ _ (sym (any_other _ _ _ (sym size.is_sized.ensures ∙ c.if-not-is_sized.true))) _)
-
-pub returns-then-upper-lt2 : goal.returns-then-upper-lt2
-returns-then-upper-lt2 c = strides _ _ _ (turns_still _ _ _ (any_few _ _ _ (omega (arith, c.if-upper-lt2.true))) _)
+    elim c.then-not-is_sized.branch [
+      | then-not-is_sized-via-then-not-is_sized w ↦
+          strides _ _ _ (turns_still _ _ _ (sym (any_other _ _ _ (sym c.is_sized.ensures ∙ w.if-not-is_sized.true))) _)
+      | then-not-is_sized-via-else-not-is_sized+then-upper-lt2 w ↦ strides _ _ _ (turns_still _ _ _ (any_few _ _ _ (omega (arith, w.if-upper-lt2.true))) _)
+    ]
 
 sized_at : (c : Else-not-is_sized) →
     let a = c.args in

@@ -48,11 +48,12 @@ two_left c =
 pub overflow_add-low : goal.overflow_add-low
 overflow_add-low c = let s = c in omega (arith, c.next_left-low.ensures.end (omega arith), s.requires.few)
 
-pub write_runs-requires : goal.write_runs-requires
-write_runs-requires c =
-    let found = c in
-    let s = found in
-    (found_front _ _ _ found.next_left-low.ensures found.next_left-high.ensures (two_left (goal.at.write_runs-requires found).After-next_left-high), s.requires)
+pub invariant_of-shape : goal.invariant_of-shape
+invariant_of-shape c =
+    record {
+      few = c.requires.few;
+      in_front = found_front _ _ _ c.next_left-low.ensures c.next_left-high.ensures (two_left (goal.at.invariant_of-shape c).After-next_left-high);
+    }
 
 pub returns : goal.returns
 returns c = c.write_runs.ensures

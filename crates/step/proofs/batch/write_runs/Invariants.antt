@@ -1,6 +1,6 @@
 -- `step::batch::write_runs` meets its contract. The part of `out` up to `at` holds the first j copies, and the run and `parts` show the next one.
 use mathlib.Core.Path.{◌≡◌}
-use Prim.Native.Nat.{◌+◌, ◌-◌, ◌*◌, ◌≤◌, ◌<◌}
+use Prim.Native.Nat.{◌+◌, ◌*◌, ◌<◌}
 use lib.ListN.{length, take}
 use Rattle.walsh.specs.Serial.{composition_of}
 use Rattle.step.specs.Batch.{copies_of}
@@ -14,10 +14,9 @@ abbrev pub from : List ℕ → ℕ → List ℕ → ℕ
 from upper total first = serial_of upper total (take (length upper) first)
 
 abbrev pub invariant-loop-j : goal.invariant-loop-j
-invariant-loop-j l =
-    (l.j ≤ l.copies) × (length l.out ≡ length l.initial.out) × (length l.parts ≡ 24) × (l.at ≡ l.j * l.n) × (take l.at l.out ≡ copies_of l.upper l.total (from l.upper l.total l.initial.parts) l.j)
-    × Running l.upper l.total l.front l.run
-    × (l.j < l.copies → shown l.front l.run (take (length l.upper) l.parts) ≡ composition_of l.upper l.total (from l.upper l.total l.initial.parts + l.j))
-
-abbrev pub decreases-loop-j : goal.decreases-loop-j
-decreases-loop-j l = l.copies - l.j
+invariant-loop-j l = record {
+  long : length l.parts ≡ 24;
+  written : take (l.j * l.n) l.out ≡ copies_of l.shape.upper.now l.shape.total (from l.shape.upper.now l.shape.total l.initial.parts) l.j;
+  running : Running l.shape.upper.now l.shape.total l.shape.front l.run;
+  next : l.j < l.copies → shown l.shape.front l.run (take (length l.shape.upper.now) l.parts) ≡ composition_of l.shape.upper.now l.shape.total (from l.shape.upper.now l.shape.total l.initial.parts + l.j);
+}

@@ -1,31 +1,38 @@
 -- `band::window::table::fill` meets its contract.
-use Rattle.std.proofs.Common.{◌≡◌, ℕ, ◌<◌, ◌∙◌, arith}
-use Rattle.walsh.specs.Order.{count_of}
-use Rattle.walsh.proofs.Cases.{on_less}
-use Rattle.band.specs.Band.{cap, limited}
-use Rattle.band.specs.declared.window.table.Counted.{Counted}
+use Rattle.std.proofs.Common.{◌≡◌, ℕ, ◌<◌, ◌≤◌, List, length, Option, Some, None, MatchOption, ok_or, IfOk, sym, arith}
+use Rattle.walsh.specs.Order.{count, count_of}
+use Rattle.bounds.specs.Edition.{shape_checks, edition_checks}
+use Rattle.bounds.specs.Reason.{told}
+use Rattle.bounds.specs.Refusal.{first_refusal}
+use Rattle.bounds.specs.declared.Reason.TheVariants.{Limit}
 use Rattle.bounds.proofs.Editions.{shapely}
-use Rattle.band.proofs.Answers.{number_stopped}
+use Rattle.bounds.proofs.Answers.{edition_over, edition_none}
+use Rattle.band.specs.Band.{cap, Band}
 use Rattle.band.proofs.window.table.fill.Goals as goal
 
-under : (y : Counted) (x : ℕ) → y ≡ limited x → y.number ≡ 0 → x < cap
-under y x e z =
-    on_less 9223372036854775807 x
-    (λ l t. let five : y.number ≡ 5 = rw (e, t) in absurd (omega arith))
-    (λ l t. omega arith)
+-- a count that stops, as an answer
+module _ (ms : List ℕ) (r : ℕ) (cells : List ℕ) where
+  limited : (o : Option ℕ) → (first_refusal (shape_checks ms r)).number ≡ 0
+      → MatchOption o (cap ≤ count ms (length ms) r) (λ n. (n ≡ count ms (length ms) r) × (n < cap) × Band ms r cells)
+      → told (ok_or o Limit) ≡ first_refusal (edition_checks ms r)
+  unfolding count_of
+  limited None shape over = sym (edition_over ms r shape (omega arith))
+  limited (Some n) shape k = sym (edition_none ms r shape (omega (arith, k.0, k.1)))
 
-pub fill_rows-n-requires : goal.fill_rows-n-requires
-fill_rows-n-requires c =
-    let s = c in
-    let p = shapely s.args.upper.now s.args.total s.requires.0 in
-    (p.few, p.small, p.reached, s.requires.1, s.requires.2)
+  filled : (o : Option ℕ)
+      → MatchOption o (cap ≤ count ms (length ms) r) (λ n. (n ≡ count ms (length ms) r) × (n < cap) × Band ms r cells)
+      → IfOk (ok_or o Limit) (λ n. (n ≡ count_of ms r) × Band ms r cells)
+  unfolding count_of
+  filled None over = tt
+  filled (Some n) k = (k.0, k.2)
 
-pub returns : goal.returns
-unfolding count_of
-returns c =
-    let s = c in
-    let f = c.fill_rows-n in
-    let w = c.within_limit in (
-      w.ensures ∙ number_stopped s.args.upper.now s.args.total f.result s.requires.0 f.ensures.0,
-      λ z. f.ensures.1 (under w.result f.result w.ensures z),
-    )
+pub fill_rows-requires : goal.fill_rows-requires
+fill_rows-requires c =
+    let p = shapely c.args.upper.now c.args.total c.requires.0 in
+    (p.few, p.small, p.reached, c.requires.1, c.requires.2)
+
+pub returns-clause-refusal : goal.returns-clause-refusal
+returns-clause-refusal c = rw c.ok_or.ensures.value (limited _ _ c.fill_rows.new.cells c.fill_rows.result c.requires.0 c.fill_rows.ensures)
+
+pub returns-clause-filled : goal.returns-clause-filled
+returns-clause-filled c = rw c.ok_or.ensures.value (filled _ _ c.fill_rows.new.cells c.fill_rows.result c.fill_rows.ensures)

@@ -1,6 +1,0 @@
--- `bounds::refused` meets its contract.
-use mathlib.Core.Path.{refl}
-use Rattle.bounds.proofs.refused.Goals as goal
-
-pub returns : goal.returns
-returns c = refl

@@ -1,6 +1,0 @@
--- `major::left::all` meets its contract.
-use Rattle.major.proofs.Words.{holds_all}
-use Rattle.major.proofs.left.all.Goals as goal
-
-pub returns : goal.returns
-returns c = holds_all
