@@ -15,6 +15,9 @@ pub mod find;
 mod walk;
 pub mod window;
 
+// One more than the largest N that is accepted: from here on a count is none (specs/Band `cap`).
+pub const CAP: u64 = 9_223_372_036_854_775_808;
+
 // Row k: the cells before it, the sum of the first k bounds, which are those to the left of part k, and of all, and the lowest and the highest sum in
 // the band. A walk keeps `left`: it begins as `all`, and `walk::down` takes one bound off.
 #[derive(Clone, Copy)]

@@ -196,6 +196,7 @@ pub fn shape(upper: &[u8], total: u32) -> Result<usize, Reason>
 }
 
 // Copies the beginning of `from` over the beginning of `out`, as many bytes as both have. (The library's method asks for equal lengths.)
+#[tactic(auto, unfolding(crate::specs::Places::copied))]
 pub fn copy(from: &[u8], out: &mut [u8])
     ensures { out.new ≡ copied from.now out.old }
 {

@@ -91,10 +91,17 @@ pub fn check_record(bounds: Bounds) -> Result<Accepted, Reason>
     check(&upper[..n], bounds.total)
 }
 
-// A product, if it is within the limit.
+// 2^55: a smaller number times 256 is within the limit.
+const SMALL: u64 = 36_028_797_018_963_968;
+
+// A product, if it is within the limit. (Speed: most need no test, and with one at each factor the check of 24 parts took a third longer.)
 fn limited_product(a: u64, b: u64) -> Option<u64>
+    requires { b ≤ 256 }
     ensures { IfSome result (λ p. (p ≡ a * b) × (p ≤ 9223372036854775807)) }
 {
+    if a < SMALL {
+        return Some(a * b);
+    }
     a.checked_mul(b).filter(|p| *p <= LIMIT)
 }
 

@@ -3,6 +3,7 @@ pub mod Cells
 pub mod Places
 pub mod Passes
 pub mod Checks
+pub mod Halves
 pub mod Again
 pub mod Sifting
 pub mod Pairs

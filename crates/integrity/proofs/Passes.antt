@@ -102,6 +102,9 @@ module _ (e : Entry) (l m : List Entry) {o : Option ℕ} (s : o ≡ stands_at e 
 abbrev pub block_of : {A : Type 0} → List A → ℕ → ℕ → List A
 block_of l from to = take (to - from) (drop from l)
 
+pub block_few : {A : Type 0} (l : List A) (from to : ℕ) → length (block_of l from to) ≤ length l
+block_few l from to = omega (arith, length-take (to - from) (drop from l), length-drop from l)
+
 module _ {A : Type 0} (l : List A) (k : ℕ) {from to : ℕ} (ef : from ≡ k * 1024) (et : to ≡ min (length l) (from + 1024)) (h : from ≤ length l) where
   pub next_block : take ((k + 1) * 1024) l ≡ take (k * 1024) l ++ block_of l from to
   next_block =
@@ -146,8 +149,9 @@ module _ (l : List Entry) {k z : ℕ} (c : Counted l k z) where
           sound = omega (arith, c.sound, s.0, many is_unsound);
         }
 
+    pub counted_block : unsound_in (block_of l from to) ≤ unsound_in l
+    counted_block = omega (arith, many is_unsound, many_parts is_unsound l ((k + 1) * 1024))
+
     -- an unsound line in the block
     pub counted_fails : None ≡ if_sound (block_of l from to) (voided_in (block_of l from to)) → unsound_in l ≢ 0
-    counted_fails e z =
-        sound_none (block_of l from to) _ e
-        (omega (arith, many is_unsound, many_parts is_unsound l ((k + 1) * 1024), z))
+    counted_fails e z = sound_none (block_of l from to) _ e (omega (arith, counted_block, z))

@@ -1,6 +1,7 @@
 -- How many entries of a list pass a test, and the first place of one: what the loops of the passes keep.
 use mathlib.Core.Path.{◌≡◌, refl, sym, ap, ◌∙◌}
-use mathlib.Core.Bool.{Bool, true, false}
+use mir.Val.{bool_byte}
+use mathlib.Core.Bool.{Bool, true, false, cond}
 use mathlib.Core.List.{List, [], ◌∷◌, ◌++◌}
 use Prim.Native.Nat.{ℕ, suc, ◌+◌, ◌≤◌, ◌<◌}
 use native.Mathlib.Numerals.{add-one}
@@ -8,15 +9,21 @@ use native.Mathlib.Omega.{arith}
 use lib.Dec.{eqb}
 use lib.ListN.{length, get_or, take, drop, length-take, take-append-drop}
 use lib.Seq.{length-take-le, take-suc, split_at, take_all}
-use Rattle.std.specs.Prelude.{count_by}
-use Rattle.std.proofs.lemmas.List.Recursion.{is_count_by}
-use Rattle.walsh.specs.Tests.{times}
 use Rattle.walsh.proofs.Cases.{on_test}
 use Rattle.walsh.proofs.Tests.{many_append}
 use Rattle.model.specs.Basics.{how_many, first_place}
 
-pub times_counted : (v : ℕ) (l : List ℕ) → count_by (λ x. eqb x v) l ≡ times v l
-times_counted v l = sym (is_count_by (times v) (λ x. eqb x v) refl (λ x xs. on_test (eqb x v) (λ t. rw t (omega arith)) (λ t. rw t (omega arith))) l)
+-- x is v: `times v` counts such
+abbrev pub equals : ℕ → ℕ → Bool
+equals v x = eqb x v
+
+pub byte_most : (b : Bool) → bool_byte b ≤ 1
+byte_most true = omega arith
+byte_most false = omega arith
+
+byte_cond : (b : Bool) → bool_byte b ≡ cond b 1 0
+byte_cond true = refl
+byte_cond false = refl
 
 module _ {A : Type 0} (test : A → Bool) where
   -- ---- counts
@@ -24,6 +31,19 @@ module _ {A : Type 0} (test : A → Bool) where
   pub many_most : (l : List A) → how_many test l ≤ length l
   many_most [] = omega arith
   many_most (x ∷ l) = let h = many_most l in on_test (test x) (λ t. rw t (omega arith)) (λ t. rw t (omega arith))
+
+  many_snoc : (l : List A) (x : A) → how_many test (l ++ (x ∷ [])) ≡ how_many test l + cond (test x) 1 0
+  many_snoc l x = many_append test l (x ∷ []) ∙ omega arith
+
+  -- one entry more, whose test is added as a number
+  pub many_more : (l : List A) (i : ℕ) {n a : ℕ} (d : A) → i < length l → n ≡ how_many test (take i l)
+      → a ≡ bool_byte (test (get_or l i d))
+      → n + a ≡ how_many test (take (i + 1) l)
+  many_more l i d h e f = rw (add-one i, take-suc l i d h, many_snoc (take i l) (get_or l i d), e, f, byte_cond (test (get_or l i d)))
+
+  -- all are counted
+  pub many_all : (l : List A) (i n : ℕ) → length l ≤ i → n ≡ how_many test (take i l) → n ≡ how_many test l
+  many_all l i n h e = e ∙ ap (how_many test) (take_all i l h)
 
   -- the first k, and those behind them
   pub many_parts : (l : List A) (k : ℕ) → how_many test l ≡ how_many test (take k l) + how_many test (drop k l)

@@ -1,21 +1,21 @@
--- Laws of the least and the highest of some item lines.
-use mathlib.Core.Path.{◌≡◌, refl, sym}
+-- Laws of the least and the highest of some item lines, and of an item line beside its order.
+use mathlib.Core.Path.{◌≡◌, refl, sym, ap, ◌∙◌}
 use mathlib.Core.Logic.{◌≢◌}
-use mathlib.Core.Bool.{Bool, true, false, cond, not, false≢true}
-use Rattle.std.specs.Prelude.{◌↔◌, IsTrue}
+use mathlib.Core.Bool.{Bool, true, false, not, beq}
 use mathlib.Core.List.{List, [], ◌∷◌, ◌++◌}
-use Prim.Native.Nat.{ℕ, zero, suc, ◌+◌, ◌≤◌, ◌<◌, min, max}
+use Prim.Native.Nat.{ℕ, ◌+◌, ◌≤◌, ◌<◌, min, max}
 use native.Mathlib.Numerals.{add-one}
 use native.Mathlib.Omega.{arith}
 use lib.Dec.{eqb}
 use lib.ListN.{length, get_or, take}
 use lib.Seq.{take-suc}
-use borrow.Author.Tests.{eq-eqb, ne_eqb, le-ltb}
+use borrow.Author.Tests.{ne_eqb, le-ltb}
 use Rattle.walsh.specs.Tests.{times, both, either}
 use Rattle.walsh.proofs.Cases.{on_test, on_less}
 use Rattle.model.specs.Basics.{how_many}
-use Rattle.model.specs.Entry.{entry, is_unmatched, unsound_in, pairs}
+use Rattle.model.specs.Entry.{void_entry, is_unmatched, unsound_in, pairs}
 use Rattle.integrity.specs.Range.{least_in, most_in}
+use Rattle.integrity.proofs.Pairs.{line_at}
 
 -- ---- one more
 
@@ -68,44 +68,16 @@ all_matched (o ∷ os) (i ∷ is) z n =
     let k = all_matched os is (omega arith) (λ q. n (omega (arith, q))) in
     rw (f, ne_eqb i 0 (λ q. n (omega (arith, q))), k))
 
--- ---- item lines beside orders
+-- ---- an item line beside an order
 
-abbrev Matched : List ℕ → List ℕ → Type 0
-Matched os is = (k : ℕ) → k < length os → eqb (get_or os k 0) 0 ≡ eqb (get_or is k 0) 0
+-- one of two tests holds, and not both
+one_alone : (a b : Bool) → not (beq a b) ≡ either (both b (not a)) (both (not b) a)
+one_alone true true = refl
+one_alone true false = refl
+one_alone false true = refl
+one_alone false false = refl
 
-like : (a b : Bool) → a ≡ b → either (both b (not a)) (both (not b) a) ≡ false
-like true true e = refl
-like true false e = cc
-like false true e = cc
-like false false e = refl
-
-unlike : (a b : Bool) → either (both b (not a)) (both (not b) a) ≡ false → a ≡ b
-unlike true true e = refl
-unlike true false e = cc
-unlike false true e = cc
-unlike false false e = refl
-
-matched_none : (os is : List ℕ) → length is ≡ length os → Matched os is → how_many is_unmatched (pairs os is) ≡ 0
-matched_none [] is e h = refl
-matched_none (o ∷ os) [] e h = refl
-matched_none (o ∷ os) (i ∷ is) e h =
-    rw (like (eqb o 0) (eqb i 0) (h 0 (omega arith)))
-    (omega (arith, matched_none os is (omega arith) (λ k b. h (suc k) (omega (arith, b)))))
-
-none_matched : (os is : List ℕ) → length is ≡ length os → how_many is_unmatched (pairs os is) ≡ 0 → Matched os is
-none_matched [] is e z k h = absurd (omega (arith, h))
-none_matched (o ∷ os) [] e z k h = absurd (omega arith)
-none_matched (o ∷ os) (i ∷ is) e z zero h = unlike (eqb o 0) (eqb i 0) (here (is_unmatched (entry o i)) z)
-  where
-    here : (t : Bool) → cond t 1 0 + how_many is_unmatched (pairs os is) ≡ 0 → t ≡ false
-    here true q = absurd (omega (arith, q))
-    here false q = refl
-none_matched (o ∷ os) (i ∷ is) e z (suc k) h =
-    none_matched os is (omega arith) (omega (arith, z)) k (omega (arith, h))
-
--- a test whether each line matches
-pub matched_lines : (os is : List ℕ) → length is ≡ length os → {r : Bool} → IsTrue r ↔ Matched os is
-    → r ≡ eqb (how_many is_unmatched (pairs os is)) 0
-matched_lines os is e {r = true} h = sym (eq-eqb (how_many is_unmatched (pairs os is)) 0 (matched_none os is e (h.0 refl)))
-matched_lines os is e {r = false} h =
-    sym (ne_eqb (how_many is_unmatched (pairs os is)) 0 (λ z. false≢true (h.1 (none_matched os is e z))))
+-- of line k, as the code tests it
+pub unmatched_line : (os is : List ℕ) → length is ≡ length os → (k : ℕ) → k < length os
+    → not (beq (eqb (get_or os k 0) 0) (eqb (get_or is k 0) 0)) ≡ is_unmatched (get_or (pairs os is) k void_entry)
+unmatched_line os is e k h = one_alone (eqb (get_or os k 0) 0) (eqb (get_or is k 0) 0) ∙ ap is_unmatched (sym (line_at os is e k h))

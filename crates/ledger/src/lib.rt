@@ -97,6 +97,19 @@ fn turned_away(ledger: Ledger, reason: Reason) -> Claimed
     }
 }
 
+// Copies the orders and the item lines of a bundle into entries of the columns, as many. (By hand: the library's method asks C for memmove, which nothing else
+// in the archive does.)
+fn lay(bundle: &[u32], itemlines: &[u8], orders: &mut [u32], items: &mut [u8])
+    requires even { length itemlines.now ≡ length bundle.now }
+    requires room { (length orders.old ≡ length bundle.now) × (length items.old ≡ length bundle.now) }
+    ensures { (orders.new ≡ bundle.now) × (items.new ≡ itemlines.now) }
+{
+    for k in 0..bundle.len() {
+        orders[k] = bundle[k];
+        items[k] = itemlines[k];
+    }
+}
+
 // ---- the calls
 // Record and columns come apart, as the C interface lends them: a record by value, which the answer holds anew, and columns that are written in place.
 
@@ -149,6 +162,7 @@ pub fn void(ledger: Ledger, orders: &mut [u32], items: &mut [u8], serial: u64) -
 
 // document 02, (v): a bundle. Consecutive serials from the one named on, for as many orders, each with its item line; refused, it changes neither the
 // record nor the columns.
+#[tactic(auto, using(model::proofs::Records::calling_refused, reply::proofs::Exits::some_number))]
 pub fn claim_all(
     ledger: Ledger,
     orders: &mut [u32],
@@ -169,8 +183,7 @@ pub fn claim_all(
     let next = following(ledger, lines);
     let at = ledger.entries as usize;
     let end = at + lines;
-    orders[at..end].copy_from_slice(bundle);
-    items[at..end].copy_from_slice(itemlines);
+    lay(bundle, itemlines, &mut orders[at..end], &mut items[at..end]);
     let more = lines as u64;
     counted(ledger, taken, next, more, ledger.sold + more, ledger.voided)
 }

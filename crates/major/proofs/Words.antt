@@ -55,10 +55,10 @@ erased left new place l holds h small before behind =
     go j (yes b) inside = before j b ∙ holds.entries j (omega arith) ∙ sym (erase_before place j l b)
     go j (no b) inside = behind j (omega arith) ∙ holds.entries (suc j) inside ∙ sym (erase_behind place j l (omega arith))
 
-entry_low : (left : Left) (j : ℕ) → j < 12 → entry_at left j ≡ bits_of left.low (5 * j) 5
+pub entry_low : (left : Left) (j : ℕ) → j < 12 → entry_at left j ≡ bits_of left.low (5 * j) 5
 entry_low left j h = rw (lt-ltb j 12 h)
 
-entry_high : (left : Left) (j : ℕ) → 12 ≤ j → entry_at left j ≡ bits_of left.high (4 * (j - 12)) 4 + 13
+pub entry_high : (left : Left) (j : ℕ) → 12 ≤ j → entry_at left j ≡ bits_of left.high (4 * (j - 12)) 4 + 13
 entry_high left j h = rw (le-ltb j 12 h)
 
 -- it is one of the first 12

@@ -75,7 +75,7 @@ values_more {n} {l} x has =
 pub collected_none : Collected 0 0 []
 collected_none = record { values = λ h. values_none; small = λ h. omega arith }
 
-collected_more : {n o : ℕ} {l : List ℕ} (x : ℕ) → Collected n o l → Collected (bit_or n (2 ^ (x % 32))) (bit_or o x) (x ∷ l)
+pub collected_more : {n o : ℕ} {l : List ℕ} (x : ℕ) → Collected n o l → Collected (bit_or n (2 ^ (x % 32))) (bit_or o x) (x ∷ l)
 collected_more {n} {o} {l} x met =
     record {
       values = values;

@@ -1,7 +1,7 @@
 // The checks of the places 'mix given', 'serial given' and 'lent part' (document 01, "Refusals by place of checking"), which several calls have.
 #![tactic(auto, using(std::proofs::lemmas::Bool::Decides::nat_tests), unfolding(bounds::specs::Refusal::first_refusal))]
 
-ghost use Rattle.std.specs.Prelude.{◌≡◌, [], ◌∷◌, ◌*◌, length};
+ghost use Rattle.std.specs.Prelude.{◌≡◌, [], ◌∷◌, ◌*◌, eqb, length};
 ghost use Rattle.bounds.specs.Refusal.{first_refusal};
 ghost use Rattle.bounds.specs.Reason.{told};
 ghost use Rattle.bounds.specs.Places.{is_other, composition_checks, no_serial, lent_checks};
@@ -57,11 +57,24 @@ pub fn check_lent(want: usize, have: usize) -> Result<(), Reason>
     Err(Reason::Room)
 }
 
-// The place 'lent part' of a tray: `copies` of n bytes are to be written, and the part has `have`. A product that does not fit is no length.
+// `have` bytes are as many as the copies have, n bytes each. By division: the product may not fit.
+fn is_room(n: usize, copies: u64, have: usize) -> bool
+    ensures { result ≡ eqb have (copies * n) }
+{
+    if n == 0 {
+        return have == 0;
+    }
+    if have % n != 0 {
+        return false;
+    }
+    (have / n) as u64 == copies
+}
+
+// The place 'lent part' of a tray: `copies` of n bytes are to be written, and the part has `have`.
 pub fn check_copies(n: usize, copies: u64, have: usize) -> Result<(), Reason>
     ensures { told result ≡ first_refusal (lent_checks (copies * n) have) }
 {
-    if copies.checked_mul(n as u64) != Some(have as u64) {
+    if !is_room(n, copies, have) {
         return Err(Reason::Room);
     }
     Ok(())

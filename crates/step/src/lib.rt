@@ -273,13 +273,16 @@ pub fn retreat(upper: &[u8], total: u32, parts: &mut [u8]) -> Transition
     }
 }
 
-// The step over a copy of the parts, in 24 cells, with its pair; 9 where there is none. (Bounds, total and parts apart, as in `turn`.)
+// The step over a copy of the parts, in 24 cells, with its pair; 9 where there is none. (Bounds, total and parts apart, as in `turn`. Inlined, as
+// `checked_step` is.)
+#[inline(always)]
 fn shift(upper: &[u8], total: usize, parts: &[u8]) -> Result<Step, Reason>
     requires { (0 < length upper.now) × (length upper.now ≤ 24) × (length parts.now ≡ length upper.now) × (total ≤ 4294967296) }
     ensures { stepped_of result ≡ shifted_by parts.now (turn_of upper.now total parts.now) }
 {
     let n = upper.len();
-    let mut composition = bounds::pack(parts);
+    let mut composition = [0; 24];
+    bounds::copy(parts, &mut composition);
     let pair = turn(upper, total, &mut composition[..n]);
     if pair.gain == 0 {
         return Err(Reason::NoStep);
@@ -287,7 +290,9 @@ fn shift(upper: &[u8], total: usize, parts: &[u8]) -> Result<Step, Reason>
     Ok(Step { composition, pair })
 }
 
-// The step with its checks, forward or backward. Backward `shift` is given one more than the total.
+// The step with its checks, forward or backward. Backward `shift` is given one more than the total. (Inlined, so that the answer is built where it is
+// handed back: read again from memory, in other widths than it was written, it cost a third of a step.)
+#[inline(always)]
 fn checked_step(upper: &[u8], total: u32, composition: &[u8], back: bool) -> Result<Step, Reason>
     ensures { stepped_of result ≡ step_of back upper.now total composition.now }
 {

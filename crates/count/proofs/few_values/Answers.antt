@@ -58,3 +58,6 @@ loop-k-preserved c =
       few = rw (add-one l.k) next;
       each = within_next a.upper.now a.most l.k _ _ l.invariant.each next p.1;
     }
+
+pub limited_product-requires : goal.limited_product-requires
+limited_product-requires c = (turn_at (goal.at.limited_product-requires c).After-min-factor).some.1

@@ -1,5 +1,4 @@
 -- `ledger::claim_all` meets its contract.
-use Rattle.reply.proofs.Exits.{some_number}
 use mathlib.Core.Path.{◌≡◌, refl, sym, ap, ◌∙◌}
 use mathlib.Core.List.{List, ◌++◌, append_assoc}
 use Prim.Native.Nat.{ℕ, ◌+◌, ◌-◌, ◌≤◌}
@@ -9,15 +8,12 @@ use lib.Seq.{length-take-le, drop-drop, sets, sets-eq}
 use Rattle.model.specs.Entry.{Lent, columns, entries_in, put}
 use Rattle.model.specs.Model.{Call}
 use Rattle.model.proofs.Entries.{room_entries, orders_back, items_back}
-use Rattle.model.proofs.Records.{parts, calling_refused, calling_accepted}
+use Rattle.model.proofs.Records.{parts, calling_accepted}
 use Rattle.model.proofs.Replies.{Writing, writing, entered_next}
 use Rattle.ledger.specs.Counting.{counting}
 use Rattle.ledger.proofs.Counts.{paired, counts_all}
 use Rattle.ledger.proofs.claim_all.Goals as goal
 use Rattle.ledger.proofs.claim_all.Goals.{In-Ok}
-
-pub returns-in-Err : goal.returns-in-Err
-returns-in-Err c = rw c.turned_away.ensures (calling_refused _ _ _ _ c.in-Err.ensures (some_number c.in-Err.failed))
 
 wrote : (c : In-Ok)
     → let a = c.args in
@@ -85,9 +81,8 @@ returns c =
     let e = c in
     let a = e.args in
     let i = inside (goal.at.returns e).In-Ok in
-    let os = laid a.orders.now a.bundle.now _ a.ledger.entries _ refl i.fits c.copy_from_slice.ensures.after in
-    let is = laid a.items.now a.itemlines.now _ a.ledger.entries _ (sym (even (goal.at.returns e).In-Ok)) i.fits_items
-    c.copy_from_slice-2.ensures.after in
+    let os = laid a.orders.now a.bundle.now _ a.ledger.entries _ refl i.fits c.lay.ensures.0 in
+    let is = laid a.items.now a.itemlines.now _ a.ledger.entries _ (sym (even (goal.at.returns e).In-Ok)) i.fits_items c.lay.ensures.1 in
     let more = ap (λ (n : ℕ). counting a.ledger n (a.ledger.sold + n) a.ledger.voided) (sym (long (goal.at.returns e).In-Ok)) in
     rw c.counted.ensures
     (calling_accepted _ _ _ _ e.in-Ok.ensures _ _ refl
@@ -104,13 +99,19 @@ pub overflow_add-ledger : goal.overflow_add-ledger
 overflow_add-ledger c =
     let e = c in omega (arith, (inside (goal.at.overflow_add-ledger e).In-Ok).few, (parts _ _ (wrote (goal.at.overflow_add-ledger e).In-Ok).belongs).few_sold)
 
-pub slice_bounds-copy_from_slice-end : goal.slice_bounds-copy_from_slice-end
-slice_bounds-copy_from_slice-end c = (inside (goal.at.slice_bounds-copy_from_slice-end c).In-Ok).fits
+pub slice_bounds-lay-end : goal.slice_bounds-lay-end
+slice_bounds-lay-end c = (inside (goal.at.slice_bounds-lay-end c).In-Ok).fits
 
-pub slice_bounds-copy_from_slice-end-2 : goal.slice_bounds-copy_from_slice-end-2
-slice_bounds-copy_from_slice-end-2 c = (inside (goal.at.slice_bounds-copy_from_slice-end-2 c).In-Ok).fits_items
+pub slice_bounds-lay-end-2 : goal.slice_bounds-lay-end-2
+slice_bounds-lay-end-2 c = (inside (goal.at.slice_bounds-lay-end-2 c).In-Ok).fits_items
 
-pub copy_from_slice-requires-2 : goal.copy_from_slice-requires-2
-copy_from_slice-requires-2 c =
-    let a = (goal.at.copy_from_slice-requires-2 c).In-Ok in
-    part_size c.args.items.now c.args.ledger.entries (length c.args.bundle.now) (inside a).fits_items ∙ sym (even a)
+pub lay-requires-clause-even : goal.lay-requires-clause-even
+lay-requires-clause-even c = even (goal.at.lay-requires-clause-even c).In-Ok
+
+pub lay-requires-clause-room : goal.lay-requires-clause-room
+lay-requires-clause-room c =
+    let a = (goal.at.lay-requires-clause-room c).In-Ok in
+    let n = length c.args.bundle.now in (
+      part_size c.args.orders.now c.args.ledger.entries n (inside a).fits,
+      part_size c.args.items.now c.args.ledger.entries n (inside a).fits_items,
+    )

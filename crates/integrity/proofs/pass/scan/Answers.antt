@@ -1,57 +1,64 @@
-use Rattle.std.proofs.Common.{◌≡◌, ◌≤◌, ℕ, ◌+◌, ◌*◌, min, List, length, refl, sym, ap, ◌∙◌, arith}
-use Rattle.model.specs.Entry.{Entry, voided_in}
-use Rattle.integrity.specs.Lines.{lines_in, if_sound}
+-- `integrity::pass::scan` meets its contract.
+use Rattle.std.proofs.Common.{◌≡◌, ◌+◌, ◌/◌, Bool, ◌++◌, List, length, refl, sym, ap, ◌∙◌, arith}
+use Rattle.model.specs.Basics.{how_many}
+use Rattle.walsh.proofs.Tests.{many_append}
+use Rattle.model.specs.Entry.{Entry, is_voided, is_unsound}
+use Rattle.integrity.specs.Lines.{lines_in}
 use Rattle.integrity.proofs.Pairs.{pairs_length}
-use Rattle.integrity.proofs.Passes.{block_of, sound_made, sound_not, counted_none, counted_few, counted_all, counted_more, counted_fails}
+use Rattle.integrity.proofs.Places.{many_most}
+use Rattle.integrity.proofs.Passes.{sound_made, sound_some, sound_not, sound_none}
+use Rattle.integrity.proofs.Halves.{halves_joined, halves_unsound}
 use Rattle.integrity.proofs.pass.scan.Goals as goal
-use Rattle.integrity.proofs.pass.scan.Goals.{After-voids}
+use Rattle.integrity.proofs.pass.scan.Goals.{After-part-rest}
 
-module _ (c : After-voids) where
+module _ (c : After-part-rest) where
   abbrev lines : List Entry
   lines = lines_in c.args.lines
 
-  abbrev from : ℕ
-  from = c.loop-k.k * 1024
+  abbrev most : List Entry
+  most = lines_in c.part-low.result ++ lines_in c.part-high.result
 
-  abbrev to : ℕ
-  to = c.min.result
+  abbrev rest : List Entry
+  rest = lines_in c.part-rest.result
 
   long : length lines ≡ length c.args.lines.orders.now
   long = pairs_length c.args.lines.orders.now c.args.lines.items.now c.args.lines.paired
 
-  ends : to ≡ min (length lines) (from + 1024)
-  ends = omega (arith, c.min.ensures, c.len.ensures, long)
+  all : most ++ rest ≡ lines
+  all =
+      let half : c.len-half.result / 2 ≡ length lines / 2 = omega (arith, c.len-half.ensures, long) in
+      let end : c.len.result ≡ length lines = omega (arith, c.len.ensures, long) in
+      (λ i. (c.part-low.ensures.lines i ++ c.part-high.ensures.lines i) ++ c.part-rest.ensures.lines i)
+      ∙ halves_joined lines half refl end
 
-  inside : from ≤ length lines
-  inside = omega (arith, c.blocks-k-end.ensures.some c.loop-k.k (omega arith), long)
-
-  -- what is answered for the block
-  found : c.voids.result ≡ if_sound (block_of lines from to) (voided_in (block_of lines from to))
-  found = c.voids.ensures ∙ ap (λ (l : List Entry). if_sound l (voided_in l)) c.part-block.ensures.lines
-
-pub loop-k-init : goal.loop-k-init
-loop-k-init c = counted_none _
-
-pub loop-k-preserved : goal.loop-k-preserved
-loop-k-preserved c =
-    let a = (goal.at.loop-k-preserved c).After-voids in
-    counted_more (lines a) c.loop-k.invariant refl (ends a) (inside a) (sym c.in_ok-zeros.was ∙ found a)
-
-pub overflow_add-zeros : goal.overflow_add-zeros
-overflow_add-zeros c =
-    let a = (goal.at.overflow_add-zeros c).After-voids in
-    let more = counted_more (lines a) c.loop-k.invariant refl (ends a) (inside a) (sym c.in_ok-zeros.was ∙ found a) in
-    omega (arith, counted_few (lines a) more, long a, c.requires)
-
-pub returns-in_err-zeros : goal.returns-in_err-zeros
-returns-in_err-zeros c =
-    let a = (goal.at.returns-in_err-zeros c).After-voids in
-    let fails = counted_fails (lines a) c.loop-k.invariant refl (ends a) (inside a) (sym c.in_err-zeros.was ∙ found a) in
-    c.from_residual.ensures ∙ sound_not (lines a) _ fails
+  -- so the spoilt and the unsound ones are those of the parts
+  parted : (test : Entry → Bool) → how_many test lines ≡ how_many test most + how_many test rest
+  parted test = ap (how_many test) (sym all) ∙ many_append test most rest
 
 pub returns : goal.returns
 returns c =
+    let a = (goal.at.returns c).After-part-rest in
+    let m = sound_some (most a) (sym c.in_ok-most.was ∙ c.halves.ensures) in
+    let r = sound_some (rest a) (sym c.in_ok-last.was ∙ c.voids.ensures) in
+    sound_made (lines a) (omega (arith, m.0, r.0, parted a is_unsound)) (omega (arith, m.1, r.1, parted a is_voided))
+
+pub overflow_add-result : goal.overflow_add-result
+overflow_add-result c =
+    let a = (goal.at.overflow_add-result c).After-part-rest in
+    let m = sound_some (most a) (sym c.in_ok-most.was ∙ c.halves.ensures) in
+    let r = sound_some (rest a) (sym c.in_ok-last.was ∙ c.voids.ensures) in
+    omega (arith, m.1, r.1, parted a is_voided, many_most is_voided (lines a), long a, c.requires)
+
+pub returns-in_err-last : goal.returns-in_err-last
+returns-in_err-last c =
+    let a = (goal.at.returns-in_err-last c).After-part-rest in
+    let n = sound_none (rest a) _ (sym c.in_err-last.was ∙ c.voids.ensures) in
+    c.from_residual-in_err-last.ensures ∙ sound_not (lines a) _ (λ z. n (omega (arith, z, parted a is_unsound)))
+
+pub returns-in_err-most : goal.returns-in_err-most
+returns-in_err-most c =
     let l = lines_in c.args.lines in
-    let n = pairs_length c.args.lines.orders.now c.args.lines.items.now c.args.lines.paired in
-    let all = counted_all l c.loop-k.invariant (omega (arith, c.blocks-k-end.ensures.all, n, c.loop-k-test.false)) in
-    sound_made l all.0 all.1
+    let n = sound_none (lines_in c.part-low.result ++ lines_in c.part-high.result) _ (sym c.in_err-most.was ∙ c.halves.ensures) in
+    let long = pairs_length c.args.lines.orders.now c.args.lines.items.now c.args.lines.paired in
+    let half : c.len-half.result / 2 ≡ length l / 2 = omega (arith, c.len-half.ensures, long) in
+    c.from_residual.ensures ∙ sound_not l _ (halves_unsound l half refl c.part-low.ensures.lines c.part-high.ensures.lines n)

@@ -1,7 +1,9 @@
--- `integrity::sound::matched` meets its contract: the lines so far match.
-use Rattle.std.proofs.Common.{◌≡◌, ◌<◌, ℕ, eqb, get_or, length}
+-- `integrity::sound::matched` meets its contract: of the first k lines, so many do not match.
+use Rattle.std.proofs.Common.{◌≡◌, ◌≤◌, take}
+use Rattle.model.specs.Basics.{how_many}
+use Rattle.model.specs.Entry.{is_unmatched}
+use Rattle.integrity.specs.Lines.{lines_in}
 use Rattle.integrity.proofs.sound.matched.Given as goal
 
-abbrev pub invariant-loop-order : goal.invariant-loop-order
-invariant-loop-order l =
-    (k : ℕ) → k < length l.yielded → eqb (get_or l.lines.orders.now k 0) 0 ≡ eqb (get_or l.lines.items.now k 0) 0
+abbrev pub invariant-loop-k : goal.invariant-loop-k
+invariant-loop-k l = (l.others ≡ how_many is_unmatched (take l.k (lines_in l.lines))) × (l.others ≤ l.k)

@@ -1,0 +1,7 @@
+-- `integrity::pass::count` meets its contract: the orders so far are counted.
+use Rattle.std.proofs.Common.{◌≡◌, ◌≤◌, take}
+use Rattle.walsh.specs.Tests.{times}
+use Rattle.integrity.proofs.pass.count.Given as goal
+
+abbrev pub invariant-loop-x : goal.invariant-loop-x
+invariant-loop-x l = (l.hits ≡ times l.order (take l.x-index l.orders)) × (l.hits ≤ l.x-index)
