@@ -152,6 +152,16 @@ fn onward(shape: Shape, run: Run, parts: &mut [u8]) -> Run
     run_of(shape, parts)
 }
 
+// Writes 24 cells over the beginning of `out`. (Speed: by `copy`, which asks for the lengths of both, a tray took up to 1.3 times as long.)
+fn store(cells: &[u8], out: &mut [u8])
+    requires { (length cells.now ≡ 24) × (24 ≤ length out.old) }
+    ensures { out.new ≡ copied cells.now out.old }
+{
+    for i in 0..24 {
+        out[i] = cells[i];
+    }
+}
+
 // Copies 24 cells over the beginning of `out`, or as many as it has room for. All 24 at once are two moves in compiled code; the other copy writes
 // the first cell by itself so that the compiler does not make one copy of both, whose length would be no constant.
 fn lay(cells: &[u8], out: &mut [u8])
@@ -160,7 +170,7 @@ fn lay(cells: &[u8], out: &mut [u8])
 {
     let room = out.len();
     if 24 <= room {
-        copy(cells, &mut out[..24]);
+        store(cells, out);
         return;
     }
     copy(&cells[1..room], &mut out[1..]);

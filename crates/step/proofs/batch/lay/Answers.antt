@@ -5,8 +5,7 @@ use Prim.Native.Nat.{ℕ, suc, ◌-◌, ◌≤◌, ◌<◌}
 use native.Mathlib.Nat.{le_refl}
 use native.Mathlib.Omega.{arith}
 use lib.ListN.{length, get_or, set, take, drop, length-take, length-drop, drop_of_length-le}
-use lib.Seq.{length-take-le}
-use Rattle.bounds.proofs.Cells.{copied_same, copied_over, copied_front}
+use Rattle.bounds.proofs.Cells.{copied_same, copied_over}
 use Rattle.step.proofs.batch.lay.Goals as goal
 
 -- the first cell, and behind it as many of the others as there is room for
@@ -19,12 +18,7 @@ laid (x ∷ cells) (y ∷ out) ys some few e =
     ap (λ (l : List ℕ). x ∷ l) (rw (n, drop_of_length-le out (le_refl (length out))) (append-nil ys ∙ rw n at e))
 
 pub returns-then-room-ge24 : goal.returns-then-room-ge24
-returns-then-room-ge24 c =
-    let start = c in
-    let a = start.args in
-    let room = c.if-room-ge24.true in
-    rw (c.copy.ensures ∙ copied_same _ _ (length-take-le 24 a.out.now room ∙ sym start.requires.0))
-    (ap (λ (k : ℕ). a.cells.now ++ drop k a.out.now) (sym start.requires.0) ∙ sym (copied_front _ _ (omega (arith, start.requires.0))))
+returns-then-room-ge24 c = c.store.ensures
 
 -- as many cells as there is room for
 same_at : (cells out : List ℕ) → length cells ≡ 24 → length out < 24
@@ -37,11 +31,8 @@ returns c =
     let short = c.if-room-ge24.false in
     let cells = start.args.cells.now in
     let out = start.args.out.now in
-    let ys : List ℕ = c.copy-2.new.out in
+    let ys : List ℕ = c.copy.new.out in
     let few : length out ≤ length cells = omega (arith, start.requires.0) in
     laid cells out ys start.requires.1 few
-    (c.copy-2.ensures ∙ copied_same _ _ (same_at cells out start.requires.0 (omega arith)))
+    (c.copy.ensures ∙ copied_same _ _ (same_at cells out start.requires.0 (omega arith)))
     ∙ sym (copied_over cells out few)
-
-pub slice_bounds-copy-end-then-room-ge24 : goal.slice_bounds-copy-end-then-room-ge24
-slice_bounds-copy-end-then-room-ge24 c = sym (length-take-le 24 c.args.out.now c.if-room-ge24.true)
